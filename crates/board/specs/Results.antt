@@ -1,6 +1,6 @@
 -- What the calls on a record give, as the header's records have it.
 --   receiving_of t, opening_of t p     what a call says, beside a record that changes where it lies
---   writing_of t                       what the controller's writer says
+--   writing_of t, storing_of t         what the controller's writer says, and storing
 --   received_of r, opened_of p r       the same with the record, by value
 --   changed_of r                       of a call that gives a number and the record
 --   closing_given r                    of closing, which has no reply
@@ -20,6 +20,7 @@ use Rattle.board.specs.declared.results.Received.{Received}
 use Rattle.board.specs.declared.results.Opened.{Opened}
 use Rattle.board.specs.declared.results.PanelChanged.{PanelChanged}
 use Rattle.board.specs.declared.results.PanelSent.{PanelSent}
+use Rattle.stored.specs.Told.{StoreTold}
 use Rattle.board.specs.declared.writer.Written.{Written}
 
 abbrev pub receiving_of : Told → Receiving
@@ -30,6 +31,9 @@ opening_of t p = record { number = t.number; length = t.length; place = p }
 
 abbrev pub writing_of : WriteTold → Written
 writing_of t = record { number = t.number; length = t.length }
+
+abbrev pub storing_of : StoreTold → Written
+storing_of t = record { number = t.number; length = t.length }
 
 abbrev pub received_of : Result Device → Received
 received_of r = record { number = r.number; taken = r.taken; length = length r.reply; device = r.device }

@@ -2,14 +2,13 @@
 ghost use Rattle.std.specs.Prelude.{◌≡◌};
 ghost use Rattle.clock.specs.Second.{connection_second, times};
 
-use record::connection;
 use record::connection::AGE_END;
 use record::types::Connection;
 
 pub fn age(c: &mut Connection, n: u32)
     ensures { c.new ≡ times connection_second n c.old }
 {
-    if !connection::is_timed(c.phase) {
+    if !c.phase().is_timed() {
         return;
     }
     if n == 0 {

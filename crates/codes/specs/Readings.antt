@@ -3,7 +3,7 @@
 --   said_flat m        what is said: kinds 1 to 10, and 12 a freeze (RULES, Class 2)
 --   flat r             what the reply reader gives: kind 11 is ERRA, kind 0 no meaning
 -- Assumes nothing.
-use Rattle.std.specs.Prelude.{ℕ, Bool, false, List, [], map, length, replicate}
+use Rattle.std.specs.Prelude.{ℕ, Bool, false, List, [], map, length, replicate, Option, None, Some}
 use Rattle.std.proofs.lemmas.List.Edits.{sets}
 use Rattle.text.specs.InTurn.{each_in_turn}
 use Rattle.words.specs.Classes.{class_as_number}
@@ -17,23 +17,23 @@ use Rattle.words.specs.declared.lamp.LampHours.{LampHours}
 use Rattle.controller.specs.Greetings.{greeting_number}
 use Rattle.controller.specs.Reading.{ReadAs, Outcome, means_it, erra_said, disallowed, reading_outcome_number}
 use Rattle.controller.specs.declared.greeting.Greeting.{Greeting}
-use Rattle.controller.specs.declared.greeting.Greeting.TheVariants.{Open, Secured, Refused, NotAGreeting}
+use Rattle.controller.specs.declared.greeting.Greeting.TheVariants.{Open, Secured, Refused}
 use Rattle.codes.specs.Commands.{bit, source_number}
 use Rattle.codes.specs.declared.lists.FlatLamps.{FlatLamps}
 use Rattle.codes.specs.declared.readings.FlatGreeting.{FlatGreeting}
 use Rattle.codes.specs.declared.readings.FlatReading.{FlatReading}
 
-abbrev pub greeting_kind : Greeting → ℕ
-greeting_kind Open = 1
-greeting_kind (Secured r) = 2
-greeting_kind Refused = 3
-greeting_kind NotAGreeting = 0
+abbrev pub greeting_kind : Option Greeting → ℕ
+greeting_kind (Some Open) = 1
+greeting_kind (Some (Secured r)) = 2
+greeting_kind (Some Refused) = 3
+greeting_kind None = 0
 
-abbrev pub greeting_random : Greeting → ℕ
-greeting_random (Secured r) = r
+abbrev pub greeting_random : Option Greeting → ℕ
+greeting_random (Some (Secured r)) = r
 greeting_random g = 0
 
-abbrev pub flat_greeting : Greeting → FlatGreeting
+abbrev pub flat_greeting : Option Greeting → FlatGreeting
 flat_greeting g = record { number = greeting_number g; kind = greeting_kind g; random = greeting_random g }
 
 -- the things xs from the start of so much room, blank after them

@@ -77,14 +77,14 @@ fn bit(on: bool) -> u8
 
 impl FlatGreeting {
     /// The greeting by its kind: 1 open, 2 secured with its random number, 3 refused; else the number 10.
-    pub fn of(greeting: Greeting) -> FlatGreeting
+    pub fn of(greeting: Option<Greeting>) -> FlatGreeting
         ensures { result ≡ flat_greeting greeting }
     {
         let (number, kind, random) = match greeting {
-            Greeting::Open => (0, 1, 0),
-            Greeting::Secured(random) => (0, 2, random),
-            Greeting::Refused => (0, 3, 0),
-            Greeting::NotAGreeting => (10, 0, 0),
+            Some(Greeting::Open) => (0, 1, 0),
+            Some(Greeting::Secured(random)) => (0, 2, random),
+            Some(Greeting::Refused) => (0, 3, 0),
+            None => (10, 0, 0),
         };
         FlatGreeting {
             number,

@@ -1,6 +1,7 @@
 -- The writer and the readers, case by case: the equation of each case.
 -- Assumes nothing.
 use Rattle.std.proofs.Common.{ℕ, ◌≤◌, ◌<◌, ◌≡◌, ap, ◌∙◌, Bool, true, false, not, ◌&&◌, ◌||◌, List, [], ◌++◌, length}
+use Rattle.std.specs.Prelude.{Option, None, Some}
 use Rattle.std.proofs.Common.{nat_lt, ltb-true, ltb-false, le-ltb}
 use Rattle.std.proofs.lemmas.Bool.{not-true, not-false}
 use Rattle.text.specs.Scans.{same_by, itself}
@@ -18,7 +19,7 @@ use Rattle.controller.specs.Reading.{ReadAs, without, saying, read_reply}
 use Rattle.controller.specs.Greetings.{greets, random_in, read_greeting}
 use Rattle.controller.specs.Reading.{erra_said, not_a_line, other_command}
 use Rattle.controller.specs.declared.greeting.Greeting.{Greeting}
-use Rattle.controller.specs.declared.greeting.Greeting.TheVariants.{Open, Secured, Refused, NotAGreeting}
+use Rattle.controller.specs.declared.greeting.Greeting.TheVariants.{Open, Secured, Refused}
 
 -- writing: 2, 3, or the line
 module _ (c : Command) (secured : Bool) (random : ℕ) (password : List ℕ) (room : ℕ) where
@@ -100,34 +101,34 @@ module _ (c : Command) (l : List ℕ) where
 
 -- reading a greeting: the open one, the ERRA line, the secured one, or none
 module _ (l : List ℕ) where
-  pub greeting_by : (P : Greeting → Type 0)
-      → (same_by itself l greeting_open ≡ true → P Open)
-      → (same_by itself l erra_line ≡ true → P Refused)
-      → (greets l (random_in l) ≡ true → P (Secured (random_in l)))
-      → P NotAGreeting
+  pub greeting_by : (P : Option Greeting → Type 0)
+      → (same_by itself l greeting_open ≡ true → P (Some Open))
+      → (same_by itself l erra_line ≡ true → P (Some Refused))
+      → (greets l (random_in l) ≡ true → P (Some (Secured (random_in l))))
+      → P None
       → P (read_greeting l)
   unfolding read_greeting
   greeting_by P opens erra secured none =
       if_by P (same_by itself l greeting_open) opens (λ n.
       if_by P (same_by itself l erra_line) erra (λ m. if_by P (greets l (random_in l)) secured (λ k. none)))
 
-  pub greeting_open_lem : same_by itself l greeting_open ≡ true → read_greeting l ≡ Open
+  pub greeting_open_lem : same_by itself l greeting_open ≡ true → read_greeting l ≡ Some Open
   unfolding read_greeting
   greeting_open_lem e = if_yes _ _ e
 
   module _ (closed : same_by itself l greeting_open ≡ false) where
-    pub greeting_refused : same_by itself l erra_line ≡ true → read_greeting l ≡ Refused
+    pub greeting_refused : same_by itself l erra_line ≡ true → read_greeting l ≡ Some Refused
     unfolding read_greeting
     greeting_refused e = if_no _ _ closed ∙ if_yes _ _ e
 
     module _ (line : same_by itself l erra_line ≡ false) where
-      pub greeting_secured_lem : greets l (random_in l) ≡ true → read_greeting l ≡ Secured (random_in l)
+      pub greeting_secured_lem : greets l (random_in l) ≡ true → read_greeting l ≡ Some (Secured (random_in l))
       unfolding read_greeting
       greeting_secured_lem e = if_no _ _ closed ∙ if_no _ _ line ∙ if_yes _ _ e
 
-      pub greeting_none : greets l (random_in l) ≡ false → read_greeting l ≡ NotAGreeting
+      pub greeting_none : greets l (random_in l) ≡ false → read_greeting l ≡ None
       unfolding read_greeting
       greeting_none e = if_no _ _ closed ∙ if_no _ _ line ∙ if_no _ _ e
 
-      pub greeting_not_18 : (length l ≡ 18 → ⊥) → read_greeting l ≡ NotAGreeting
+      pub greeting_not_18 : (length l ≡ 18 → ⊥) → read_greeting l ≡ None
       greeting_not_18 n = greeting_none (long_differs itself l (greeting_secured (hex_digits 8 (random_in l))) n)

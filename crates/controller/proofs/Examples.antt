@@ -1,6 +1,7 @@
 -- Lines written and read, by computing (PJLink 1.04, 4 and 5.1; RULES, Controller).
 -- Assumes nothing.
 use Rattle.std.proofs.Common.{◌≡◌, refl, true, false, [], codes}
+use Rattle.std.specs.Prelude.{None, Some}
 use Rattle.pjlink.specs.Computing.{computing as pjlink}
 use Rattle.pjlink.specs.declared.body.Body.TheVariants.{Powr, Name}
 use Rattle.pjlink.specs.declared.command.Command.TheVariants.{PowerSet, Query}
@@ -12,7 +13,7 @@ use Rattle.controller.specs.Reading.{meaning, without, read_reply}
 use Rattle.controller.specs.Greetings.{read_greeting}
 use Rattle.controller.specs.Computing.{computing}
 use Rattle.controller.specs.Reading.{not_a_line, other_command, disallowed}
-use Rattle.controller.specs.declared.greeting.Greeting.TheVariants.{Secured, NotAGreeting}
+use Rattle.controller.specs.declared.greeting.Greeting.TheVariants.{Secured}
 
 power_on_written : written_command (PowerSet true) false 0 [] 168 ≡ record { number = 0; bytes = codes "%1POWR 1\r" }
 unfolding computing pjlink digest
@@ -43,10 +44,10 @@ unfolding computing pjlink digest
 without_cr = refl
 
 -- the specification's random number
-random_heard : read_greeting (codes "PJLINK 1 498e4a67\r") ≡ Secured 1234061927
+random_heard : read_greeting (codes "PJLINK 1 498e4a67\r") ≡ Some (Secured 1234061927)
 unfolding computing pjlink digest
 random_heard = refl
 
-upper_case_digits : read_greeting (codes "PJLINK 1 498E4A67\r") ≡ NotAGreeting
+upper_case_digits : read_greeting (codes "PJLINK 1 498E4A67\r") ≡ None
 unfolding computing pjlink digest
 upper_case_digits = refl

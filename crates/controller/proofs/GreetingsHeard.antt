@@ -3,6 +3,7 @@
 -- Assumes nothing.
 use Rattle.std.proofs.Common.{ℕ, ◌^◌, ◌≤◌, ◌<◌, ◌≡◌, refl, sym, ap, ◌∙◌, true, List, map-id, arith, length, take, drop}
 use Rattle.std.proofs.Common.{length-take}
+use Rattle.std.specs.Prelude.{None, Some}
 use Rattle.std.proofs.Math.Nat.{pow-le-pow_right}
 use Rattle.text.specs.Scans.{same_by, itself}
 use Rattle.text.proofs.Sameness.{same_is, turned_same}
@@ -10,15 +11,15 @@ use Rattle.digest.specs.Hex.{hex_digits}
 use Rattle.digest.proofs.Laws.{hex_value_back, hex_value_below}
 use Rattle.pjlink.specs.Forms.{erra_line, greeting_open, greeting_secured}
 use Rattle.controller.specs.Greetings.{greets, random_in, read_greeting, Exactly, greeting_number}
-use Rattle.controller.specs.declared.greeting.Greeting.TheVariants.{Open, Secured, Refused, NotAGreeting}
+use Rattle.controller.specs.declared.greeting.Greeting.TheVariants.{Open, Secured, Refused}
 use Rattle.controller.proofs.Cases.{greeting_by, greeting_secured_lem}
 
 -- each line is read for what it is
-pub open_heard : read_greeting greeting_open ≡ Open
+pub open_heard : read_greeting greeting_open ≡ Some Open
 unfolding read_greeting
 open_heard = refl
 
-pub erra_heard : read_greeting erra_line ≡ Refused
+pub erra_heard : read_greeting erra_line ≡ Some Refused
 unfolding read_greeting
 erra_heard = refl
 
@@ -30,10 +31,11 @@ module _ (r : ℕ) (word : r < 2 ^ 32) where
   unfolding random_in
   random_back = hex_value_back 8 r word
 
-  pub secured_heard : read_greeting line ≡ Secured r
+  pub secured_heard : read_greeting line ≡ Some (Secured r)
   secured_heard =
       let same : same_by itself line line ≡ true = turned_same itself line line (map-id line) in
-      greeting_secured_lem line refl refl (ap (greets line) random_back ∙ same) ∙ ap Secured random_back
+      greeting_secured_lem line refl refl (ap (greets line) random_back ∙ same)
+      ∙ ap (λ (n : ℕ). Some (Secured n)) random_back
 
 -- and nothing else is
 pub random_below : (l : List ℕ) → random_in l < 2 ^ 32
@@ -43,7 +45,7 @@ random_below l =
     let few : length digits ≤ 8 = omega (arith, length-take 8 (drop 9 l)) in
     omega (arith, hex_value_below digits, pow-le-pow_right {n = 16} (omega arith) {i = length digits} {j = 8} few)
 
-other_line : (l t : List ℕ) → read_greeting l ≡ NotAGreeting → greeting_number (read_greeting t) ≡ 0 → l ≡ t → ⊥
+other_line : (l t : List ℕ) → read_greeting l ≡ None → greeting_number (read_greeting t) ≡ 0 → l ≡ t → ⊥
 other_line l t none some e =
     let same : ◌≡◌ {A = ℕ} 10 0
     = sym (ap greeting_number none) ∙ ap (λ (k : List ℕ). greeting_number (read_greeting k)) e ∙ some in

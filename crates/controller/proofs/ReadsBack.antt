@@ -1,13 +1,12 @@
 -- What the reader takes from the reply to a command is what it says (RULES, Controller).
 -- Assumes nothing.
-use Rattle.std.specs.List.{list_all}
-use Rattle.std.proofs.Common.{ℕ, ◌≤◌, ◌≡◌, refl, sym, ap, ◌∙◌, true, List, ◌∷◌, ◌++◌, length, codes}
-use Rattle.words.specs.Bytes.{◌at◌, is_alnum, no_cr}
+use Rattle.std.proofs.Common.{ℕ, ◌≤◌, ◌≡◌, refl, ap, ◌∙◌, true, List, length}
+use Rattle.words.specs.Bytes.{no_cr}
 use Rattle.pjlink.specs.Forms.{reply_line}
 use Rattle.pjlink.specs.Commands.{body_text, body_of, command_class, class_digit}
 use Rattle.pjlink.specs.declared.command.Command.{Command}
-use Rattle.pjlink.proofs.Bodies.{four, body_spelt}
-use Rattle.pjlink.proofs.RepliesReadBack.{reply_not_erra, reply_form, reply_parameter_of_line}
+use Rattle.pjlink.proofs.Bodies.{body_letters}
+use Rattle.pjlink.proofs.RepliesReadBack.{ReplyShows, reply_shows, reply_form}
 use Rattle.pjlink.specs.Bodies.{is_body}
 use Rattle.pjlink.proofs.BodiesNamed.{body_named_lem}
 use Rattle.pjlink.specs.Said.{Said, nothing, said_bytes}
@@ -26,33 +25,14 @@ can_mean {m = m} can = refl
 -- the reply to a command, by what it says
 module _ (c : Command) {m : Said} (can : CanSay c m) (short : length (said_bytes m) ≤ 128)
     (plain : no_cr (said_bytes m) ≡ true) where
-  abbrev text : List ℕ
-  text = body_text (body_of c)
+  shows : ReplyShows (class_digit (command_class c)) (body_text (body_of c)) (said_bytes m)
+  shows = reply_shows (body_letters (body_of c)) (class_digit (command_class c)) (said_bytes m) short plain
 
-  abbrev spelled : List ℕ
-  spelled = reply_line (class_digit (command_class c)) (text at 0) (text at 1) (text at 2) (text at 3) (said_bytes m)
-
-  letters : list_all is_alnum (four text) ≡ true
-  letters = ap (list_all is_alnum) (body_spelt (body_of c)).long ∙ (body_spelt (body_of c)).letters
-
-  spelled_read : read_reply c spelled ≡ meaning m
-  spelled_read =
-      reply_said c spelled
-      (reply_not_erra (text at 0) (text at 1) (text at 2) (text at 3) letters (class_digit (command_class c))
-      (said_bytes m))
-      (reply_form (text at 0) (text at 1) (text at 2) (text at 3) letters (command_class c) (said_bytes m) short plain)
-      (ap (λ (s : List ℕ). is_body (command_class c) s (body_of c)) (body_spelt (body_of c)).long
-      ∙ (body_named_lem (body_of c)).own)
-      ∙ ap (λ (p : List ℕ). saying (read_parameter c p))
-      (reply_parameter_of_line (text at 0) (text at 1) (text at 2) (text at 3) letters (class_digit (command_class c))
-      (said_bytes m))
+  pub reply_read : read_reply c (reply_line (class_digit (command_class c)) (body_text (body_of c)) (said_bytes m))
+      ≡ meaning m
+  reply_read =
+      reply_said c _ shows.not_erra (reply_form (body_letters (body_of c)) (command_class c) (said_bytes m) short plain)
+      (ap (λ (s : List ℕ). is_body (command_class c) s (body_of c)) shows.body ∙ (body_named_lem (body_of c)).own)
+      ∙ ap (λ (p : List ℕ). saying (read_parameter c p)) shows.parameter
       ∙ ap saying (parameter-reads-back can)
       ∙ ap {B = ReadAs} (λ (o : Outcome). record { outcome = o; said = m }) (can_mean can)
-
-  pub reply_read : read_reply c (codes "%" ++ (class_digit (command_class c) ∷ text) ++ codes "=" ++ said_bytes m
-      ++ codes "\r") ≡ meaning m
-  reply_read =
-      ap (λ (s : List ℕ). read_reply c (codes "%" ++ (class_digit (command_class c) ∷ s) ++ codes "=" ++ said_bytes m
-      ++ codes "\r"))
-      (sym (body_spelt (body_of c)).long)
-      ∙ spelled_read

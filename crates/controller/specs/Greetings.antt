@@ -1,16 +1,16 @@
 -- Reading a greeting (RULES, Controller): the two greetings and the ERRA line, each with its CR and nothing more.
 --   random_in l         the number in the place of the random number
 --   greets l r          the line l is the greeting with the random number r, in its eight digits
---   read_greeting l     what the line l is
+--   read_greeting l     what the line l is, if it is one of them
 --   Exactly l g         the line l is the line of g; a line that is no greeting is none of them
 --   greeting_number g   the number of this in the table of numbers
 -- Assumes nothing.
-use Rattle.std.specs.Prelude.{ℕ, ◌^◌, ◌<◌, ◌≡◌, Bool, List, take, drop, if◌then◌else◌}
+use Rattle.std.specs.Prelude.{ℕ, ◌^◌, ◌<◌, ◌≡◌, Bool, List, take, drop, if◌then◌else◌, Option, None, Some}
 use Rattle.text.specs.Scans.{same_by, itself}
 use Rattle.digest.specs.Hex.{hex_digits, hex_value}
 use Rattle.pjlink.specs.Forms.{erra_line, greeting_open, greeting_secured}
 use Rattle.controller.specs.declared.greeting.Greeting.{Greeting}
-use Rattle.controller.specs.declared.greeting.Greeting.TheVariants.{Open, Secured, Refused, NotAGreeting}
+use Rattle.controller.specs.declared.greeting.Greeting.TheVariants.{Open, Secured, Refused}
 
 -- after `PJLINK 1 `
 unfoldable pub random_in : List ℕ → ℕ
@@ -20,20 +20,20 @@ abbrev pub greets : List ℕ → ℕ → Bool
 greets l r = same_by itself l (greeting_secured (hex_digits 8 r))
 
 -- the digits of the number read are compared with the line's, so that no other digits pass for it
-unfoldable pub read_greeting : List ℕ → Greeting
+unfoldable pub read_greeting : List ℕ → Option Greeting
 read_greeting l =
-    if same_by itself l greeting_open then Open
-    else if same_by itself l erra_line then Refused
-    else if greets l (random_in l) then Secured (random_in l)
-    else NotAGreeting
+    if same_by itself l greeting_open then Some Open
+    else if same_by itself l erra_line then Some Refused
+    else if greets l (random_in l) then Some (Secured (random_in l))
+    else None
 
-abbrev pub Exactly : List ℕ → Greeting → Type 0
-Exactly l Open = l ≡ greeting_open
-Exactly l (Secured r) = (r < 2 ^ 32) × (l ≡ greeting_secured (hex_digits 8 r))
-Exactly l Refused = l ≡ erra_line
-Exactly l NotAGreeting = (l ≡ greeting_open → ⊥) × ((l ≡ erra_line → ⊥)
+abbrev pub Exactly : List ℕ → Option Greeting → Type 0
+Exactly l (Some Open) = l ≡ greeting_open
+Exactly l (Some (Secured r)) = (r < 2 ^ 32) × (l ≡ greeting_secured (hex_digits 8 r))
+Exactly l (Some Refused) = l ≡ erra_line
+Exactly l None = (l ≡ greeting_open → ⊥) × ((l ≡ erra_line → ⊥)
     × ((r : ℕ) → r < 2 ^ 32 → l ≡ greeting_secured (hex_digits 8 r) → ⊥))
 
-abbrev pub greeting_number : Greeting → ℕ
-greeting_number NotAGreeting = 10
-greeting_number g = 0
+abbrev pub greeting_number : Option Greeting → ℕ
+greeting_number None = 10
+greeting_number (Some g) = 0

@@ -8,7 +8,7 @@
 --   Then w g ms n es stream d    so they do after the events es
 -- Assumes nothing.
 use Rattle.std.proofs.Common.{ℕ, ◌+◌, ◌<◌, ◌≡◌, refl, sym, ap, subst, ◌∙◌, Bool, true, false, ◌&&◌, List, arith, length}
-use Rattle.std.proofs.Common.{slice_index_or, set, length-set, get_or-set_same, get_or-set_other, ◌==◌, eqb-true, zero}
+use Rattle.std.proofs.Common.{slice_index_or, set, length-set, get_or-set_same, get_or-set_other, eqb-true, zero}
 use Rattle.std.proofs.Common.{suc, [], ◌∷◌, ◌++◌, add-zero, zero-add, add_assoc, replicate}
 use Rattle.std.proofs.lemmas.Bool.{eqb-false}
 use Rattle.std.specs.Prelude.{if◌then◌else◌}
@@ -25,7 +25,7 @@ use Rattle.record.specs.declared.types.Connection.{Connection}
 use Rattle.record.specs.declared.types.Device.{Device}
 use Rattle.record.proofs.ConnectionTold.{closed_holds_none}
 use Rattle.record.proofs.PowerSeen.{seen_again}
-use Rattle.record.specs.Views.{power_of as seen, power_number, power_left}
+use Rattle.record.specs.Views.{power_number, power_left}
 use Rattle.record.specs.declared.views.Power.{Power}
 use Rattle.record.specs.declared.views.Power.TheVariants.{Off, WarmUp, On, Cooling}
 use Rattle.clock.specs.Second.{power_second, times, own_second, second}
@@ -75,38 +75,21 @@ pub record Agrees (w : Wanted) (g : Stage) (ms : List Bool) (n : ℕ → ℕ) (s
   pub last : (q : ℕ) → Ends (stream q) (line_text (connection_at d q).line)
 
 pub lit_shown : (g : Stage) → is_lit (power_of g) ≡ stage_is_burning g
-lit_shown (steady true) = refl
-lit_shown (steady false) = refl
-lit_shown (towards true n) = refl
-lit_shown (towards false n) = refl
+lit_shown g = grind arith
 
 -- ---- one second
 
 power_second-seen_in : (w : Wanted) (g : Stage) → power_second (seen_in g) ≡ seen_in (next w g a_second)
-power_second-seen_in w (steady true) = refl
-power_second-seen_in w (steady false) = refl
-power_second-seen_in w (towards true n) = grind arith
-power_second-seen_in w (towards false n) = grind arith
+power_second-seen_in w g = grind arith
 
 power_second_lem : (w : Wanted) (s : Settings) (o : Own) (g : Stage) → o.power ≡ power_of g → o.left ≡ left_of g
     → Shows (next w g a_second) (times (own_second s) 1 o)
-power_second_lem w s o g p l =
-    let after : power_second (seen o.power o.left) ≡ seen_in (next w g a_second)
-    = (λ i. power_second (seen (p i) (l i))) ∙ ap power_second (seen_again (seen_in g)) ∙ power_second-seen_in w g in
-    record {
-      power = power_in_a_second s o ∙ ap power_number after;
-      left = left_in_a_second s o ∙ ap power_left after;
-    }
+power_second_lem w s o g p l = grind (arith, seen_again, power_second-seen_in, power_in_a_second, left_in_a_second)
 
 lamp_second : (g : Stage) (mark : Bool) (n x : ℕ)
     → lamp_after 1 (is_lit (power_of g) && mark) (lamp_with n x)
     ≡ lamp_with (n + (if stage_is_burning g && mark then 1 else 0)) x
-lamp_second (steady true) true n x = omega arith
-lamp_second (steady true) false n x = omega arith
-lamp_second (steady false) mark n x = omega arith
-lamp_second (towards true k) true n x = omega arith
-lamp_second (towards true k) false n x = omega arith
-lamp_second (towards false k) mark n x = omega arith
+lamp_second g mark n x = grind arith
 
 module _ {w : Wanted} {g : Stage} {ms : List Bool} {n : ℕ → ℕ} {stream : Streams} {d : Device}
     (a : Agrees w g ms n stream d) (legal : is_legal d ≡ true) where
@@ -141,54 +124,16 @@ module _ {w : Wanted} {g : Stage} {ms : List Bool} {n : ℕ → ℕ} {stream : S
   pub agrees_at : (h : Stage) (now : Streams) (e : Device) → e.settings ≡ d.settings → e.own.power ≡ power_of h
       → e.own.left ≡ left_of h → e.own.lamps ≡ d.own.lamps → e.own.enabled ≡ d.own.enabled
       → ((q : ℕ) → Ends (now q) (line_text (connection_at e q).line)) → Agrees w h ms n now e
-  agrees_at h now e s p l m same last = record {
-    settings = s ∙ a.settings;
-    power = p;
-    left = l;
-    lamps = λ place inside. ap (λ (x : List ℕ). slice_index_or x place 0) m ∙ a.lamps place inside;
-    marks_long = a.marks_long;
-    marks = λ place inside. ap (λ (x : List Bool). slice_index_or x place false) same ∙ a.marks place inside;
-    last = last;
-  }
+  agrees_at h now e s p l m same last = grind arith
 
   -- the counts by other names
   pub recounted : {m : ℕ → ℕ} → ((k : ℕ) → n k ≡ m k) → Agrees w g ms m stream d
-  recounted e = record {
-    settings = a.settings;
-    power = a.power;
-    left = a.left;
-    lamps = λ place inside. a.lamps place inside
-        ∙ ap (λ (c : ℕ). lamp_with c (slice_index_or w.lamps place 0)) (e place);
-    marks_long = a.marks_long;
-    marks = a.marks;
-    last = a.last;
-  }
+  recounted e = grind arith
 
   -- a mark replaced, here and there
   pub remarked : (lamp : ℕ) (mark : Bool) → lamp < length w.lamps → lamp < length d.own.enabled
       → Agrees w g (set ms lamp mark) n stream (with_own d (with_marks d.own (set d.own.enabled lamp mark)))
-  remarked lamp mark there room = record {
-    settings = a.settings;
-    power = a.power;
-    left = a.left;
-    lamps = a.lamps;
-    marks_long = length-set ms lamp mark ∙ a.marks_long;
-    marks = λ place inside. by_place place inside (place == lamp) refl;
-    last = a.last;
-  }
-    where
-      by_place : (place : ℕ) → place < length w.lamps → (t : Bool) → (place == lamp) ≡ t
-          → slice_index_or (set d.own.enabled lamp mark) place false ≡ slice_index_or (set ms lamp mark) place false
-      by_place place inside true e =
-          let same = eqb-true place lamp e in
-          rw same
-          (get_or-set_same d.own.enabled lamp mark false room
-          ∙ sym (get_or-set_same ms lamp mark false (omega (arith, a.marks_long))))
-      by_place place inside false e =
-          let other = eqb-false place lamp e in
-          get_or-set_other d.own.enabled lamp place mark false other
-          ∙ a.marks place inside
-          ∙ sym (get_or-set_other ms lamp place mark false other)
+  remarked lamp mark there room = grind (arith, length-set, eqb-true, get_or-set_same, eqb-false, get_or-set_other)
 
 pub reached-append : (w : Wanted) (g : Stage) (es fs : List Event)
     → reached w g (es ++ fs) ≡ reached w (reached w g es) fs
@@ -204,8 +149,7 @@ pub burning_from-append : (w : Wanted) (g : Stage) (ms : List Bool) (k : ℕ) (e
     → burning_from w g ms k (es ++ fs)
     ≡ burning_from w g ms k es + burning_from w (reached w g es) (marks_after ms es) k fs
 burning_from-append w g ms k [] fs = rw zero-add
-burning_from-append w g ms k (e ∷ es) fs =
-    rw (burning_from-append w (next w g e) (marks_next ms e) k es fs) (omega arith)
+burning_from-append w g ms k (e ∷ es) fs = grind (arith, burning_from-append w (next w g e) (marks_next ms e) k es fs)
 
 abbrev pub Then : Wanted → Stage → List Bool → (ℕ → ℕ) → List Event → Streams → Device → Type 0
 Then w g ms n es stream d =

@@ -1,12 +1,9 @@
 -- Settings survive a board swap (RULES, Stored form): it holds of our board.
 -- Assumes nothing.
-use Rattle.std.specs.List.{list_all}
 use Rattle.std.proofs.Common.{ℕ, ◌+◌, ◌<◌, ◌≡◌, refl, sym, ap, subst, ◌∙◌, Bool, true, false, List, [], ◌∷◌, arith}
-use Rattle.std.proofs.Common.{length, slice_index_or, get_or-take, length-take-le, ext_get_or, leb-true, eq-eqb, ne_eqb}
+use Rattle.std.proofs.Common.{length, slice_index_or, get_or-take, length-take-le, ext_get_or}
 use Rattle.words.specs.Bytes.{◌at◌}
-use Rattle.text.proofs.Scanning.{list_all_at}
 use Rattle.record.specs.Wanted.{Wanted}
-use Rattle.record.specs.Rules.{at_most}
 use Rattle.record.specs.Legal.{is_legal}
 use Rattle.record.specs.Given.{Given, accepted}
 use Rattle.record.specs.declared.types.Settings.{Settings}
@@ -16,25 +13,22 @@ use Rattle.record.proofs.MarksTold.{marks_long}
 use Rattle.record.proofs.Started.{started_parts}
 use Rattle.stored.specs.Form.{form_version, marked_form_of, stored_of, marks_stored, stored_form, stored_by}
 use Rattle.stored.proofs.StoringTold.{stored_told}
-use Rattle.stored.specs.Loading.{settings_in, started_with, loaded}
+use Rattle.stored.specs.Loading.{started_with, loaded}
 use Rattle.stored.proofs.Results.{accepted_set_up, older_is_class_1}
 use Rattle.stored.proofs.StoredLoads.{stored_in_range, stored_loads as form-again}
 use Rattle.stored.proofs.FormsLoad.{marked_form_loads, marked_form_marks, old_form_loads}
-use Rattle.stored.proofs.BytesAgain.{Bytes}
+use Rattle.stored.proofs.Fields.{bytes_all}
 use Rattle.stored.proofs.OneForm.{stored_again, forms_apart}
 use Rattle.ours.specs.Board.{ours, bytes_written}
 use Rattle.demands.specs.Calls.{Call, run}
-use Rattle.demands.specs.History.{Event, switched, a_second, mark_switched, Stage, steady, towards, next, marks_next}
-use Rattle.demands.specs.History.{no_streams, history, marks_after, burns, burning_from, burning, stage_after}
+use Rattle.demands.specs.History.{Event, Stage, steady, next, marks_next}
+use Rattle.demands.specs.History.{no_streams, history, marks_after, burning_from, burning, stage_after}
 use Rattle.demands.specs.History.{lamp_with}
 use Rattle.demands.specs.CountsSeconds.{Beginning, loads, IsClass1, start_marks, IsAccepted, run_of, history_of}
 use Rattle.demands.specs.BoardSwap.{LoadsAs, BoardSwap}
 use Rattle.demands.proofs.KeepsRunning.{over_front}
 use Rattle.demands.proofs.Agrees.{Agrees}
 use Rattle.demands.proofs.HistoryTold.{history_told}
-
-bytes_kept : (s : List ℕ) → list_all (at_most 255) s ≡ true → Bytes s
-bytes_kept s h i inside = omega (arith, leb-true (slice_index_or s i 0) 255 (list_all_at (at_most 255) s 0 h i inside))
 
 -- burnt on the one board, then on the other
 lamp_goes_on : (m n start : ℕ) → lamp_with n (lamp_with m start) ≡ lamp_with (m + n) start
@@ -43,22 +37,12 @@ lamp_goes_on m n start = omega arith
 -- of the settings, a history's clock knows W and C alone
 module _ (v w : Wanted) (warm : v.warm ≡ w.warm) (cool : v.cool ≡ w.cool) where
   next_alike : (g : Stage) (e : Event) → next v g e ≡ next w g e
-  next_alike (steady false) (switched true) = ap (towards true) warm
-  next_alike (steady true) (switched false) = ap (towards false) cool
-  next_alike (steady true) (switched true) = refl
-  next_alike (steady false) (switched false) = refl
-  next_alike (towards on n) (switched wanted) = refl
-  next_alike (steady on) a_second = refl
-  next_alike (towards on n) a_second = refl
-  next_alike (steady on) (mark_switched lamp mark) = refl
-  next_alike (towards on n) (mark_switched lamp mark) = refl
+  next_alike g e = grind arith
 
   burning_alike : (g : Stage) (ms : List Bool) (k : ℕ) (es : List Event) → burning_from v g ms k es
       ≡ burning_from w g ms k es
   burning_alike g ms k [] = refl
-  burning_alike g ms k (e ∷ es) =
-      ap (λ (h : Stage). burns g ms k e + burning_from v h (marks_next ms e) k es) (next_alike g e)
-      ∙ ap (λ (n : ℕ). burns g ms k e + n) (burning_alike (next w g e) (marks_next ms e) k es)
+  burning_alike g ms k (e ∷ es) = grind (arith, burning_alike (next w g e) (marks_next ms e) k es)
 
 module _ (d : Device) (m : List ℕ) (h : (stored_by d (length m)).number ≡ 0) where
   form_stored : bytes_written (ours.store d m) ≡ stored_form d
@@ -68,9 +52,7 @@ module _ (d : Device) (m : List ℕ) (h : (stored_by d (length m)).number ≡ 0)
   loads_again = form-again d (stored_told d (length m) h).legal
 
   stored_loads : LoadsAs ours (bytes_written (ours.store d m)) (stored_of d) (marks_stored d)
-  stored_loads =
-      let same = ap loaded form_stored ∙ loads_again in
-      record { accepted = ap (λ (r : Given Device). r.number) same; fresh = ap (λ (r : Given Device). r.device) same }
+  stored_loads = grind (arith, form_stored, loads_again)
 
 module _ (b : Beginning) (w : Wanted) (cs es : List Call) (m : List ℕ) (place : ℕ) (h : IsAccepted ours b w)
     (inside : place < length w.lamps) (stored : (ours.store (run_of ours b w cs) m).number ≡ 0) where
@@ -151,17 +133,11 @@ module _ (b : Beginning) (w : Wanted) (cs es : List Call) (m : List ℕ) (place 
 
 marked_loads : (w : Wanted) (ms : List Bool) → IsClass1 w → (ours.load (marked_form_of w ms)).number ≡ 0
     → LoadsAs ours (marked_form_of w ms) w ms
-marked_loads w ms h e =
-    let marks = marked_form_marks w h.set_up h.class_1 ms e in
-    let same = marked_form_loads w h.set_up h.class_1 ms marks in
-    record { accepted = e; fresh = ap (λ (r : Given Device). r.device) same }
+marked_loads w ms h e = grind (arith, marked_form_marks, marked_form_loads)
 
 older_loads : (s : List ℕ) → (ours.load s).number ≡ 0 → (s at 0 ≡ form_version → ⊥)
     → (ours.load s).device.settings.class_number ≡ 1
-older_loads s e other =
-    ap (λ (r : Given Device). r.device.settings.class_number) (accepted_set_up s e)
-    ∙ ap (λ (d : Device). d.settings.class_number) (started_parts (settings_in s))
-    ∙ older_is_class_1 s (ne_eqb (s at 0) form_version other) e
+older_loads s e other = grind (arith, accepted_set_up, started_parts, older_is_class_1)
 
 pub ours_swap : BoardSwap ours
 ours_swap = record {
@@ -170,7 +146,7 @@ ours_swap = record {
   old_form_sets_up = λ w h. old_form_loads w h.set_up h.class_1;
   marked_form_loads = marked_loads;
   older_class_1 = older_loads;
-  stored_again = λ s b new h. stored_again s (bytes_kept s b) h (eq-eqb (s at 0) form_version new);
-  one_form = λ s t a b g h v e. forms_apart s t (bytes_kept s a) (bytes_kept t b) g h v e;
+  stored_again = λ s b new h. stored_again s h (bytes_all s b) new;
+  one_form = λ s t a b g h v e. forms_apart s t (bytes_all s a) (bytes_all t b) g h v e;
   hours_go_on = hours_go_on;
 }

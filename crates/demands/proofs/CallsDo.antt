@@ -163,13 +163,15 @@ connection_at-served d (closes p) q h = placed d h.legal q d.own p h.there.0 _
 connection_at-served d (receives p bs m) q h = placed d h.legal q (takes d p bs).ended.own p h.there.0 _
 connection_at-served d (passes n) q h =
     ap (λ (e : Device). connection_at e q) (sym (parts_pass n d)) ∙ place_passes n d q
-connection_at-served d (marks fault) q h = refl
-connection_at-served d (reports errors) q h = refl
-connection_at-served d (enables lamp mark) q h = refl
+connection_at-served d c q h = refl
 
 -- no call changes the settings; and one that is served leaves what it makes
 pub settings_stay : (d : Device) (c : Call) → (after ours d c).settings ≡ d.settings
 settings_stay d c = call_by d c (λ g e. e.settings ≡ d.settings) (λ n z. refl) (λ h. refl)
+
+-- where it leaves the own part if it is served, it leaves it
+pub own_left : (d : Device) (c : Call) → own_then d c ≡ d.own → (after ours d c).own ≡ d.own
+own_left d c same = call_by d c (λ g e. e.own ≡ d.own) (λ n z. refl) (λ h. same)
 
 pub served_after : (d : Device) (c : Call) → number_of ours d c ≡ 0 → after ours d c ≡ served d c
 served_after d c e =

@@ -2,17 +2,17 @@
 -- does but time; and "the random number is kept until closing" (RULES, Connection): whatever call comes on a connection
 -- that is not closed, it is closed afterwards or has the number that it had, over lines and over time.
 -- Assumes nothing.
-use Rattle.std.proofs.Common.{ℕ, ◌≡◌, refl, sym, ◌∙◌, ne_eqb, ap, subst, Bool, true, false, List, inl, inr, arith, ◌==◌}
+use Rattle.std.proofs.Common.{ℕ, ◌≡◌, refl, sym, ◌∙◌, ne_eqb, ap, subst, List, inl, inr, arith, ◌==◌}
 use Rattle.std.proofs.Common.{eqb-true}
 use Rattle.text.proofs.Choices.{if_no, if_by, if_all}
 use Rattle.record.specs.Places.{connection_at, is_shut, lowest_shut}
 use Rattle.record.specs.declared.types.Device.{Device}
 use Rattle.ours.specs.Board.{ours}
-use Rattle.demands.specs.Calls.{Call, opens, closes, receives, passes, marks, reports, enables, after, Gave}
+use Rattle.demands.specs.Calls.{Call, opens, closes, receives, passes, after, Gave}
 use Rattle.demands.specs.SpeaksPjlink.{Elsewhere}
 use Rattle.demands.proofs.CallsDo.{call_by, connection_at-served, IsServed, connection_left}
 use Rattle.std.proofs.lemmas.Bool.{eqb-false}
-use Rattle.record.specs.Limits.{shut, failed}
+use Rattle.record.specs.Limits.{shut}
 use Rattle.record.specs.declared.types.Settings.{Settings}
 use Rattle.record.specs.declared.types.Own.{Own}
 use Rattle.record.specs.declared.types.Line.{Line}
@@ -41,17 +41,11 @@ module _ (d : Device) (q : ℕ) where
       call_by d (receives p bs m) Kept (λ n some. refl)
       (λ h. connection_at-served d (receives p bs m) q h ∙ if_no _ _ (ne_eqb p q (λ z. other (sym z))))
   others_untouched (passes n) other = absurd other
-  others_untouched (marks fault) other = call_by d (marks fault) Kept (λ n some. refl) (λ h. refl)
-  others_untouched (reports errors) other = call_by d (reports errors) Kept (λ n some. refl) (λ h. refl)
-  others_untouched (enables lamp mark) other = call_by d (enables lamp mark) Kept (λ n some. refl) (λ h. refl)
+  others_untouched c other = call_by d c Kept (λ n some. refl) (λ h. refl)
 
 module _ (c : Connection) where
   keeping_keeps : (l : Line) → (keeping_line c l).random ≡ c.random
-  keeping_keeps l = by_phase (c.phase == failed) refl
-    where
-      by_phase : (t : Bool) → (c.phase == failed) ≡ t → (keeping_line c l).random ≡ c.random
-      by_phase true e = ap (λ (k : Connection). k.random) (keeping_none c l (eqb-true c.phase failed e))
-      by_phase false e = ap (λ (k : Connection). k.random) (keeping_line_lem c l (eqb-false c.phase failed e))
+  keeping_keeps l = grind (arith, keeping_none, eqb-true, keeping_line_lem, eqb-false)
 
   module _ (s : Settings) (o : Own) where
     line_keeps : (l : Line) → (line_ended s o c l).connection.random ≡ c.random
@@ -85,15 +79,9 @@ module _ (d : Device) (p : ℕ) (live : (connection_at d p).phase ≡ shut → �
       (ap (λ (q : ℕ). is_shut (connection_at d q)) (sym (eqb-true (lowest_shut d.connections) p e)) ∙ closed_there))))
       (λ e. kept)
   kept_then (closes q) h = if_all KeptIn (q == p) (inl (ap (λ (k : Connection). k.phase) closed_spelt)) kept
-  kept_then (receives q bs m) h =
-      if_by KeptIn (q == p)
-      (λ e. inr (bytes_keep (connection_at d q) d.settings d.own bs
-      ∙ ap (λ (k : ℕ). (connection_at d k).random) (eqb-true q p e)))
-      (λ e. kept)
+  kept_then (receives q bs m) h = grind (arith, bytes_keep, eqb-true, kept)
   kept_then (passes n) h = time_keeps (connection_at d p) n
-  kept_then (marks fault) h = kept
-  kept_then (reports errors) h = kept
-  kept_then (enables lamp mark) h = kept
+  kept_then c h = kept
 
   pub random_kept : (c : Call) → KeptIn (connection_at (after ours d c) p)
   random_kept c =

@@ -3,37 +3,31 @@
 -- way. No reply is longer than 103 bytes (RULES, Inputs), eight around a parameter of at most 95: only an input's
 -- name is longer, and a Class 1 set-up has none.
 -- Assumes nothing.
-use Rattle.std.specs.List.{list_all}
-use Rattle.std.proofs.Common.{ℕ, ◌≤◌, ◌<◌, ◌≡◌, refl, sym, ap, subst, ◌∙◌, Bool, true, false, not, ◌&&◌, ◌||◌, List, []}
-use Rattle.std.proofs.Common.{◌∷◌, ⊎_elim, arith, length, slice_index_or, drop, length-append, ◌==◌, ◌*◌, ◌+◌, ◌++◌}
-use Rattle.std.proofs.Common.{nat_le, ltb-true, eqb-true, codes}
+use Rattle.std.proofs.Common.{ℕ, ◌≤◌, ◌<◌, ◌≡◌, refl, sym, ap, subst, ◌∙◌, Bool, true, false, ◌||◌, List, []}
+use Rattle.std.proofs.Common.{◌∷◌, ⊎_elim, arith, length, slice_index_or, length-append, ◌*◌, ◌+◌, ◌++◌}
+use Rattle.std.proofs.Common.{ltb-true, eqb-true, codes}
 use Rattle.std.proofs.lemmas.Bool.{false≢true, not-false}
 use Rattle.std.proofs.Math.Bool.{or-true}
 use Rattle.std.proofs.Math.ListN.{get_or-eq_default}
 use Prim.Native.Char.{code}
-use Rattle.std.specs.Prelude.{Ok, Err, if◌then◌else◌, Option, unwrap_or}
+use Rattle.std.specs.Prelude.{Ok, Option, unwrap_or}
 use Rattle.text.proofs.Orders.{le_or_lt}
 use Rattle.text.proofs.Scanning.{list_all_at}
-use Rattle.pjlink.specs.Bodies.{has_set, has_parameters, has_query, row_of}
+use Rattle.pjlink.specs.Bodies.{has_set, has_query}
 use Rattle.pjlink.specs.Commands.{body_of}
-use Rattle.words.specs.Texts.{is_text, input_name_most}
 use Rattle.pjlink.specs.declared.body.Body.{Body}
-use Rattle.pjlink.specs.declared.command.Volume.TheVariants.{Speaker, Microphone}
 use Rattle.pjlink.specs.declared.command.Command.{Command}
-use Rattle.pjlink.specs.declared.command.Command.TheVariants.{PowerSet, InputSet, MuteSet, InputSet2, FreezeSet}
-use Rattle.pjlink.specs.declared.command.Command.TheVariants.{VolumeStep, NameQuery, Query}
+use Rattle.pjlink.specs.declared.command.Command.TheVariants.{PowerSet}
+use Rattle.pjlink.specs.declared.command.Command.TheVariants.{Query}
 use Rattle.words.proofs.TextsTold.{name_long, info_long}
 use Rattle.pjlink.specs.Requests.{Request, request_of}
-use Rattle.pjlink.specs.declared.request.Unasked.TheVariants.{Unlisted, UnknownBody}
 use Rattle.pjlink.specs.Said.{Said, said_bytes, bytes_most, refused}
-use Rattle.pjlink.specs.CanSay.{CanSay, done as does, refuses, power, input, mutes, errors, lamps, inputs, name, maker}
-use Rattle.pjlink.specs.CanSay.{model, other, class_said, freeze, serial, version, input_name, input_2, inputs_2}
+use Rattle.pjlink.specs.CanSay.{CanSay, refuses}
 use Rattle.pjlink.proofs.SaidPlain.{said_long, text_said}
-use Rattle.record.specs.Limits.{only_in_2, awaiting, opened}
+use Rattle.record.specs.Limits.{awaiting, opened}
 use Rattle.record.specs.Record.{blank_name}
-use Rattle.record.specs.Legal.{fills_name_room, is_settings, is_own, is_legal}
+use Rattle.record.specs.Legal.{is_settings, is_own, is_legal}
 use Rattle.record.specs.Places.{connection_at}
-use Rattle.record.specs.declared.types.InputName.{InputName}
 use Rattle.record.specs.declared.types.Settings.{Settings}
 use Rattle.record.specs.declared.types.Own.{Own}
 use Rattle.record.specs.declared.types.Line.{Line}
@@ -43,10 +37,10 @@ use Rattle.record.proofs.Rules.{text_most}
 use Rattle.record.proofs.LegalTold.{legal_settings, legal_own}
 use Rattle.meaning.specs.Rules.{is_undefined, is_out_of_parameter}
 use Rattle.meaning.specs.SetUpInputs.{place_of, no_input, inputs_of, is_listed}
-use Rattle.meaning.specs.Meaning.{name_bytes, input_name_of, request_answer, meant, done}
+use Rattle.meaning.specs.Meaning.{name_bytes, request_answer, meant, done}
 use Rattle.meaning.proofs.CanBeSaid.{meant_can_be_said, length-inputs_of}
 use Rattle.meaning.proofs.Cases.{Passes, meant_by, err1, err2, done_by}
-use Rattle.device.specs.Answering.{line_asks, line_answer, Answered, swallowed}
+use Rattle.device.specs.Answering.{line_asks, line_answer, swallowed}
 use Rattle.device.specs.Receiving.{line_ended, taken_in}
 use Rattle.device.specs.Calls.{received, reply_room}
 use Rattle.device.proofs.Cases.{received_by}
@@ -54,17 +48,16 @@ use Rattle.device.proofs.LineCases.{answered_by, ended_by, taken_by}
 use Rattle.demands.specs.ClassOne.{longest_before, asked_as_before, line_before, answer_before, OfClass1, ClassOneKept}
 use Rattle.record.proofs.FactsTold.{settings_is, fills_told}
 use Rattle.text.specs.Words.{◌is◌}
-use Rattle.text.proofs.Choices.{if_yes, if_no, if_by, if_all}
+use Rattle.text.proofs.Choices.{if_yes, if_no, if_all}
 use Rattle.words.specs.Bytes.{◌at◌, no_cr, command_most}
 use Rattle.words.specs.Inputs.{is_input_text, input_named, input_text}
 use Rattle.words.specs.declared.input.Input.{Input}
 use Rattle.pjlink.specs.Forms.{head_body, command_parameter, is_command_form, class_of_byte, reply_line}
 use Rattle.pjlink.specs.ClassOne.{is_command_form_1}
-use Rattle.pjlink.specs.declared.body.Body.TheVariants.{Inpt}
 use Rattle.words.proofs.InputsReadBack.{named_text}
 use Rattle.words.proofs.SourcesFollowed.{named_stands}
 use Rattle.pjlink.proofs.ClassOneKept.{form_kept, class_byte_1}
-use Rattle.pjlink.proofs.ClassOneAsked.{KeptAs, as_before, of_class_2, asked_kept}
+use Rattle.pjlink.proofs.ClassOneAsked.{KeptAs, asked_kept}
 use Rattle.record.proofs.SettingsTold.{input_of_class}
 use Rattle.meaning.proofs.InputsByPlace.{found_at_place, input_in_use}
 use Rattle.ours.specs.Board.{ours}
@@ -80,25 +73,7 @@ is_plain b = has_set b || has_query b
 
 -- what an answer of its kind has at most
 most_short : {c : Command} {m : Said} → CanSay c m → is_plain (body_of c) ≡ true → bytes_most m ≤ parameter_before
-most_short (does s) p = omega arith
-most_short (refuses n l h t) p = omega arith
-most_short (power q) p = omega arith
-most_short (input i e) p = omega arith
-most_short (mutes v a) p = omega arith
-most_short (errors ds h e) p = omega arith
-most_short (lamps ls l h e) p = omega arith
-most_short (inputs xs l h e) p = omega arith
-most_short (name s e) p = omega (arith, name_long s e)
-most_short (maker s e) p = omega (arith, info_long s e)
-most_short (model s e) p = omega (arith, info_long s e)
-most_short (other s e) p = omega (arith, info_long s e)
-most_short (class_said k) p = omega arith
-most_short (freeze on) p = omega arith
-most_short (serial s e) p = omega (arith, info_long s e)
-most_short (version s e) p = omega (arith, info_long s e)
-most_short (input_name s b e) p = absurd (false≢true (sym (ap is_plain b) ∙ p))
-most_short (input_2 i e) p = omega arith
-most_short (inputs_2 xs l h e) p = omega arith
+most_short known p = grind (arith, name_long, info_long)
 
 said_short : {c : Command} {m : Said} → CanSay c m → is_plain (body_of c) ≡ true →
     length (said_bytes m) ≤ parameter_before
@@ -123,47 +98,14 @@ module _ (s : Settings) (o : Own) (settings : is_settings s ≡ true) (own : is_
   plain_short c plain = said_short (meant_can_be_said s o settings own c) plain
 
   query_short : (b : Body) (t : Bool) → has_query b ≡ t → Short (meant s o (Ok (Query b)))
-  query_short b true e = plain_short (Query b) (ap (λ (t : Bool). has_set b || t) e ∙ or-true (has_set b))
-  query_short b false e =
-      let undefined : is_undefined s (Ok (Query b)) ≡ true
-      = ap (λ (t : Bool). not t || ((row_of b).lamps && s.lamp_count == 0)) e in
-      subst Short (sym (err1 s o (Ok (Query b)) undefined)) (refused_short 1 (omega arith) (omega arith))
+  query_short b t e = grind (arith, plain_short, or-true, err1, refused_short)
 
   -- a set-up of Class 1 names no input
   nameless : (k : ℕ) → length (name_bytes (slice_index_or s.names k blank_name)) ≤ 0
-  nameless k = ⊎_elim past named (le_or_lt (length s.names) k)
-    where
-      past : length s.names ≤ k → length (name_bytes (slice_index_or s.names k blank_name)) ≤ 0
-      past h =
-          let none : length (name_bytes (slice_index_or s.names k blank_name)) ≡ 0
-          = ap (λ (t : InputName). length (name_bytes t)) (get_or-eq_default s.names blank_name h) in
-          omega arith
-
-      named : k < length s.names → length (name_bytes (slice_index_or s.names k blank_name)) ≤ 0
-      named h =
-          let told = (settings_is s).0 settings in
-          let none : list_all (fills_name_room 0) s.names ≡ true
-          = ap (λ (n : ℕ). list_all (fills_name_room 0) (drop (only_in_2 n s.input_count) s.names)) (sym one)
-          ∙ told.names.clear in
-          let empty = list_all_at (fills_name_room 0) s.names blank_name none k h in
-          let kept = (fills_told input_name_most (is_text 0) _ _).0 empty in
-          text_most _ 0 kept.follows
+  nameless k = grind (arith, ⊎_elim, le_or_lt, get_or-eq_default, settings_is, list_all_at, fills_told, text_most)
 
   meant_short : (r : Request) → Short (meant s o r)
-  meant_short (Ok (PowerSet wanted)) = plain_short (PowerSet wanted) refl
-  meant_short (Ok (InputSet i)) = plain_short (InputSet i) refl
-  meant_short (Ok (MuteSet half wanted)) = plain_short (MuteSet half wanted) refl
-  meant_short (Ok (InputSet2 i)) = plain_short (InputSet2 i) refl
-  meant_short (Ok (FreezeSet wanted)) = plain_short (FreezeSet wanted) refl
-  meant_short (Ok (VolumeStep Speaker up)) = plain_short (VolumeStep Speaker up) refl
-  meant_short (Ok (VolumeStep Microphone up)) = plain_short (VolumeStep Microphone up) refl
-  meant_short (Ok (Query b)) = query_short b (has_query b) refl
-  meant_short (Ok (NameQuery i)) =
-      by_rules (Ok (NameQuery i))
-      (λ p. omega (arith, nameless (place_of s i), ap length (text_said (input_name_of s i))))
-  meant_short (Err (Unlisted b)) =
-      by_rules (Err (Unlisted b)) (λ p. absurd (false≢true (sym p.listed ∙ not-false (has_parameters b) p.defined)))
-  meant_short (Err UnknownBody) = by_rules (Err UnknownBody) (λ p. absurd (false≢true (sym p.defined)))
+  meant_short r = grind (arith, plain_short, query_short, by_rules, nameless, text_said, not-false)
 
   answered_short : (l : List ℕ) → length (line_answer s o l).reply ≤ longest_before
   answered_short l =
@@ -210,11 +152,7 @@ module _ (s : Settings) (settings : is_settings s ≡ true) (a b : ℕ) (named :
       (λ j. is_input_text s.class_number (text j at 0) (text j at 1)) ∙ there
 
   unlisted : is_input_text s.class_number a b ≡ false → is_listed s (input_named a b) ≡ false
-  unlisted unnamed = by (is_listed s (input_named a b)) refl
-    where
-      by : (t : Bool) → is_listed s (input_named a b) ≡ t → t ≡ false
-      by true e = absurd (false≢true (sym unnamed ∙ listed_in_class e))
-      by false e = refl
+  unlisted unnamed = grind (arith, unnamed, listed_in_class)
 
 -- ---- what is meant and done
 
@@ -229,14 +167,7 @@ module _ (s : Settings) (o : Own) where
   module _ (settings : is_settings s ≡ true) (one : s.class_number ≡ 1) where
     -- ERR2 either way
     same_asked : {r q : Request} → KeptAs r q → Same r q
-    same_asked (as_before e) = (ap (meant s o) e, ap (done s o) e)
-    same_asked (of_class_2 a b named unnamed now before) =
-        let r = Ok (InputSet (input_named a b)) in
-        let q = Err (Unlisted Inpt) in
-        let out = ap not (unlisted s settings a b named (ap (λ (k : ℕ). is_input_text k a b) one ∙ unnamed)) in (
-          ap (meant s o) now ∙ err2 s o r refl out ∙ sym (err2 s o q refl refl) ∙ ap (meant s o) (sym before),
-          ap (done s o) now ∙ nothing_done r refl out ∙ sym (nothing_done q refl refl) ∙ ap (done s o) (sym before),
-        )
+    same_asked h = grind (arith, unlisted, err2, nothing_done)
 
     module _ (l : List ℕ) where
       formed_before : is_command_form s.class_number l ≡ is_command_form_1 l
@@ -256,7 +187,7 @@ module _ (s : Settings) (o : Own) where
           let same = asks_before byte in
           (λ i. record {
             own = same.1 i;
-            reply = reply_line (byte i) (l at 2) (l at 3) (l at 4) (l at 5) (said_bytes (same.0 i));
+            reply = reply_line (byte i) (head_body l) (said_bytes (same.0 i));
           })
           ∙ sym (if_yes _ (swallowed o) before))
           (λ none. sym (if_no _ (swallowed o) (sym formed_before ∙ none)))
@@ -265,46 +196,25 @@ module _ (s : Settings) (o : Own) where
 
 module _ (d : Device) (one : d.settings.class_number ≡ 1) (l : List ℕ) where
   answer_as_before : is_legal d ≡ true → answer_to d l ≡ answer_before d l
-  answer_as_before legal =
-      ap (λ (a : Answered). if nat_le (length l) command_most then a else swallowed d.own)
-      (line_as_before d.settings d.own (legal_settings d legal) one l)
+  answer_as_before legal = grind (arith, line_as_before, legal_settings)
 
   class_2_no_form : (l at 1 is "2") ≡ true → answer_before d l ≡ swallowed d.own
-  class_2_no_form two = if_all (λ (a : Answered). a ≡ swallowed d.own) (nat_le (length l) command_most) unnamed refl
-    where
-      unnamed : line_before d.settings d.own l ≡ swallowed d.own
-      unnamed =
-          if_by (λ (a : Answered). a ≡ swallowed d.own) (is_command_form_1 l)
-          (λ form. absurd (omega (arith, class_byte_1 l form, eqb-true (l at 1) (code "2") two))) (λ none. refl)
+  class_2_no_form two = grind (arith, if_all, class_byte_1, eqb-true)
 
 module _ (d : Device) (p : ℕ) (l m : List ℕ) (one : OfClass1 ours d) (plain : no_cr l ≡ true)
     (enough : reply_room ≤ length m) where
   answers : BetweenLines opened d p
       → let bs = l ++ codes "\r" in AnsweredAs ours d p bs (answer_before d l) (ours.receive d p bs m)
-  answers between =
-      let bs = l ++ codes "\r" in
-      subst (λ (a : Answered). AnsweredAs ours d p bs a (ours.receive d p bs m))
-      (answer_as_before d one l between.legal) (line_answered d p l m plain enough between)
+  answers between = grind (arith, answer_as_before, line_answered)
 
   answers_led : BetweenLines awaiting d p → length l ≤ command_most
       → let bs = digest_for d p ++ l ++ codes "\r" in
       AnsweredAs ours d p bs (answer_before d l) (ours.receive d p bs m)
-  answers_led between short =
-      let bs = digest_for d p ++ l ++ codes "\r" in
-      subst (λ (a : Answered). AnsweredAs ours d p bs a (ours.receive d p bs m))
-      (answer_as_before d one l between.legal) (led_line_answered d p l m plain enough between short)
+  answers_led between short = grind (arith, answer_as_before, led_line_answered)
 
   drops_class_2 : BetweenLines opened d p → (l at 1 is "2") ≡ true
       → let bs = l ++ codes "\r" in AnsweredAs ours d p bs (swallowed d.own) (ours.receive d p bs m)
-  drops_class_2 between two =
-      let bs = l ++ codes "\r" in
-      subst (λ (a : Answered). AnsweredAs ours d p bs a (ours.receive d p bs m)) (class_2_no_form d one l two)
-      (answers between)
+  drops_class_2 between two = grind (arith, class_2_no_form, answers)
 
 pub ours_class_1 : ClassOneKept ours
-ours_class_1 = record {
-  answers = λ d p l m one between plain enough. answers d p l m one plain enough between;
-  answers_led = λ d p l m one between plain short enough. answers_led d p l m one plain enough between short;
-  drops_class_2 = λ d p l m one between plain two enough. drops_class_2 d p l m one plain enough between two;
-  reply_short = λ d p bs m one. short_before d one p bs (length m);
-}
+ours_class_1 = grind (arith, answers, answers_led, drops_class_2, short_before)

@@ -72,8 +72,7 @@ one m = if m then 1 else 0
 
 set_counted : (ms : List Bool) → sum_of (length ms) (λ k. one (slice_index_or ms k false)) ≡ count_set ms
 set_counted [] = refl
-set_counted (m ∷ ms) =
-    sum_first (length ms) (λ k. one (slice_index_or (m ∷ ms) k false)) ∙ ap (λ (c : ℕ). one m + c) (set_counted ms)
+set_counted (m ∷ ms) = grind (arith, sum_first, set_counted ms)
 
 second_counted : (burning : Bool) (ms : List Bool)
     → sum_of (length ms) (λ k. if burning && slice_index_or ms k false then 1 else 0)
@@ -94,12 +93,7 @@ burnt_adds_up w g ms (switched wanted ∷ es) =
     ∙ (λ i. sum_none (length ms) i + burnt_adds_up w (next w g (switched wanted)) ms es i)
     ∙ omega arith
 burnt_adds_up w g ms (mark_switched lamp mark ∷ es) =
-    sum_of-add (length ms) (λ k. 0) (λ k. burning_from w (next w g (mark_switched lamp mark)) (set ms lamp mark) k es)
-    ∙ (λ i. sum_none (length ms) i
-    + sum_of (sym (length-set ms lamp mark) i)
-    (λ k. burning_from w (next w g (mark_switched lamp mark)) (set ms lamp mark) k es))
-    ∙ ap (λ (c : ℕ). 0 + c) (burnt_adds_up w (next w g (mark_switched lamp mark)) (set ms lamp mark) es)
-    ∙ omega arith
+    grind (arith, length-set, burnt_adds_up w (next w g (mark_switched lamp mark)) (set ms lamp mark) es)
 
 pub fleet_adds_up : (b : Beginning) (w : Wanted) (cs : List Call) → IsAccepted ours b w
     → ((k : ℕ) → k < length w.lamps
@@ -124,9 +118,7 @@ each_at : {A : Type 0} (f : ℕ → ℕ → A) (k : ℕ) (l : List ℕ) (i : ℕ
     → slice_index_or (each_place f k l) i d ≡ f (k + i) (slice_index_or l i 0)
 each_at f k [] i d h = absurd (omega arith)
 each_at f k (x ∷ l) zero d h = ap (λ (j : ℕ). f j x) (sym (add-zero k))
-each_at f k (x ∷ l) (suc i) d h =
-    let next : suc k + i ≡ k + suc i = omega arith in
-    each_at f (suc k) l i d (omega arith) ∙ ap (λ (j : ℕ). f j (slice_index_or l i 0)) next
+each_at f k (x ∷ l) (suc i) d h = grind (arith, each_at f (suc k) l i d (omega arith))
 
 module _ (w : Wanted) (ms : List Bool) (es : List Event) {stream : Streams} {d : Device}
     (a : Agrees w (stage_after w es) (marks_after ms es) (λ k. burning w ms k es) stream d) {p : ℕ}

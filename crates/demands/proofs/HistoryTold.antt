@@ -4,29 +4,27 @@
 -- reply says anything else.
 --   IsNoted a c    so it is of the call c, where what he knew before agreed with the device
 -- Assumes nothing.
-use Rattle.std.proofs.Common.{ℕ, ◌+◌, ◌-◌, ◌≡◌, ap, ◌∙◌, Bool, true, false, not, List, [], ◌∷◌, ◌++◌, arith, length}
+use Rattle.std.proofs.Common.{ℕ, ◌+◌, ◌-◌, ◌≡◌, ap, ◌∙◌, Bool, true, false, List, [], ◌∷◌, ◌++◌, arith, length}
 use Rattle.std.proofs.Common.{drop, length-append, codes, refl, sym, subst, take, replicate, ◌==◌, eqb-true, eq-eqb}
-use Rattle.std.proofs.Common.{ne_eqb, zero, suc, ◌≤◌, ◌<◌, zero-add, add_assoc, slice_index_or}
+use Rattle.std.proofs.Common.{ne_eqb, ◌≤◌, ◌<◌, zero-add, add_assoc, slice_index_or}
 use Rattle.std.proofs.Math.Seq.{drop-append_seam, take-append_seam}
-use Rattle.text.proofs.Choices.{if_all, if_yes, both_left}
+use Rattle.text.proofs.Choices.{if_yes, both_left}
 use Rattle.pjlink.specs.declared.body.Body.TheVariants.{Powr}
 use Rattle.pjlink.specs.Bodies.{is_body}
 use Rattle.stream.proofs.LastBytes.{Ends, ends_unheld}
 use Rattle.device.proofs.PowerLines.{is_power_okay, power_line, power_line_read, power_line_not_other, okay_reply}
-use Rattle.demands.specs.History.{Event, switched, power_set, ◌says◌, ◌ends_in◌, a_second, mark_switched, Stage, steady}
+use Rattle.demands.specs.History.{Event, switched, power_set, a_second, mark_switched, Stage, steady}
 use Rattle.demands.specs.History.{towards, next, Streams, going_on_at, streams_after, seen, no_streams, history}
 use Rattle.demands.specs.History.{reached, marks_after, burning_from, burning, stage_after}
-use Rattle.std.proofs.lemmas.Bool.{false≢true, eqb-false}
 use Rattle.std.specs.Prelude.{if◌then◌else◌, Ok}
 use Rattle.pjlink.specs.declared.command.Command.TheVariants.{PowerSet}
 use Rattle.pjlink.specs.Said.{okay}
-use Rattle.record.specs.Limits.{is_between, lamp_limit}
+use Rattle.record.specs.Limits.{lamp_limit}
 use Rattle.record.specs.Wanted.{Wanted}
 use Rattle.record.specs.Places.{connection_at, no_connection}
 use Rattle.record.specs.declared.types.Settings.{Settings}
 use Rattle.record.specs.declared.types.Own.{Own}
-use Rattle.record.specs.declared.types.Connection.{Connection}
-use Rattle.record.specs.Given.{Given, set_up_given}
+use Rattle.record.specs.Given.{Given}
 use Rattle.record.specs.declared.types.Device.{Device}
 use Rattle.record.proofs.Calls.{fault_set_by, errors_set_by, mark_set_by, set_up_in_range, set_up_accepted}
 use Rattle.record.proofs.LegalTold.{own_of_legal}
@@ -36,7 +34,7 @@ use Rattle.clock.proofs.Cases.{passed_by}
 use Rattle.meaning.specs.Meaning.{meant, done}
 use Rattle.meaning.proofs.PowerSets.{power_set_only, on_when_off, on_otherwise, off_when_on, off_otherwise}
 use Rattle.stream.specs.Collecting.{line_text}
-use Rattle.device.specs.Calls.{Result, accepted_taken, opened_by, closed_by}
+use Rattle.device.specs.Calls.{Result, accepted_taken}
 use Rattle.device.proofs.Cases.{takes, received_by}
 use Rattle.device.proofs.Histories.{StreamEffect, stays, turns, Tells, received_tells, tells_on, opening_tells}
 use Rattle.device.proofs.Histories.{closing_tells}
@@ -55,8 +53,7 @@ use Rattle.record.proofs.OwnTold.{lamp_at}
 use Rattle.record.proofs.Started.{started_legal, started_parts, started_lamp, set_up_started}
 use Rattle.stored.specs.Loading.{started_with}
 use Rattle.stored.proofs.FormsLoad.{form_loads, form_marks, marked_form_loads, marked_form_marks, old_form_loads}
-use Rattle.stored.proofs.Contents.{started_with-replicate}
-use Rattle.stored.proofs.MarkBytes.{slice_index_or-mark_room}
+use Rattle.stored.proofs.Marks.{started_with-replicate, slice_index_or-mark_room}
 use Rattle.demands.specs.CountsSeconds.{Beginning, sets_up, loads, loads_marked, loads_old, start_marks, begun_by}
 use Rattle.demands.specs.CountsSeconds.{IsAccepted}
 use Rattle.demands.specs.CountsSeconds.{run_of, history_of}
@@ -76,9 +73,7 @@ module _ (a b c d : ℕ) (powr : is_body 1 (a ∷ b ∷ c ∷ d ∷ []) Powr ≡
 
   pub set_seen : (wanted : Bool) → Ends stream (line wanted) → power_set stream reply ≡ switched wanted ∷ []
   unfolding power_set
-  set_seen true e = rw (okay, last_nine true e, power_line_read a b c d powr true)
-  set_seen false e =
-      rw (okay, last_nine false e, power_line_not_other a b c d powr false, power_line_read a b c d powr false)
+  set_seen wanted e = grind (arith, last_nine, power_line_read, power_line_not_other)
 
 pub none_seen : (stream reply : List ℕ) → is_power_okay reply ≡ false → power_set stream reply ≡ []
 unfolding power_set
@@ -89,9 +84,7 @@ pub one_or_none : (P : List Event → Type 0) (stream reply : List ℕ) → P []
     → ((wanted : Bool) → P (switched wanted ∷ []))
     → P (power_set stream reply)
 unfolding power_set
-one_or_none P stream reply none one =
-    if_all P (not (reply says "%1POWR=OK\r")) none
-    (if_all P (stream ends_in "%1POWR 1\r") (one true) (if_all P (stream ends_in "%1POWR 0\r") (one false) none))
+one_or_none P stream reply none one = grind arith
 
 -- ---- a power set that was answered OK
 
@@ -99,14 +92,7 @@ module _ (w : Wanted) (s : Settings) (o : Own) (warm : s.warm ≡ w.warm) (cool 
   turned : (g : Stage) (wanted : Bool) → o.power ≡ power_of g → o.left ≡ left_of g
       → meant s o (Ok (PowerSet wanted)) ≡ okay
       → Shows (next w g (switched wanted)) (done s o (Ok (PowerSet wanted)))
-  turned (steady true) true p l m = rw (on_otherwise s o m (λ q. omega arith)) (record { power = p; left = l })
-  turned (steady true) false p l m = rw (off_when_on s o m p) (record { power = refl; left = cool })
-  turned (steady false) true p l m = rw (on_when_off s o m p) (record { power = refl; left = warm })
-  turned (steady false) false p l m = rw (off_otherwise s o m (λ q. omega arith)) (record { power = p; left = l })
-  turned (towards true n) wanted p l m =
-      absurd (false≢true (sym (power_set_only s o wanted m).1 ∙ ap is_between p))
-  turned (towards false n) wanted p l m =
-      absurd (false≢true (sym (power_set_only s o wanted m).1 ∙ ap is_between p))
+  turned g wanted p l m = grind (arith, on_otherwise, off_when_on, on_when_off, off_otherwise, power_set_only)
 
 module _ {w : Wanted} {g : Stage} {ms : List Bool} {n : ℕ → ℕ} {stream : Streams} {d : Device}
     (a : Agrees w g ms n stream d) where
@@ -120,9 +106,7 @@ module _ {w : Wanted} {g : Stage} {ms : List Bool} {n : ℕ → ℕ} {stream : S
     by_effect : e.own.lamps ≡ d.own.lamps → e.own.enabled ≡ d.own.enabled
         → StreamEffect d.settings d.own (now p) answer e.own
         → Seen now p answer e
-    by_effect m same (stays other k l) =
-        rw (none_seen (now p) answer other)
-        (agrees_none (agrees_at a g now e settings (k ∙ a.power) (l ∙ a.left) m same last))
+    by_effect m same (stays other k l) = grind (arith, none_seen, agrees_none, agrees_at)
     by_effect m same (turns b1 b2 b3 b4 wanted powr line said passed own) =
         let yes = ap is_power_okay said ∙ okay_reply b1 b2 b3 b4 powr in
         let warm = ap (λ (s : Settings). s.warm) a.settings in
@@ -145,11 +129,7 @@ module _ {w : Wanted} {g : Stage} {ms : List Bool} {n : ℕ → ℕ} {stream : S
         → Ends (stream p ++ take r.taken bs) (line_text (connection_at r.device p).line)
         → (q : ℕ) (t : Bool) → (q == p) ≡ t
         → Ends (if t then stream q ++ take r.taken bs else stream q) (line_text (connection_at r.device q).line)
-    going_on r others last q true e =
-        subst (λ (k : ℕ). Ends (stream k ++ take r.taken bs) (line_text (connection_at r.device k).line))
-        (sym (eqb-true q p e)) last
-    going_on r others last q false e =
-        subst (λ (c : Connection). Ends (stream q) (line_text c.line)) (sym (others q (eqb-false q p e))) (a.last q)
+    going_on r others last q t e = grind (arith, Ends)
 
     -- the reply is read off the lent memory; at every other place all is as it was
     handed : (r : Result Device) → r.device.settings ≡ d.settings
@@ -183,9 +163,7 @@ module _ {w : Wanted} {g : Stage} {ms : List Bool} {n : ℕ → ℕ} {stream : S
   -- one that changes connections at most
   reconnected : (e : Device) → e.settings ≡ d.settings → e.own ≡ d.own
       → ((q : ℕ) → Ends (stream q) (line_text (connection_at e q).line)) → Quiet e
-  reconnected e s o last =
-      quiet e s (ap (λ (k : Own). k.power) o) (ap (λ (k : Own). k.left) o) (ap (λ (k : Own). k.lamps) o)
-      (ap (λ (k : Own). k.enabled) o) last
+  reconnected e s o last = grind (arith, quiet)
 
   abbrev pub IsNoted : Call → Type 0
   IsNoted c =
@@ -195,13 +173,8 @@ module _ {w : Wanted} {g : Stage} {ms : List Bool} {n : ℕ → ℕ} {stream : S
   QuietBy r = Quiet r.device
 
   pub noted : (c : Call) → IsNoted c
-  noted (opens random m) =
-      reconnected (opened_by d random (length m)).device (opening_keeps_settings d random (length m))
-      (opening_keeps_own d random (length m))
-      (λ q. opening_tells d q (stream q) (a.last q) random (length m))
-  noted (closes p) =
-      reconnected (closed_by d p).device (closing_keeps_settings d p) (closing_keeps_own d p)
-      (λ q. closing_tells d q (stream q) (a.last q) p)
+  noted (opens random m) = grind (arith, reconnected, opening_keeps_settings, opening_keeps_own, opening_tells)
+  noted (closes p) = grind (arith, reconnected, closing_keeps_settings, closing_keeps_own, closing_tells)
   noted (marks fault) =
       fault_set_by d QuietBy fault kept (λ legal. quiet _ refl refl refl refl refl a.last)
   noted (reports errors) =
@@ -254,11 +227,7 @@ module _ (w : Wanted) (ms : List Bool) (h : is_set_up w ≡ true) (many : length
 
   -- no place holds a byte
   none_held : (q : ℕ) → (slice_index_or all_closed q no_connection).line.held ≡ 0
-  none_held zero = closed_holds_none
-  none_held (suc zero) = closed_holds_none
-  none_held (suc (suc zero)) = closed_holds_none
-  none_held (suc (suc (suc zero))) = closed_holds_none
-  none_held (suc (suc (suc (suc q)))) = refl
+  none_held q = grind (arith, closed_holds_none)
 
   agrees_started : Agrees w (steady false) ms (λ k. 0) no_streams (started_with w ms)
   agrees_started = record {
@@ -297,24 +266,14 @@ run_agrees (c ∷ cs) w g ms n stream d a =
 
 -- however it begins, it is the set-up of its settings, with the marks that it begins with
 set_up_too : (b : Beginning) (w : Wanted) → IsAccepted ours b w → is_set_up w ≡ true
-set_up_too sets_up w h = set_up_in_range w h
-set_up_too (loads ms) w h = h.0
-set_up_too (loads_marked ms) w h = h.0.set_up
-set_up_too loads_old w h = h.0.set_up
+set_up_too b w h = grind (arith, set_up_in_range)
 
 begins_so : (b : Beginning) (w : Wanted) → IsAccepted ours b w
     → (begun_by ours b w).device ≡ started_with w (start_marks b w)
 begins_so sets_up w h = set_up_started w h ∙ sym (started_with-replicate w (set_up_in_range w h))
-begins_so (loads ms) w h =
-    ap (λ (r : Given Device). r.device) (form_loads w h.0 ms (form_marks w h.0 ms h.1))
-begins_so (loads_marked ms) w h =
-    let ok = h.0.set_up in
-    let one = h.0.class_1 in
-    ap (λ (r : Given Device). r.device) (marked_form_loads w ok one ms (marked_form_marks w ok one ms h.1))
-begins_so loads_old w h =
-    let ok = h.0.set_up in
-    ap (λ (r : Given Device). r.device) (old_form_loads w ok h.0.class_1 ∙ ap set_up_given (set_up_accepted w ok))
-    ∙ sym (started_with-replicate w ok)
+begins_so (loads ms) w h = grind (arith, form_loads, form_marks)
+begins_so (loads_marked ms) w h = grind (arith, marked_form_loads, marked_form_marks)
+begins_so loads_old w h = grind (arith, old_form_loads, set_up_accepted, started_with-replicate)
 
 pub marks_many : (b : Beginning) (w : Wanted) → IsAccepted ours b w → length (start_marks b w) ≡ length w.lamps
 marks_many sets_up w h = length-replicate (length w.lamps) true
@@ -327,9 +286,7 @@ marks_many loads_old w h = length-replicate (length w.lamps) true
 
 pub begun_agrees : (b : Beginning) (w : Wanted) → IsAccepted ours b w
     → Agrees w (steady false) (start_marks b w) (λ k. 0) no_streams (begun_by ours b w).device
-begun_agrees b w h =
-    subst (Agrees w (steady false) (start_marks b w) (λ k. 0) no_streams) (sym (begins_so b w h))
-    (agrees_started w (start_marks b w) (set_up_too b w h) (marks_many b w h))
+begun_agrees b w h = grind (arith, Agrees, begins_so, agrees_started, set_up_too, marks_many)
 
 module _ (b : Beginning) (w : Wanted) (cs : List Call) (h : IsAccepted ours b w) where
   abbrev ms : List Bool

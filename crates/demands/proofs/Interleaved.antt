@@ -5,15 +5,14 @@
 --   Hears s c h k      of what is seen, h, the connection c alone makes the connection k, whatever follows
 -- Assumes nothing.
 use Rattle.std.specs.List.{list_all}
-use Rattle.std.proofs.Common.{ℕ, suc, ◌+◌, ◌≡◌, refl, ap, ◌∙◌, Bool, true, false, List, [], ◌∷◌, ◌++◌, arith, ◌==◌, ◌≤◌}
+use Rattle.std.proofs.Common.{ℕ, ◌+◌, ◌≡◌, refl, ap, ◌∙◌, true, false, List, [], ◌∷◌, ◌++◌, arith, ◌==◌, ◌≤◌}
 use Rattle.std.proofs.Common.{sym, subst, append_assoc, length, take, length-append, take_at, ◌<◌, append-nil, eqb-true}
 use Rattle.std.proofs.lemmas.Bool.{not-true, eqb-false}
 use Prim.Native.Char.{code}
-use Rattle.std.specs.Prelude.{if◌then◌else◌}
-use Rattle.text.proofs.Choices.{if_no, both_left, both_right, if_yes, if_by}
+use Rattle.text.proofs.Choices.{if_no, both_left, both_right, if_by}
 use Rattle.words.specs.Bytes.{not_cr}
 use Rattle.demands.specs.Interleaved.{line_ends, to_first_cr, Heard, heard_nothing, heard_then, heard_of}
-use Rattle.demands.specs.Interleaved.{answered_first, alone_at, heard_in, heard, ByBytes, ByBytesOnly, Alone, alone_of}
+use Rattle.demands.specs.Interleaved.{answered_first, alone_at, heard_in, heard, ByBytes, ByBytesOnly, alone_of}
 use Rattle.demands.specs.Interleaved.{SeenAlone, Interleaved}
 use Rattle.std.proofs.Math.Seq.{take-length}
 use mathlib.Core.List.{foldl}
@@ -32,11 +31,11 @@ use Rattle.record.specs.Places.{connection_at, is_shut}
 use Rattle.record.specs.declared.types.Device.{Device}
 use Rattle.record.proofs.LegalTold.{legal_places, connection_of_legal}
 use Rattle.record.proofs.ConnectionsTold.{placed_here}
-use Rattle.device.specs.Calls.{Result, reply_room, received}
+use Rattle.device.specs.Calls.{reply_room, received}
 use Rattle.device.proofs.Cases.{received_by, received_taken, takes}
 use Rattle.device.proofs.Untouched.{receiving_keeps_others}
 use Rattle.ours.specs.Board.{ours, reply}
-use Rattle.demands.specs.Calls.{Call, opens, closes, receives, passes, marks, reports, enables, after, run}
+use Rattle.demands.specs.Calls.{Call, receives, after, run}
 use Rattle.demands.proofs.KeepsRunning.{over_front}
 use Rattle.demands.proofs.CallsDo.{settings_stay}
 
@@ -63,18 +62,11 @@ all_taken (x ∷ xs) p = if_no _ _ (first_plain x xs p) ∙ ap (λ (l : List ℕ
 
 pub line_taken : (xs more : List ℕ) → list_all not_cr xs ≡ true → to_first_cr (xs ++ (code "\r" ∷ more)) ≡ xs ++ cr
 line_taken [] more p = refl
-line_taken (x ∷ xs) more p =
-    if_no _ _ (first_plain x xs p) ∙ ap (λ (l : List ℕ). x ∷ l) (line_taken xs more (rest_plain x xs p))
+line_taken (x ∷ xs) more p = grind (arith, line_taken xs more (rest_plain x xs p))
 
 pub ends_add : (xs ys : List ℕ) → line_ends (xs ++ ys) ≡ line_ends xs + line_ends ys
 ends_add [] ys = omega arith
-ends_add (x ∷ xs) ys = by (x == code "\r") (ends_add xs ys)
-  where
-    by : (t : Bool) → line_ends (xs ++ ys) ≡ line_ends xs + line_ends ys
-        → (if t then suc (line_ends (xs ++ ys)) else line_ends (xs ++ ys))
-        ≡ (if t then suc (line_ends xs) else line_ends xs) + line_ends ys
-    by true e = omega arith
-    by false e = e
+ends_add (x ∷ xs) ys = grind (arith, ends_add xs ys)
 
 -- collecting leaves the own part as it was
 own_stays : (o : Own) (c : Connection) (xs : List ℕ) → (foldl collects (state_of o c) xs).own ≡ o
@@ -105,13 +97,7 @@ module _ (s : Settings) where
     gathered = foldl collects (state_of o c) xs
 
     hears_part : Hears c (heard_of o xs []) gathered.connection
-    hears_part =
-        record {
-          goes_on = λ owns rest.
-              ap (λ (l : List Own). alone_at s c (l ++ owns) (xs ++ rest)) (if_yes _ _ (no_cr_of xs none))
-              ∙ alone_at-append o c owns xs rest none;
-          lines = ap length (if_yes _ _ (no_cr_of xs none)) ∙ sym (no_end xs none);
-        }
+    hears_part = grind (arith, no_cr_of, alone_at-append, no_end)
 
     hears_line : Hears c (heard_of o (xs ++ cr) (ends s gathered).reply) (ends s gathered).state.connection
     unfolding alone_at
@@ -165,17 +151,7 @@ module _ (s : Settings) where
   -- ---- one call after the first
 
   pub hears_then : {c k e : Connection} {h g : Heard} → Hears c h k → Hears k g e → Hears c (heard_then h g) e
-  hears_then {c} {k} {e} {h} {g} first second =
-      record {
-        goes_on = λ owns rest.
-            (λ i. alone_at s c (append_assoc h.owns g.owns owns i) (append_assoc h.taken g.taken rest i))
-            ∙ first.goes_on (g.owns ++ owns) (g.taken ++ rest)
-            ∙ ap (answered_first h.replied) (second.goes_on owns rest)
-            ∙ (λ i. let a = alone_at s e owns rest in
-            record { reply = sym (append_assoc h.replied g.replied a.reply) i; connection = a.connection });
-        lines = length-append h.owns g.owns ∙ (λ i. first.lines i + second.lines i)
-            ∙ sym (ends_add h.taken g.taken);
-      }
+  hears_then first second = grind (arith, append_assoc, length-append, ends_add)
 
 module _ (q : ℕ) (d : Device) where
   abbrev HeardThere : Heard → Connection → Type 0
@@ -207,11 +183,7 @@ module _ (q : ℕ) (d : Device) where
 
     takes_a_line : is_legal d ≡ true → q < places_count → is_shut (connection_at d q) ≡ false → reply_room ≤ length m
         → let r = ours.receive d q bs m in (r.number ≡ 0) × (take r.taken bs ≡ to_first_cr bs)
-    takes_a_line legal there live enough =
-        let done = received_taken d q bs (length m) legal enough there live in (
-          ap (λ (r : Result Device). r.number) done,
-          ap (λ (r : Result Device). take r.taken bs) done ∙ (accepted_call legal there live).taken,
-        )
+    takes_a_line legal there live enough = grind (arith, received_taken, accepted_call)
 
   -- a call that leaves the connection there as it was, and is not heard
   untouched : {k : Connection} → k ≡ connection_at d q → HeardThere heard_nothing k
@@ -225,12 +197,7 @@ module _ (q : ℕ) (d : Device) where
       HeardThere (heard_of d.own (take r.taken bs) (reply r)) (connection_at r.device q))
       (sym (eqb-true p q e)) (call_there bs m))
       (λ e. untouched (receiving_keeps_others d p bs (length m) q (λ z. eqb-false p q e (sym z))))
-  any_call (opens random m) h = untouched h
-  any_call (closes p) h = untouched h
-  any_call (passes n) h = untouched h
-  any_call (marks fault) h = untouched h
-  any_call (reports errors) h = untouched h
-  any_call (enables lamp mark) h = untouched h
+  any_call c h = untouched h
 
 module _ (q : ℕ) where
   all_calls : (d : Device) (cs : List Call) → ByBytesOnly ours q d cs
@@ -255,22 +222,7 @@ module _ (q : ℕ) where
         ∙ (λ i. record { reply = append-nil k.replied i; connection = end })
 
     as_alone : SeenAlone ours q d cs
-    as_alone = record {
-      replies = sym (ap (λ (a : Alone). a.reply) alone_is);
-      connection = sym (ap (λ (a : Alone). a.connection) alone_is);
-      lines = (all_calls d cs h).lines;
-    }
+    as_alone = grind (arith, alone_is, all_calls)
 
 pub interleaved : Interleaved ours
-interleaved = record {
-  takes_a_line = λ d q bs m. takes_a_line q d bs m;
-  as_alone = λ d q cs h. as_alone q d cs h;
-  same_however_interleaved = λ d e q cs es h g settings connection taken owns.
-      let same : alone_of ours q d cs ≡ alone_of ours q e es =
-      (λ i. alone_at (settings i) (connection i) (owns i) (taken i)) in
-      let a = as_alone q d cs h in
-      let b = as_alone q e es g in (
-        a.replies ∙ ap (λ (k : Alone). k.reply) same ∙ sym b.replies,
-        a.connection ∙ ap (λ (k : Alone). k.connection) same ∙ sym b.connection,
-      );
-}
+interleaved = grind (arith, takes_a_line, as_alone)

@@ -4,7 +4,7 @@
 -- reply has at most 136 bytes, and a digest with a command's line at most 168: no more than what the calls ask for.
 -- Assumes nothing.
 use Rattle.std.proofs.Common.{ℕ, ◌≤◌, ◌≡◌, ap, List, [], arith, length, take, drop, length-append, length-drop, Bool}
-use Rattle.std.proofs.Common.{true, false, refl, sym, ◌∙◌, not, ◌∷◌}
+use Rattle.std.proofs.Common.{true, refl, ◌∙◌, not, ◌∷◌}
 use Rattle.std.proofs.Math.Seq.{take-append_seam, drop-append_seam}
 use Rattle.text.specs.Words.{over}
 use Rattle.digest.proofs.Laws.{length-leading_digest}
@@ -23,12 +23,11 @@ use Rattle.controller.specs.Writing.{led_by, written_command}
 use Rattle.controller.proofs.Cases.{written_by, greeting_open_lem, greeting_refused, greeting_secured_lem}
 use Rattle.controller.proofs.Cases.{greeting_none}
 use Rattle.ours.specs.Board.{lent_by, ours}
-use Rattle.demands.specs.Calls.{Call, opens, closes, receives, passes, marks, reports, enables, number_of, after}
+use Rattle.demands.specs.Calls.{Call, number_of, after}
 use Rattle.demands.specs.KeepsRunning.{Inside, WroteInside, StaysInside, rows_of, set_up_rows, writer_rows, reader_rows}
 use Rattle.demands.specs.KeepsRunning.{greeting_rows, Untouched, WritesNothing, KeepsRunning}
 use Rattle.std.specs.Prelude.{if◌then◌else◌}
 use Rattle.text.specs.Rows.{◌when◌, first_of}
-use Rattle.text.proofs.Choices.{if_yes, if_no}
 use Rattle.text.specs.Scans.{same_by, itself}
 use Rattle.pjlink.specs.Forms.{erra_line, greeting_open, is_reply_form, head_body, reply_parameter}
 use Rattle.pjlink.specs.Bodies.{is_body}
@@ -36,7 +35,6 @@ use Rattle.pjlink.specs.Writings.{IsAllowed}
 use Rattle.record.specs.Wanted.{Wanted}
 use Rattle.record.specs.Legal.{is_legal}
 use Rattle.record.proofs.Results.{set_up_number as set-up-table, fault_number, errors_number, mark_number}
-use Rattle.record.specs.HostCalls.{fault_set, errors_set, mark_set}
 use Rattle.record.proofs.Results.{refusal_leaves, set_up_refusal}
 use Rattle.clock.proofs.Results.{passed-number, passed_refusal}
 use Rattle.device.proofs.Numbers.{received-number, opened_number, closed_number}
@@ -65,8 +63,7 @@ module _ (r m : List ℕ) where
   over_nothing e = ap (λ (s : List ℕ). over s m) e
 
 led_by_long : (secured : Bool) (random : ℕ) (password : List ℕ) → length (led_by secured random password) ≤ digest_long
-led_by_long true random password = omega (arith, length-leading_digest random password)
-led_by_long false random password = omega arith
+led_by_long secured random password = grind (arith, length-leading_digest)
 
 module _ (d : Device) (m : List ℕ) where
   abbrev Fits : Result Device → Type 0
@@ -88,14 +85,7 @@ module _ (d : Device) (m : List ℕ) where
   lent_inside r h = record { room = length-over r.reply m h; fits = h; later = over_later r.reply m }
 
 pub stays_inside : (d : Device) (c : Call) → StaysInside ours d c
-stays_inside d (opens random m) = lent_inside d m (opened_by d random (length m)) (opened_fits d m random)
-stays_inside d (receives p bs m) =
-    (lent_inside d m (received d p bs (length m)) (received_fits d m p bs), received_within d p bs (length m))
-stays_inside d (closes p) = tt
-stays_inside d (passes n) = tt
-stays_inside d (marks fault) = tt
-stays_inside d (reports errors) = tt
-stays_inside d (enables lamp mark) = tt
+stays_inside d c = grind (arith, lent_inside, opened_fits, received_fits, received_within)
 
 module _ (c : Command) (secured : Bool) (random : ℕ) (password m : List ℕ) where
   written_fits : length (written_command c secured random password (length m)).bytes ≤ length m
@@ -111,9 +101,7 @@ module _ (c : Command) (secured : Bool) (random : ℕ) (password m : List ℕ) w
       ))
 
   pub writer_stays_inside : WroteInside m (ours.write c secured random password m)
-  writer_stays_inside =
-      let bs = (written_command c secured random password (length m)).bytes in
-      record { room = length-over bs m written_fits; fits = written_fits; later = over_later bs m }
+  writer_stays_inside = grind (arith, length-over, written_fits, over_later)
 
 pub store_stays_inside : (d : Device) (m : List ℕ) → WroteInside m (ours.store d m)
 store_stays_inside d m =
@@ -121,18 +109,18 @@ store_stays_inside d m =
     let fits = storing_by d (length m) (λ r. length r.bytes ≤ length m) (λ n some. omega arith) (λ h l. l) in
     record { room = length-over bs m fits; fits = fits; later = over_later bs m }
 
-unless : (legal : Bool) → ◌≡◌ {A = ℕ} (if legal then 0 else 1) (if not legal then 1 else 0)
-unless true = refl
-unless false = refl
-
 pub number_is_first : (d : Device) (c : Call) → number_of ours d c ≡ first_of (rows_of d c)
-number_is_first d (opens random m) = opened_number d (length m) random
-number_is_first d (closes p) = closed_number d p
-number_is_first d (receives p bs m) = received-number d (length m) p bs
-number_is_first d (passes n) = passed-number d n ∙ unless (is_legal d)
-number_is_first d (marks fault) = fault_number d fault
-number_is_first d (reports errors) = errors_number d errors
-number_is_first d (enables lamp mark) = mark_number d lamp mark
+number_is_first d c =
+    grind (
+      arith,
+      opened_number,
+      closed_number,
+      received-number,
+      passed-number,
+      fault_number,
+      errors_number,
+      mark_number,
+    )
 
 pub set_up_number : (w : Wanted) → (ours.set_up w).number ≡ first_of (set_up_rows w)
 set_up_number = set-up-table
@@ -147,11 +135,7 @@ by_tests : (erra formed named allowed : Bool)
     (if erra then erra_said else if not formed then not_a_line else if not named then other_command
     else if not allowed then disallowed else means_it)
     ≡ first_of ((0 when erra) ∷ (10 when not formed) ∷ (11 when not named) ∷ (12 when not allowed) ∷ [])
-by_tests true formed named allowed = refl
-by_tests false false named allowed = refl
-by_tests false true false allowed = refl
-by_tests false true true false = refl
-by_tests false true true true = refl
+by_tests erra formed named allowed = grind arith
 
 pub reader_number : (c : Command) (l : List ℕ) (allowed : Bool) → IsAllowed c (reply_parameter l) allowed
     → reading_outcome_number (ours.read_reply c l).outcome ≡ first_of (reader_rows c l allowed)
@@ -164,61 +148,32 @@ module _ (l : List ℕ) where
   greeting_number-read_greeting : (plain erra secured : Bool) → same_by itself l greeting_open ≡ plain
       → same_by itself l erra_line ≡ erra → greets l (random_in l) ≡ secured
       → greeting_number (read_greeting l) ≡ first_of (greeting_rows l)
-  greeting_number-read_greeting true erra secured p e g =
-      ap greeting_number (greeting_open_lem l p) ∙ sym (if_yes _ _ p)
-  greeting_number-read_greeting false true secured p e g =
-      ap greeting_number (greeting_refused l p e) ∙ sym (if_no _ _ p ∙ if_yes _ _ e)
-  greeting_number-read_greeting false false true p e g =
-      ap greeting_number (greeting_secured_lem l p e g) ∙ sym (if_no _ _ p ∙ if_no _ _ e ∙ if_yes _ _ g)
-  greeting_number-read_greeting false false false p e g =
-      ap greeting_number (greeting_none l p e g) ∙ sym (if_no _ _ p ∙ if_no _ _ e ∙ if_no _ _ g)
+  greeting_number-read_greeting plain erra secured p e g =
+      grind (arith, greeting_open_lem, greeting_refused, greeting_secured_lem, greeting_none)
 
   pub greeting_reader_number : greeting_number (ours.read_greeting l) ≡ first_of (greeting_rows l)
   greeting_reader_number = greeting_number-read_greeting _ _ _ refl refl refl
 
 lent_untouched : (d : Device) (r : Result Device) (m : List ℕ) → Refused d r → Untouched Device m (lent_by r m)
-lent_untouched d r m h = record {
-  taken = h.taken;
-  length = ap length h.reply;
-  memory = over_nothing r.reply m h.reply;
-}
+lent_untouched d r m h = grind (arith, over_nothing)
 
 pub refused_keeps : (d : Device) (c : Call) → (number_of ours d c ≡ 0 → ⊥)
     → (after ours d c ≡ d) × WritesNothing ours d c
-refused_keeps d (opens random m) n =
-    let h = opening_refused d random (length m) n in
-    (h.device, lent_untouched d (opened_by d random (length m)) m h)
-refused_keeps d (receives p bs m) n =
-    let h = receiving_refused d p bs (length m) n in
-    (h.device, lent_untouched d (received d p bs (length m)) m h)
-refused_keeps d (closes p) n = ((closing_refused d p n).device, tt)
-refused_keeps d (passes k) n = (passed_refusal d k n, tt)
-refused_keeps d (marks fault) n = (refusal_leaves d (fault_set d fault) n, tt)
-refused_keeps d (reports errors) n = (refusal_leaves d (errors_set d errors) n, tt)
-refused_keeps d (enables lamp mark) n = (refusal_leaves d (mark_set d lamp mark) n, tt)
+refused_keeps d c n =
+    grind (arith, opening_refused, lent_untouched, receiving_refused, closing_refused, passed_refusal, refusal_leaves)
 
 pub refused_writer : (c : Command) (secured : Bool) (random : ℕ) (password m : List ℕ)
     → let w = ours.write c secured random password m in
     (w.number ≡ 0 → ⊥) → (w.length ≡ 0) × (w.memory ≡ m)
-refused_writer c secured random password m n =
-    let bs = (written_command c secured random password (length m)).bytes in
-    let none = refusal_writes_nothing c secured random password (length m) n in
-    (ap length none, over_nothing bs m none)
+refused_writer c secured random password m n = grind (arith, refusal_writes_nothing, over_nothing)
 
 pub refused_store : (d : Device) (m : List ℕ) → ((ours.store d m).number ≡ 0 → ⊥)
     → ((ours.store d m).length ≡ 0) × ((ours.store d m).memory ≡ m)
-refused_store d m n =
-    let none = refused_store_writes_nothing d (length m) n in
-    (ap length none, over_nothing (stored_by d (length m)).bytes m none)
+refused_store d m n = grind (arith, refused_store_writes_nothing, over_nothing)
 
 pub stays_legal : (d : Device) (c : Call) → is_legal d ≡ true → is_legal (after ours d c) ≡ true
-stays_legal d (opens random m) h = opening_legal d h random (length m)
-stays_legal d (closes p) h = closing_legal d h p
-stays_legal d (receives p bs m) h = receiving_legal d h p bs (length m)
-stays_legal d (passes n) h = passed_legal d n h
-stays_legal d (marks fault) h = fault_legal d h fault
-stays_legal d (reports errors) h = errors_legal d h errors
-stays_legal d (enables lamp mark) h = mark_legal d h lamp mark
+stays_legal d c h =
+    grind (arith, opening_legal, closing_legal, receiving_legal, passed_legal, fault_legal, errors_legal, mark_legal)
 
 pub ours_keeps_running : KeepsRunning ours
 ours_keeps_running = record {

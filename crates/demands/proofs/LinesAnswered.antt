@@ -4,14 +4,14 @@
 -- read of the lent memory is the reply, so our calls on it are the calls of `device`, and its laws of streams hold of
 -- them.
 -- Assumes nothing.
-use Rattle.std.proofs.Common.{ℕ, ◌+◌, ◌≤◌, ◌<◌, ◌≡◌, refl, sym, ap, subst, ◌∙◌, true, List, ◌++◌, ⊎_elim, arith, length}
-use Rattle.std.proofs.Common.{length-append, le-leb, codes, false, ◌∷◌, append_assoc, ◌==◌}
+use Rattle.std.proofs.Common.{ℕ, ◌+◌, ◌≤◌, ◌<◌, ◌≡◌, refl, sym, ap, true, List, ◌++◌, ⊎_elim, arith, length}
+use Rattle.std.proofs.Common.{length-append, le-leb, codes, false, append_assoc}
 use Rattle.std.proofs.lemmas.Bool.{lt-leb}
 use Rattle.text.proofs.Choices.{if_yes, if_no}
 use Rattle.text.proofs.Orders.{le_or_lt}
 use Rattle.digest.proofs.Laws.{length-leading_digest}
 use Rattle.words.specs.Bytes.{no_cr, command_most}
-use Rattle.record.specs.Limits.{awaiting, opened, places_count, shut}
+use Rattle.record.specs.Limits.{awaiting, opened, places_count}
 use Rattle.record.specs.Places.{connection_at, is_shut}
 use Rattle.record.specs.declared.types.Device.{Device}
 use Rattle.device.specs.Answering.{Answered, line_answer, swallowed}
@@ -25,9 +25,8 @@ use Rattle.demands.proofs.KeepsRunning.{over_front}
 use Rattle.record.specs.Legal.{is_legal, held_most}
 use Rattle.stream.specs.Machine.{Took, handed_parts, uncut}
 use Rattle.device.proofs.SameCuts.{receives, received_however_cut}
-use Prim.Native.Char.{code}
-use Rattle.device.proofs.Outsiders.{IsUnmatched, unmatched_line_refused}
-use Rattle.device.proofs.OutsiderStreams.{first_line, outsider_stream_keeps_own, outsider_stream_keeps_settings}
+use Rattle.device.proofs.Outsiders.{unmatched_line_refused}
+use Rattle.device.proofs.OutsiderStreams.{outsider_stream_keeps_own, outsider_stream_keeps_settings}
 use Rattle.device.proofs.OutsiderStreams.{outsider_stream_refused, connection_at-handed_parts, outsider_stream_fails}
 use Rattle.device.proofs.OutsiderStreams.{outsider_stream_age}
 use Rattle.device.proofs.FirstLines.{first-line_ends, unled_unmatched}
@@ -44,9 +43,7 @@ module _ (d : Device) (p : ℕ) (bs m : List ℕ) where
 
   result_answers : {n : ℕ} {r : Result Device} (a b : Answered) → r ≡ line_result d p a n → n ≡ length bs → a ≡ b
       → AnsweredAs ours d p bs b (lent_by r m)
-  result_answers {n} a b e count same =
-      subst (λ (q : Result Device). AnsweredAs ours d p bs b (lent_by q m))
-      (sym (e ∙ ap (λ (x : Answered). line_result d p x n) same)) (answered_as b count)
+  result_answers a b e count same = grind (arith, line_result, answered_as)
 
 module _ (d : Device) (p : ℕ) (l m : List ℕ) (plain : no_cr l ≡ true) (enough : reply_room ≤ length m) where
   abbrev tables : Answered
@@ -95,10 +92,7 @@ module _ (d : Device) (p : ℕ) (l m : List ℕ) (plain : no_cr l ≡ true) (eno
       count (short_answered short)
 
 same_calls : (m : List ℕ) (p : ℕ) → call_on ours m p ≡ receives (length m) p
-same_calls m p =
-    let replying : Result Device → List ℕ → Took Device = λ r bs.
-    record { taken = r.taken; state = r.device; reply = bs } in
-    (λ i d bs. replying (received d p bs (length m)) (over_front (received d p bs (length m)).reply m i))
+same_calls m p = grind (arith, over_front)
 
 pub handed_alike : (m : List ℕ) (p : ℕ) (d : Device) (ps : List (List ℕ))
     → handed_on ours m p d ps ≡ handed_parts (receives (length m) p) d ps
@@ -107,37 +101,27 @@ handed_alike m p d ps = ap (λ (f : Device → List ℕ → Took Device). handed
 pub same_however_cut : (d : Device) (p : ℕ) (m : List ℕ) (ps qs : List (List ℕ)) → is_legal d ≡ true
     → p < places_count → is_shut (connection_at d p) ≡ false → reply_room ≤ length m → uncut ps ≡ uncut qs
     → handed_on ours m p d ps ≡ handed_on ours m p d qs
-same_however_cut d p m ps qs legal there live enough e =
-    handed_alike m p d ps
-    ∙ received_however_cut (length m) enough p there d legal live ps qs e
-    ∙ sym (handed_alike m p d qs)
+same_however_cut d p m ps qs legal there live enough e = grind (arith, handed_alike, received_however_cut)
 
 pub outsider_refused : (d : Device) (p : ℕ) (l more m : List ℕ) (ps : List (List ℕ))
     → BetweenLines awaiting d p → no_cr l ≡ true → is_led d p l ≡ false → reply_room ≤ length m
     → uncut ps ≡ l ++ codes "\r" ++ more
     → RefusalOnly ours d p (handed_on ours m p d ps)
 outsider_refused d p l more m ps between plain unled enough all =
-    let s = d.settings in
-    let c = connection_at d p in
-    let room = length m in
-    let legal = between.legal in
-    let there = between.there in
-    let waits = between.in_phase in
-    let empty = is_between d p there legal between.unmarked between.none_held in
-    let bytes : l ++ (code "\r" ∷ more) ≡ uncut ps = sym (all ∙ append_assoc l (codes "\r") more) in
-    let unmatched : IsUnmatched s c (uncut ps)
-    = subst (IsUnmatched s c) bytes (unled_unmatched s c empty waits l more plain unled) in
-    let cr : (first_line c (uncut ps)).ended ≡ true
-    = ap (λ (bs : List ℕ). (first_line c bs).ended) (sym bytes) ∙ first-line_ends s c empty waits l more plain in
-    subst (RefusalOnly ours d p) (sym (handed_alike m p d ps))
-    (record {
-      refusal = outsider_stream_refused room enough p there d legal waits ps unmatched ∙ if_yes _ _ cr;
-      settings = outsider_stream_keeps_settings room enough p there d legal waits ps unmatched;
-      own = outsider_stream_keeps_own room enough p there d legal waits ps unmatched;
-      phase = outsider_stream_fails room enough p there d legal waits ps unmatched cr;
-      age = outsider_stream_age room enough p there d legal waits ps unmatched cr;
-      others = connection_at-handed_parts room enough p there d legal waits ps unmatched;
-    })
+    grind (
+      arith,
+      is_between,
+      append_assoc,
+      unled_unmatched,
+      first-line_ends,
+      handed_alike,
+      outsider_stream_refused,
+      outsider_stream_keeps_settings,
+      outsider_stream_keeps_own,
+      outsider_stream_fails,
+      outsider_stream_age,
+      connection_at-handed_parts,
+    )
 
 pub outsider_reads_erra : (d : Device) (p : ℕ) (bs : List ℕ) (room : ℕ) (c : Command) → is_legal d ≡ true
     → reply_room ≤ room → p < places_count
@@ -147,7 +131,4 @@ pub outsider_reads_erra : (d : Device) (p : ℕ) (bs : List ℕ) (room : ℕ) (c
     g.ended ≡ true → is_match d.settings k g.line ≡ false
     → read_reply c (received d p bs room).reply ≡ without erra_said
 outsider_reads_erra d p bs room c legal enough there phase cr unmatched =
-    ap (λ (r : Result Device). read_reply c r.reply)
-    (received_taken d p bs room legal enough there (ap (λ (q : ℕ). q == shut) phase))
-    ∙ ap (read_reply c) (unmatched_line_refused d.settings d.own (connection_at d p) phase bs (λ e. unmatched) cr).reply
-    ∙ erra_read c
+    grind (arith, received_taken, unmatched_line_refused, erra_read)

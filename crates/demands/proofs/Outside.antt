@@ -4,8 +4,9 @@
 --   Outside w p s d         place p of the legal device d, which has the password w, stands so with the session s
 --   GoesOn w p s d c        so it is after the call c, with the session that is noted
 -- Assumes nothing.
+use Rattle.std.proofs.Common.{arith}
 use Rattle.std.proofs.Common.{ℕ, zero, suc, ◌≡◌, refl, sym, ap, subst, ◌∙◌, Bool, true, false, List, ◌++◌, take}
-use Rattle.std.proofs.Common.{length, slice_index_or, replicate, ◌==◌, eqb-true, ne_eqb}
+use Rattle.std.proofs.Common.{length, slice_index_or, replicate, ◌==◌, eqb-true}
 use Rattle.text.specs.Words.{over}
 use Rattle.std.proofs.lemmas.Bool.{false≢true, eqb-false}
 use Rattle.std.specs.Prelude.{if◌then◌else◌}
@@ -13,7 +14,7 @@ use Rattle.text.proofs.Choices.{if_all}
 use Rattle.record.specs.Limits.{shut, places_count}
 use Rattle.record.specs.Legal.{is_legal}
 use Rattle.record.specs.Record.{closed}
-use Rattle.record.specs.Places.{no_connection, connection_at, is_shut, lowest_shut}
+use Rattle.record.specs.Places.{no_connection, connection_at, is_shut}
 use Rattle.record.specs.Wanted.{Wanted}
 use Rattle.record.specs.declared.types.Connection.{Connection}
 use Rattle.record.specs.declared.types.Own.{Own}
@@ -24,7 +25,7 @@ use Rattle.device.specs.Receiving.{Taken, set_up_password}
 use Rattle.device.specs.Calls.{has_password, greeted}
 use Rattle.device.proofs.Cases.{takes, secured_greeted}
 use Rattle.ours.specs.Board.{ours}
-use Rattle.demands.specs.Calls.{Call, opens, closes, receives, passes, marks, reports, enables, after}
+use Rattle.demands.specs.Calls.{Call, opens, closes, receives, passes, after}
 use Rattle.demands.specs.Outsider.{Session, opened_with, unopened, noted_of, noted, is_matched, is_received_at, silence}
 use Rattle.demands.proofs.KeepsRunning.{stays_legal, over_front}
 use Rattle.demands.proofs.Sessions.{Standing, is_closed, awaits, nothing_yet, answered_so, closed_stands, heard}
@@ -40,19 +41,12 @@ pub record Outside (password : List ℕ) (p : ℕ) (s : Session) (d : Device) : 
 
 module _ (p : ℕ) (s : Session) where
   nothing_noted : (n : ℕ) → (n ≡ 0 → ⊥) → (c : Call) → noted_of p s c (unserved n c) ≡ s
-  nothing_noted n some (opens random m) = rw (ne_eqb n 0 some) refl
-  nothing_noted n some (closes q) = refl
-  nothing_noted n some (receives q bs m) = rw (ne_eqb n 0 some) refl
-  nothing_noted n some (passes k) = refl
-  nothing_noted n some (marks fault) = refl
-  nothing_noted n some (reports errors) = refl
-  nothing_noted n some (enables lamp mark) = refl
+  nothing_noted n some c = grind arith
 
 -- two sessions and the connections that stand with them, chosen together
 either_stands : {s k : Session} {c e : Connection} (t : Bool) → Standing s c → Standing k e
     → Standing (if t then s else k) (if t then c else e)
-either_stands true a b = a
-either_stands false a b = b
+either_stands t a b = grind arith
 
 module _ (password : List ℕ) (p : ℕ) (s : Session) (d : Device) (out : Outside password p s d) where
   abbrev NotMatched : Session → Type 0
@@ -63,9 +57,7 @@ module _ (password : List ℕ) (p : ℕ) (s : Session) (d : Device) (out : Outsi
     pub kept : is_received_at p c ≡ true → e.own ≡ d.own
 
   greeted_stands : (random : ℕ) → Standing (opened_with random) (greeted d.settings random)
-  greeted_stands random =
-      subst (Standing (opened_with random)) (sym (secured_greeted d.settings random out.secured))
-      (awaits refl refl refl (sym nothing_yet) refl)
+  greeted_stands random = grind (arith, Standing, secured_greeted, awaits, nothing_yet)
 
   abbrev KeptIf : Bool → Own → Type 0
   KeptIf here o = here ≡ true → o ≡ d.own
@@ -107,15 +99,12 @@ module _ (password : List ℕ) (p : ℕ) (s : Session) (d : Device) (out : Outsi
 
   then_stands : (c : Call) → IsServed d c → NotMatched (noted_of p s c (gives d c))
       → Standing (noted_of p s c (gives d c)) (connection_left d c p) × KeptIf (is_received_at p c) (own_then d c)
-  then_stands (opens random m) h u =
-      (either_stands (lowest_shut d.connections == p) (greeted_stands random) out.standing, λ z. refl)
+  then_stands (opens random m) h u = grind (arith, either_stands, greeted_stands)
   then_stands (closes q) h u =
       (if_all (Standing s) (q == p) (closed_stands s (answered_so out.standing)) out.standing, λ z. refl)
   then_stands (receives q bs m) h u = bytes_stand q bs m h u
   then_stands (passes n) h u = (stands_later n s (connection_at d p) out.standing, λ z. absurd (false≢true z))
-  then_stands (marks fault) h u = (out.standing, λ z. absurd (false≢true z))
-  then_stands (reports errors) h u = (out.standing, λ z. absurd (false≢true z))
-  then_stands (enables lamp mark) h u = (out.standing, λ z. absurd (false≢true z))
+  then_stands c h u = (out.standing, λ z. absurd (false≢true z))
 
   goes_on : (c : Call) → NotMatched (noted ours p d s c) → GoesOn c (noted ours p d s c) (after ours d c)
   goes_on c =
@@ -134,12 +123,7 @@ module _ (password : List ℕ) (p : ℕ) (s : Session) (d : Device) (out : Outsi
 
   pub outside_after : (c : Call) → NotMatched (noted ours p d s c)
       → Outside password p (noted ours p d s c) (after ours d c)
-  outside_after c u = record {
-    legal = stays_legal d c out.legal;
-    secured = rw (settings_stay d c) out.secured;
-    known = ap set_up_password (settings_stay d c) ∙ out.known;
-    standing = (goes_on c u).standing;
-  }
+  outside_after c u = grind (arith, stays_legal, settings_stay, goes_on)
 
 -- a place that is closed, and was not opened yet
 pub unopened_outside : (d : Device) (p : ℕ) → is_legal d ≡ true → has_password d.settings ≡ true

@@ -12,12 +12,12 @@ use Rattle.record.specs.declared.types.Device.{Device}
 use Rattle.device.specs.Receiving.{set_up_password}
 use Rattle.device.specs.Calls.{has_password}
 use Rattle.ours.specs.Board.{ours}
-use Rattle.demands.specs.Calls.{Call, opens, closes, receives, passes, marks, reports, enables, after, run}
+use Rattle.demands.specs.Calls.{Call, opens, closes, receives, after, run}
 use Rattle.demands.specs.Outsider.{Session, unopened, noted, session_after, IsNeverMatched, is_hosts, host_calls}
 use Rattle.demands.specs.Outsider.{SameDevicePart, IsKeptThere, NoSay, HostsAlone}
 use Rattle.demands.proofs.KeepsRunning.{stays_legal}
 use Rattle.demands.proofs.Sessions.{answered_so}
-use Rattle.demands.proofs.CallsDo.{settings_stay, call_by}
+use Rattle.demands.proofs.CallsDo.{own_left, settings_stay, call_by}
 use Rattle.demands.proofs.CallsAlike.{host_alike}
 use Rattle.demands.proofs.Outside.{Outside, outside_after, received_keeps, unopened_outside}
 
@@ -47,26 +47,19 @@ module _ (password : List ℕ) where
 
   module _ {c : Call} {cs : List Call} {ss : ℕ → Session} {d : Device} (all : AllOutside ss d (c ∷ cs)) where
     all_then : AllOutside (λ p. noted ours p d (ss p) c) (after ours d c) cs
-    all_then = record {
-      out = λ p there. outside_after password p (ss p) d (all.out p there) c (all.never p there).0;
-      never = λ p there. (all.never p there).1;
-    }
+    all_then = grind (arith, outside_after)
 
   -- the calls on a connection leave the own part: what is received, since its place was never matched
   others_keep : (c : Call) (cs : List Call) (ss : ℕ → Session) (d : Device) → AllOutside ss d (c ∷ cs)
       → is_hosts c ≡ false → (after ours d c).own ≡ d.own
-  others_keep (opens random m) cs ss d all h =
-      call_by d (opens random m) (λ g e. e.own ≡ d.own) (λ n z. refl) (λ k. refl)
-  others_keep (closes q) cs ss d all h = call_by d (closes q) (λ g e. e.own ≡ d.own) (λ n z. refl) (λ k. refl)
+  others_keep (opens random m) cs ss d all h = own_left d (opens random m) refl
+  others_keep (closes q) cs ss d all h = own_left d (closes q) refl
   others_keep (receives q bs m) cs ss d all h =
       let c = receives q bs m in
       call_by d c (λ g e. (q < places_count → e.own ≡ d.own) → e.own ≡ d.own) (λ n z kept. refl)
       (λ k kept. kept k.there.0)
       (λ there. received_keeps password q (ss q) d (all.out q there) c (all.never q there).0 (eq-eqb q q refl))
-  others_keep (passes n) cs ss d all h = absurd (false≢true (sym h))
-  others_keep (marks fault) cs ss d all h = absurd (false≢true (sym h))
-  others_keep (reports errors) cs ss d all h = absurd (false≢true (sym h))
-  others_keep (enables lamp mark) cs ss d all h = absurd (false≢true (sym h))
+  others_keep c cs ss d all h = absurd (false≢true (sym h))
 
   runs_beside : (cs : List Call) (ss : ℕ → Session) (d e : Device) → AllOutside ss d cs → is_legal e ≡ true
       → SameDevicePart ours e d → SameDevicePart ours (run ours e (host_calls cs)) (run ours d cs)

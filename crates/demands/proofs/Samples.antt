@@ -20,9 +20,7 @@ use Rattle.demands.specs.Computing.{computing}
 
 pub same_by-leading_digest : (random : ℕ) (password l : List ℕ) → length l < digest_long
     → same_by itself l (leading_digest random password) ≡ false
-same_by-leading_digest random password l short =
-    long_differs itself l (leading_digest random password)
-    (λ e. omega (arith, length-leading_digest random password))
+same_by-leading_digest random password l short = grind (arith, long_differs, length-leading_digest)
 
 -- who sends `x`
 pub x_unled : same_by itself (codes "x") (leading_digest 7 (codes "JBMIAProjectorLink")) ≡ false

@@ -8,20 +8,19 @@
 use Rattle.std.specs.List.{list_all}
 use Rattle.std.proofs.Common.{ℕ, ◌+◌, ◌≡◌, refl, sym, ap, ◌∙◌, true, false, not, ◌&&◌, List, [], ◌∷◌, ◌++◌}
 use Rattle.std.proofs.Common.{append_assoc, length, take, length-append, subst, append-nil, arith}
-use Rattle.std.proofs.lemmas.Bool.{false≢true, not-true}
+use Rattle.std.proofs.lemmas.Bool.{false≢true}
 use Rattle.std.proofs.Math.Seq.{take-append_seam, take-length}
 use Prim.Native.Char.{code}
-use Rattle.text.specs.Words.{◌is◌}
-use Rattle.text.proofs.Choices.{if_no, both_left, both_right, alike}
+use Rattle.text.proofs.Choices.{both_right, alike}
 use Rattle.words.specs.Bytes.{not_cr, no_cr}
 use Rattle.words.proofs.Characters.{no_cr_each}
-use Rattle.device.specs.Receiving.{is_led_by, Ended, Taken, is_match, no_reply, line_ended, keeping_line, taken_in}
+use Rattle.device.specs.Receiving.{is_led_by, Taken, taken_in}
 use Rattle.device.specs.Receiving.{set_up_password}
 use Rattle.demands.specs.Outsider.{first_line, Session, is_matched, RefusalAtMost, silence, refusal}
 use Rattle.text.proofs.Scanning.{list_all-append}
 use Rattle.pjlink.specs.Forms.{erra_line}
 use Rattle.record.specs.Limits.{shut, awaiting, failed, line_room}
-use Rattle.record.specs.Updates.{aged, with_line}
+use Rattle.record.specs.Updates.{aged}
 use Rattle.record.specs.Legal.{held_most}
 use Rattle.record.specs.Record.{closed}
 use Rattle.record.specs.declared.types.Settings.{Settings}
@@ -34,7 +33,7 @@ use Rattle.clock.specs.Second.{times, connection_second}
 use Rattle.clock.proofs.ConnectionsAge.{connection_then}
 use Rattle.stream.specs.declared.Gathered.{Gathered}
 use Rattle.stream.specs.Collecting.{empty_line, collected_all, gathered}
-use Rattle.stream.proofs.UpToTheEnd.{Cut, plain, line, cut}
+use Rattle.stream.proofs.UpToTheEnd.{Cut, cut}
 use Rattle.stream.proofs.GatheredOn.{plain_gathered}
 use Rattle.stream.proofs.CollectedOn.{collected_all-append, collected_whole}
 use Rattle.stream.proofs.LinesCollected.{empty_is_none, gathered-append}
@@ -45,9 +44,7 @@ use Rattle.device.proofs.FirstLines.{is_match-collected_all}
 module _ (more : List ℕ) where
   first_line-append : (l : List ℕ) → list_all not_cr l ≡ true → first_line (l ++ (code "\r" ∷ more)) ≡ l
   first_line-append [] none = refl
-  first_line-append (b ∷ l) none =
-      if_no _ _ (not-true (b is "\r") (both_left (not_cr b) (list_all not_cr l) none))
-      ∙ ap (λ (k : List ℕ). b ∷ k) (first_line-append l (both_right (not_cr b) (list_all not_cr l) none))
+  first_line-append (b ∷ l) none = grind (arith, first_line-append l (both_right (not_cr b) (list_all not_cr l) none))
 
   cr_inside : (l : List ℕ) → list_all not_cr (l ++ (code "\r" ∷ more)) ≡ true → ⊥
   cr_inside [] e = false≢true e
@@ -72,10 +69,7 @@ module _ (random : ℕ) (password before l : List ℕ) (none : list_all not_cr (
 
   pub matched_first : (not (no_cr bytes) && is_led_by random password (first_line bytes))
       ≡ is_led_by random password (before ++ l)
-  matched_first =
-      (λ i. not (no_cr (ends_first i)) && is_led_by random password (first_line (ends_first i)))
-      ∙ (λ i. not (cr_seen [] (before ++ l) i)
-      && is_led_by random password (first_line-append [] (before ++ l) none i))
+  matched_first = grind (arith, ends_first, cr_seen, first_line-append)
 
 pub data Standing (s : Session) (c : Connection) : Type 0 where
   is_closed : c.phase ≡ shut → RefusalAtMost s.replied → Standing s c
@@ -97,9 +91,7 @@ pub closed_stands : (s : Session) → RefusalAtMost s.replied → Standing s clo
 closed_stands s a = is_closed (ap (λ (k : Connection). k.phase) closed_spelt) a
 
 older_stands : (s : Session) (c : Connection) (age : ℕ) → Standing s c → Standing s (aged c age)
-older_stands s c age (is_closed p a) = is_closed p a
-older_stands s c age (awaits p r n l e) = awaits p r n l e
-older_stands s c age (has_failed p e) = has_failed p e
+older_stands s c age stands = grind arith
 
 pub stands_later : (n : ℕ) (s : Session) (c : Connection) → Standing s c → Standing s (times connection_second n c)
 stands_later n s c k = connection_then (Standing s) (closed_stands s (answered_so k)) (older_stands s) n c k
@@ -123,13 +115,7 @@ module _ (settings : Settings) (o : Own) (c : Connection) (s : Session) where
   Hears bs t = is_matched (set_up_password settings) (heard s bs t) ≡ false → Heard o s bs t
 
   hears_failed : c.phase ≡ failed → s.replied ≡ erra_line → (bs : List ℕ) → Hears bs (taken_in settings o c bs)
-  hears_failed p e bs unmatched =
-      let still = failed_ignores settings o c p bs in
-      record {
-        own = ap (λ (k : Ended). k.own) still;
-        standing = has_failed (ap (λ (k : Ended). k.connection.phase) still ∙ p)
-            (ap (λ (k : Ended). s.replied ++ k.reply) still ∙ append-nil s.replied ∙ e);
-      }
+  hears_failed p e bs unmatched = grind (arith, failed_ignores, append-nil)
 
   module _ (phase : c.phase ≡ awaiting) (random : c.random ≡ s.random) (none : list_all not_cr s.taken ≡ true)
       (collects : c.line ≡ collected_all line_room empty_line s.taken) (quiet : s.replied ≡ []) where
@@ -143,54 +129,42 @@ module _ (settings : Settings) (o : Own) (c : Connection) (s : Session) where
     by_room bs = ap (λ (most : ℕ). gathered most c.line bs) (ap held_most phase ∙ held_most_awaiting)
 
     more_is : (xs : List ℕ) → more xs ≡ collected_all line_room empty_line (s.taken ++ xs)
-    more_is xs =
-        ap (λ (l : Line). collected_all line_room l xs) collects
-        ∙ sym (collected_all-append line_room empty_line s.taken xs)
+    more_is xs = grind (arith, collected_all-append)
 
     -- no CR: all is collected
     hears_plain : (bs : List ℕ) → list_all not_cr bs ≡ true → Heard o s bs (taken_in settings o c bs)
     hears_plain bs p =
-        let g = by_room bs ∙ plain_gathered line_room c.line bs p in
-        let t : taken_in settings o c bs ≡ record { ended = no_reply o (with_line c (more bs)); taken = length bs }
-        = taken_part settings o c bs (ap (λ (k : Gathered). k.ended) g)
-        ∙ ap {B = Taken} (λ (k : Gathered). record { ended = no_reply o (keeping_line c k.line); taken = k.before }) g
-        ∙ ap {B = Taken} (λ (k : Connection). record { ended = no_reply o k; taken = length bs })
-        (keeping_line_lem c (more bs) (λ f. omega arith)) in
-        subst (Heard o s bs) (sym t)
-        (record {
-          own = refl;
-          standing = awaits phase random
-              (rw (take-length bs) (list_all-append not_cr s.taken bs none p))
-              (rw (take-length bs) (more_is bs)) (append-nil s.replied ∙ quiet);
-        })
+        grind (
+          arith,
+          by_room,
+          plain_gathered,
+          taken_part,
+          keeping_line_lem,
+          take-length,
+          list_all-append,
+          more_is,
+          append-nil,
+        )
 
     -- CR: the first line is the session's bytes and these
     hears_line : (xs rest : List ℕ) → list_all not_cr xs ≡ true
         → let bs = xs ++ (code "\r" ∷ rest) in Hears bs (taken_in settings o c bs)
     hears_line xs rest p =
-        let bs = xs ++ (code "\r" ∷ rest) in
-        let whole = list_all-append not_cr s.taken xs none p in
-        let g = by_room bs ∙ gathered-append line_room c.line xs rest p in
-        let t : taken_in settings o c bs ≡ record { ended = line_ended settings o c (more xs); taken = length xs + 1 }
-        = taken-line settings o c bs (ap (λ (k : Gathered). k.ended) g)
-        ∙ ap {B = Taken} (λ (k : Gathered). record { ended = line_ended settings o c k.line; taken = k.before + 1 })
-        g in
-        subst (Hears bs) (sym t) (λ unmatched.
-        let unled = sym (matched_first s.random (set_up_password settings) s.taken xs whole)
-        ∙ (rw (line_taken xs rest) at unmatched) in
-        let mismatch : is_match settings c (more xs) ≡ false
-        = ap (is_match settings c) (more_is xs)
-        ∙ is_match-collected_all settings c (s.taken ++ xs) (rw random unled) in
-        let out = mismatch_refused settings o c phase (more xs) mismatch in
-        record {
-          own = out.own;
-          standing = has_failed out.phase ((λ i. quiet i ++ out.reply i));
-        })
+        grind (
+          arith,
+          list_all-append,
+          by_room,
+          gathered-append,
+          taken-line,
+          matched_first,
+          line_taken,
+          more_is,
+          is_match-collected_all,
+          mismatch_refused,
+        )
 
     hears_awaiting : (bs : List ℕ) → Cut (code "\r") bs → Hears bs (taken_in settings o c bs)
-    hears_awaiting bs (plain p) = λ unmatched. hears_plain bs p
-    hears_awaiting bs (line xs rest e p) =
-        subst (λ (k : List ℕ). Hears k (taken_in settings o c k)) (sym e) (hears_line xs rest p)
+    hears_awaiting bs parts = grind (arith, hears_plain, hears_line)
 
   pub stands_on : (bs : List ℕ) → (c.phase ≡ shut → ⊥) → Standing s c → Hears bs (taken_in settings o c bs)
   stands_on bs live (is_closed p a) = absurd (live p)

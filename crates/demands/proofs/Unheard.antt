@@ -2,7 +2,8 @@
 -- but for his place, and each other call gives the same in both. What holds at the end of two such runs holds at
 -- every moment of them: what came before is two such runs, on any board.
 -- Assumes nothing.
-use Rattle.std.proofs.Common.{ℕ, ◌≡◌, refl, sym, ◌∙◌, Bool, true, false, not, List, ◌∷◌, ◌==◌, eqb-true, eq-eqb, zero}
+use Rattle.std.proofs.Common.{arith}
+use Rattle.std.proofs.Common.{ℕ, ◌≡◌, refl, Bool, true, false, not, List, ◌∷◌, ◌==◌, eqb-true, eq-eqb, zero}
 use Rattle.std.proofs.Common.{suc, [], take}
 use Rattle.std.proofs.lemmas.Bool.{false≢true, eqb-false}
 use Rattle.text.proofs.Choices.{both_left, both, both_right}
@@ -10,12 +11,12 @@ use Rattle.std.specs.Prelude.{if◌then◌else◌}
 use Rattle.record.specs.declared.types.Device.{Device}
 use Rattle.device.specs.Receiving.{set_up_password}
 use Rattle.ours.specs.Board.{ours, Board}
-use Rattle.demands.specs.Calls.{Call, opens, closes, receives, passes, marks, reports, enables, after, Gave, gave_by}
+use Rattle.demands.specs.Calls.{Call, receives, after, Gave, gave_by}
 use Rattle.demands.specs.Outsider.{Session, unopened, noted, is_matched, IsNeverMatched}
 use Rattle.demands.specs.Unheard.{Alike, same_call, other_bytes, AllAlike, no_calls, one_more, opens_none, phase_at}
 use Rattle.demands.specs.Unheard.{is_opening, QuietOnceApart, is_at_place, SameElsewhere, HeardAlike}
 use Rattle.demands.specs.Unheard.{Unheard}
-use Rattle.demands.proofs.CallsDo.{settings_stay, call_by}
+use Rattle.demands.proofs.CallsDo.{own_left, settings_stay}
 use Rattle.demands.proofs.CallsAlike.{alike_elsewhere}
 use Rattle.demands.proofs.CallsKeep.{others_untouched}
 use Rattle.demands.proofs.Outside.{Outside, outside_after, received_keeps, fresh_outside}
@@ -28,25 +29,7 @@ use Rattle.device.specs.Calls.{has_password}
 his_call : (password : List ℕ) (p : ℕ) (s : Session) (d : Device) → Outside password p s d → (c : Call)
     → is_at_place p c ≡ true → is_matched password (noted ours p d s c) ≡ false
     → SameElsewhere ours p d (after ours d c)
-his_call password p s d out (closes q) at u = record {
-  device = record {
-    settings = settings_stay d (closes q);
-    own = call_by d (closes q) (λ g e. e.own ≡ d.own) (λ n z. refl) (λ h. refl);
-  };
-  others = λ k away. others_untouched d k (closes q) (λ z. away (z ∙ eqb-true q p at));
-}
-his_call password p s d out (receives q bs m) at u = record {
-  device = record {
-    settings = settings_stay d (receives q bs m);
-    own = received_keeps password p s d out (receives q bs m) u at;
-  };
-  others = λ k away. others_untouched d k (receives q bs m) (λ z. away (z ∙ eqb-true q p at));
-}
-his_call password p s d out (opens random m) at u = absurd (false≢true at)
-his_call password p s d out (passes n) at u = absurd (false≢true at)
-his_call password p s d out (marks fault) at u = absurd (false≢true at)
-his_call password p s d out (reports errors) at u = absurd (false≢true at)
-his_call password p s d out (enables lamp mark) at u = absurd (false≢true at)
+his_call password p s d h c g e = grind (arith, settings_stay, own_left, others_untouched, eqb-true, received_keeps)
 
 module _ (password : List ℕ) (p : ℕ) (s t : Session) (d e : Device) (same : SameElsewhere ours p d e)
     (out-d : Outside password p s d) (out-e : Outside password p t e) where
@@ -61,20 +44,7 @@ module _ (password : List ℕ) (p : ℕ) (s t : Session) (d e : Device) (same : 
   -- each run changed nothing but place p
   his_step : (a b : Call) → is_at_place p a ≡ true → is_at_place p b ≡ true → NotMatched d s a → NotMatched e t b
       → Stepped a b
-  his_step a b at at-too u v =
-      let one = his_call password p s d out-d a at u in
-      let other = his_call password p t e out-e b at-too v in
-      record {
-        at_once = at ∙ sym at-too;
-        got = λ z. absurd (false≢true (sym z ∙ at));
-        left = record {
-          device = record {
-            settings = other.device.settings ∙ same.device.settings ∙ sym one.device.settings;
-            own = other.device.own ∙ same.device.own ∙ sym one.device.own;
-          };
-          others = λ q away. other.others q away ∙ same.others q away ∙ sym (one.others q away);
-        };
-      }
+  his_step a b at at-too u v = grind (arith, his_call)
 
   step : {a b : Call} (cs : List Call) → Alike p a b
       → ((phase_at ours p d ≡ phase_at ours p e → ⊥) → opens_none (a ∷ cs) ≡ true)
@@ -103,10 +73,7 @@ module _ (password : List ℕ) (p : ℕ) (s t : Session) (d e : Device) (same : 
 -- two lists, each led by one more unless it is left out
 listed : {g h : Gave} {xs ys : List Gave} (out away : Bool) → out ≡ away → (out ≡ false → g ≡ h) → xs ≡ ys
     → (if out then xs else g ∷ xs) ≡ (if away then ys else h ∷ ys)
-listed true true at got rest = rest
-listed true false at got rest = absurd (false≢true (sym at))
-listed false true at got rest = absurd (false≢true at)
-listed false false at got rest = (λ i. got refl i ∷ rest i)
+listed out away at got rest = grind arith
 
 module _ (password : List ℕ) (p : ℕ) where
   runs_alike : {xs ys : List Call} → AllAlike p xs ys → (s t : Session) (d e : Device) → SameElsewhere ours p d e
@@ -121,14 +88,7 @@ module _ (password : List ℕ) (p : ℕ) where
       record { got = listed (is_at_place p a) (is_at_place p b) one.at_once one.got rest.got; left = rest.left }
 
 pub ours_unheard : Unheard ours
-ours_unheard = record {
-  outsider_unheard = λ w p xs ys accepted secured alike never never-too quiet.
-      let d = (ours.set_up w).device in
-      let out = fresh_outside w p accepted secured in
-      let itself : SameElsewhere ours p d d
-      = record { device = record { settings = refl; own = refl }; others = λ q away. refl } in
-      runs_alike (set_up_password d.settings) p alike unopened unopened d d itself out out never never-too quiet;
-}
+ours_unheard = grind (arith, fresh_outside, runs_alike)
 
 alike_before : {p : ℕ} {xs ys : List Call} (n : ℕ) → AllAlike p xs ys → AllAlike p (take n xs) (take n ys)
 alike_before zero all = no_calls

@@ -2,16 +2,15 @@
 -- premise of it; place 0 has failed in the one and is still awaited in the other, and what place 1 did is the same in
 -- both. And its premise about openings is needed.
 -- Assumes nothing.
-use Rattle.std.proofs.Common.{ℕ, ◌≡◌, Bool, true, false, ◌&&◌, List, ◌∷◌, ◌==◌, refl, ap, ◌∙◌, [], arith, length}
+use Rattle.std.proofs.Common.{ℕ, ◌≡◌, true, false, List, ◌∷◌, refl, ap, ◌∙◌, [], arith, length}
 use Rattle.std.proofs.Common.{slice_index_or, codes}
-use Rattle.std.specs.Prelude.{if◌then◌else◌}
 use Rattle.record.specs.declared.types.Device.{Device}
 use Rattle.device.specs.Receiving.{set_up_password}
 use Rattle.ours.specs.Board.{ours, reply, lent_by}
 use Rattle.demands.specs.Calls.{opens, receives, passes, after, Call, run, Gave}
 use Rattle.demands.specs.Outsider.{Session, unopened, noted, is_matched, IsNeverMatched}
 use Rattle.demands.specs.Sample.{memory, with_cr}
-use Rattle.demands.specs.TwoRuns.{fresh_secured, led_on, calls_later, calls_given, asking, waiting, calls_since}
+use Rattle.demands.specs.TwoRuns.{fresh_secured, led_on, calls_later, calls_given, asking, waiting}
 use Rattle.demands.specs.Unheard.{AllAlike, no_calls, one_more, same_call, other_bytes, QuietOnceApart, phase_at}
 use Rattle.demands.specs.Unheard.{HeardAlike}
 use Rattle.record.specs.Limits.{awaiting, failed, cooling}
@@ -37,19 +36,11 @@ alike =
 
 is_matched-noted : (d : Device) (s : Session) (bs : List ℕ) → is_matched password s ≡ false
     → is_matched password (noted ours 0 d s (receives 1 bs memory)) ≡ false
-is_matched-noted d s bs h = by _ ((ours.receive d 1 bs memory).number == 0)
-  where
-    by : (k : Session) (t : Bool) → is_matched password (if t && false then k else s) ≡ false
-    by k true = h
-    by k false = h
+is_matched-noted d s bs h = grind arith
 
 pub later_never : (d : Device) (s : Session) → is_matched password s ≡ false
     → IsNeverMatched ours 0 password d s (receives 1 led_on memory ∷ calls_later)
-later_never d s h =
-    let next = after ours (after ours d (receives 1 led_on memory)) (passes 20) in
-    let still = is_matched-noted d s led_on h in
-    let last = is_matched-noted next (noted ours 0 d s (receives 1 led_on memory)) (with_cr "%1POWR 0") still in
-    (still, (still, (last, tt)))
+later_never d s h = grind (arith, is_matched-noted)
 
 -- the records and the sessions of the first calls
 abbrev pub greeted_one : Device
@@ -90,16 +81,13 @@ unmatched_waits = refl
 
 pub never : (bs : List ℕ) → is_matched password (session_three bs) ≡ false
     → IsNeverMatched ours 0 password fresh_secured unopened (calls_given bs)
-never bs unmatched =
-    (unmatched_one, (unmatched_two, (unmatched, later_never (spoken_to bs) (session_three bs) unmatched)))
+never bs unmatched = grind (arith, unmatched_one, unmatched_two, later_never)
 
 -- ---- they differ after the last opening
 
 pub quiet : QuietOnceApart ours 0 fresh_secured fresh_secured (calls_given asking) (calls_given waiting)
 unfolding computing
-quiet =
-    let none = nobody_opens ours 0 greeted_two greeted_two (calls_since asking) (calls_since waiting) refl in
-    ((λ apart. absurd (apart refl)), ((λ apart. absurd (apart refl)), none))
+quiet = grind (arith, nobody_opens)
 
 pub accepted : (ours.set_up secured_sample).number ≡ 0
 unfolding computing

@@ -7,7 +7,7 @@
 --                              reply read as meant
 -- Assumes nothing.
 use Rattle.std.proofs.Common.{ℕ, ◌≤◌, ◌<◌, ◌≡◌, refl, sym, ap, subst, ◌∙◌, true, false, List, ◌++◌, arith, length, ◌^◌}
-use Rattle.std.proofs.Common.{Bool, ⊎_elim}
+use Rattle.std.proofs.Common.{Bool}
 use Rattle.std.specs.Prelude.{Ok}
 use Rattle.digest.specs.Hex.{leading_digest}
 use Rattle.pjlink.specs.Commands.{command_class, is_command, command_line}
@@ -40,12 +40,10 @@ use Rattle.device.proofs.Cases.{opened_greeted, opened_lowest, greeted_by_lem}
 use Rattle.controller.specs.Greetings.{read_greeting}
 use Rattle.demands.specs.Greeted.{greeted_on}
 use Rattle.controller.proofs.GreetingsHeard.{open_heard, secured_heard}
-use Rattle.std.proofs.lemmas.Bool.{false≢true}
 use Rattle.text.proofs.Orders.{le_or_lt}
 use Rattle.record.proofs.LowestShut.{below_lowest}
-use Rattle.device.specs.Answering.{swallowed}
-use Rattle.ours.specs.Board.{bytes_written, reply, lent_by, wrote_by, ours}
-use Rattle.demands.specs.SpeaksPjlink.{BetweenLines, AnsweredAs, ByClass}
+use Rattle.ours.specs.Board.{bytes_written, reply, wrote_by, ours}
+use Rattle.demands.specs.SpeaksPjlink.{BetweenLines, ByClass}
 use Rattle.demands.proofs.KeepsRunning.{over_front}
 
 -- "between lines", no collected bytes and no overlong mark, is what the laws ask of the line
@@ -103,9 +101,7 @@ module _ (d : Device) (p : ℕ) (there : p < places_count) (legal : is_legal d �
 
     pub written_reads_back : here.phase ≡ opened → (random : ℕ) (password : List ℕ)
         → Through (written_command c false random password memory)
-    written_reads_back phase random password =
-        subst Through (sym (written_plain c false random password memory lent writable refl))
-        (refl, command_reads_back phase)
+    written_reads_back phase random password = grind (arith, written_plain, command_reads_back)
 
     -- the device's own random number and password
     pub written_reads_back_secured : here.phase ≡ awaiting
@@ -153,28 +149,7 @@ module _ (d : Device) (p : ℕ) (c : Command) (paper m : List ℕ) (writable : i
       → (command_class c ≤ d.settings.class_number → TakenAndRead d p c bs (received d p bs (length m)))
       → (d.settings.class_number < command_class c → received d p bs (length m) ≡ swallowed_at d p (length bs))
       → Told w (bytes_written (wrote_by w paper))
-  on_paper bs w e back ignored =
-      subst (λ (w : WrittenAs). Told w (bytes_written (wrote_by w paper))) (sym e)
-      (subst (Told (record { number = 0; bytes = bs })) (sym (over_front bs paper))
-      (record {
-        no_higher = λ within.
-            let told = back within in
-            record {
-              wrote = refl;
-              number = told.number;
-              taken = told.taken;
-              read = ap (read_reply c) (over_front (received d p bs (length m)).reply m) ∙ told.said;
-              device = told.device;
-            };
-        higher = λ higher. record {
-          wrote = refl;
-          left =
-              subst (λ (r : Result Device). AnsweredAs ours d p
-              (bytes_written (wrote_by (record { number = 0; bytes = bs }) paper)) (swallowed d.own) (lent_by r m))
-              (sym (ignored higher))
-              (record { number = refl; taken = ap length (sym (over_front bs paper)); replied = refl; device = refl });
-        };
-      }))
+  on_paper bs w e back ignored = grind (arith, over_front)
 
   pub reads_back : (random : ℕ) (password : List ℕ) → BetweenLines opened d p
       → let w = ours.write c false random password paper in ByClass ours d p c w (ours.receive d p (bytes_written w) m)
@@ -207,10 +182,4 @@ pub greets_back : (d : Device) (random : ℕ) (m : List ℕ) → is_legal d ≡ 
     let p = ours.place_opened d random m in
     (r.number ≡ 0) × (ours.read_greeting (reply r) ≡ greeted_on (connection_at r.device p))
 greets_back d random m legal q there closed enough word =
-    let cs = d.connections in
-    let low : lowest_shut cs ≤ q
-    = ⊎_elim (λ (h : lowest_shut cs ≤ q). h)
-    (λ (h : q < lowest_shut cs). absurd (false≢true (sym (below_lowest cs q h) ∙ closed)))
-    (le_or_lt (lowest_shut cs) q) in
-    let back = opening_greets_back d random (length m) legal (omega arith) enough word in
-    (back.0, ap read_greeting (over_front (opened_by d random (length m)).reply m) ∙ back.1)
+    grind (arith, below_lowest, le_or_lt, opening_greets_back, over_front)

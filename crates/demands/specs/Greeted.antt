@@ -1,11 +1,11 @@
 -- What an opened connection has been greeted with, as the controller reads it (RULES, Connection).
---   greeted_on c
+--   greeted_on c    the greeting, which is always one
 -- Assumes nothing.
-use Rattle.std.specs.Prelude.{if◌then◌else◌, ◌==◌}
+use Rattle.std.specs.Prelude.{if◌then◌else◌, ◌==◌, Option, Some}
 use Rattle.record.specs.Limits.{awaiting}
 use Rattle.record.specs.declared.types.Connection.{Connection}
 use Rattle.controller.specs.declared.greeting.Greeting.{Greeting}
 use Rattle.controller.specs.declared.greeting.Greeting.TheVariants.{Open, Secured}
 
-abbrev pub greeted_on : Connection → Greeting
-greeted_on c = if c.phase == awaiting then Secured c.random else Open
+abbrev pub greeted_on : Connection → Option Greeting
+greeted_on c = Some (if c.phase == awaiting then Secured c.random else Open)

@@ -55,7 +55,7 @@ use Rattle.controller.specs.Reading.{means_it, erra_said}
 use Rattle.controller.specs.Greetings.{Exactly}
 use Rattle.demands.specs.Greeted.{greeted_on}
 use Rattle.ours.specs.Board.{Board, Lent, Wrote, reply, bytes_written}
-use Rattle.demands.specs.Calls.{Call, opens, closes, receives, passes, marks, reports, enables, after}
+use Rattle.demands.specs.Calls.{Call, opens, closes, receives, passes, after}
 use Rattle.demands.specs.CallsDone.{OpenedAs, Leaves}
 use Rattle.demands.specs.Outsider.{unopened, IsNeverMatched, NoSay, HostsAlone}
 

@@ -46,7 +46,8 @@ use Rattle.device.proofs.PowerLines.{is_power_okay, power_line, PowerEffect, qui
 pub data StreamEffect (s : Settings) (o : Own) (stream reply : List ℕ) (k : Own) : Type 0 where
   stays : is_power_okay reply ≡ false → k.power ≡ o.power → k.left ≡ o.left → StreamEffect s o stream reply k
   turns : (a b c d : ℕ) (wanted : Bool) → is_body 1 (a ∷ b ∷ c ∷ d ∷ []) Powr ≡ true
-      → Ends stream (power_line a b c d wanted ++ codes "\r") → reply ≡ reply_line (code "1") a b c d (codes "OK")
+      → Ends stream (power_line a b c d wanted ++ codes "\r")
+      → reply ≡ reply_line (code "1") (a ∷ b ∷ c ∷ d ∷ []) (codes "OK")
       → meant s o (Ok (PowerSet wanted)) ≡ okay → k ≡ done s o (Ok (PowerSet wanted))
       → StreamEffect s o stream reply k
 

@@ -28,6 +28,7 @@ use Rattle.pjlink.proofs.SaidRows.{said_row}
 use Rattle.pjlink.specs.Said.{Said, okay, said_bytes}
 use Rattle.record.specs.declared.types.Settings.{Settings}
 use Rattle.record.specs.declared.types.Own.{Own}
+use Rattle.record.specs.Views.{power_seen}
 use Rattle.meaning.specs.Meaning.{meant, done, power_said, request_answer, carried_out}
 use Rattle.meaning.proofs.PowerSets.{PowerTurn, stays, warms, cools, power_turns}
 use Rattle.device.specs.Answering.{Answered, line_asks, replied, line_answer}
@@ -49,7 +50,7 @@ module _ (s : Settings) (o : Own) where
 
   powr_comes : (p : List ℕ) → Comes (asked_of Powr p)
   powr_comes p =
-      powr_by Comes p (comes (Ok (Query Powr)) (λ p. unchanged (power_not_okay (power_said o.power)) refl refl))
+      powr_by Comes p (comes (Ok (Query Powr)) (λ p. unchanged (power_not_okay (power_said (power_seen o))) refl refl))
       (λ wanted. comes (Ok (PowerSet wanted)) (λ p. carried wanted refl refl))
       (comes (Err (Unlisted Powr)) (λ p. unchanged nothing_not_okay refl refl))
 
@@ -65,30 +66,31 @@ four_and true false z w t = refl
 four_and false y z w t = refl
 
 module _ (a b c d : ℕ) (p : List ℕ) where
-  okay_by_parts : is_power_okay (reply_line (code "1") a b c d p)
+  okay_by_parts : is_power_okay (reply_line (code "1") (a ∷ b ∷ c ∷ d ∷ []) p)
       ≡ (is_body 1 (a ∷ b ∷ c ∷ d ∷ []) Powr && same_by upper_of (p ++ (code "\r" ∷ [])) (codes "OK\r"))
   okay_by_parts =
       four_and (upper_of a == code "P") (upper_of b == code "O") (upper_of c == code "W")
       (upper_of d == code "R")
       (same_by upper_of (p ++ (code "\r" ∷ [])) (codes "OK\r"))
 
-  other_reply : is_body 1 (a ∷ b ∷ c ∷ d ∷ []) Powr ≡ false → is_power_okay (reply_line (code "1") a b c d p) ≡ false
+  other_reply : is_body 1 (a ∷ b ∷ c ∷ d ∷ []) Powr ≡ false
+      → is_power_okay (reply_line (code "1") (a ∷ b ∷ c ∷ d ∷ []) p) ≡ false
   other_reply e =
       okay_by_parts ∙ ap (λ (t : Bool). t && same_by upper_of (p ++ (code "\r" ∷ [])) (codes "OK\r")) e
 
   other_said : same_by upper_of (p ++ (code "\r" ∷ [])) (codes "OK\r") ≡ false
-      → is_power_okay (reply_line (code "1") a b c d p) ≡ false
+      → is_power_okay (reply_line (code "1") (a ∷ b ∷ c ∷ d ∷ []) p) ≡ false
   other_said e =
       okay_by_parts ∙ ap (λ (t : Bool). is_body 1 (a ∷ b ∷ c ∷ d ∷ []) Powr && t) e
       ∙ and-false (is_body 1 (a ∷ b ∷ c ∷ d ∷ []) Powr)
 
-reply_line-said_bytes : (h a b c d : ℕ) (m : Said) → m ≡ okay →
-    reply_line h a b c d (said_bytes m) ≡ reply_line h a b c d (codes "OK")
-reply_line-said_bytes h a b c d m e =
-    ap (λ (x : Said). reply_line h a b c d (said_bytes x)) e ∙ ap (reply_line h a b c d) (said_row okay)
+reply_line-said_bytes : (h : ℕ) (s : List ℕ) (m : Said) → m ≡ okay
+    → reply_line h s (said_bytes m) ≡ reply_line h s (codes "OK")
+reply_line-said_bytes h s m e =
+    ap (λ (x : Said). reply_line h s (said_bytes x)) e ∙ ap (reply_line h s) (said_row okay)
 
 pub okay_reply : (a b c d : ℕ) → is_body 1 (a ∷ b ∷ c ∷ d ∷ []) Powr ≡ true
-    → is_power_okay (reply_line (code "1") a b c d (codes "OK")) ≡ true
+    → is_power_okay (reply_line (code "1") (a ∷ b ∷ c ∷ d ∷ []) (codes "OK")) ≡ true
 okay_reply a b c d e = okay_by_parts a b c d (codes "OK") ∙ ap (λ (t : Bool). t && true) e
 
 -- a line of the form with a parameter of one byte is spelt by its parts
@@ -135,7 +137,7 @@ module _ (a b c d : ℕ) (powr : is_body 1 (a ∷ b ∷ c ∷ d ∷ []) Powr ≡
 pub data PowerEffect (s : Settings) (o : Own) (l reply : List ℕ) (k : Own) : Type 0 where
   quiet : is_power_okay reply ≡ false → k.power ≡ o.power → k.left ≡ o.left → PowerEffect s o l reply k
   sets : (a b c d : ℕ) (wanted : Bool) → is_body 1 (a ∷ b ∷ c ∷ d ∷ []) Powr ≡ true → l ≡ power_line a b c d wanted
-      → reply ≡ reply_line (code "1") a b c d (codes "OK") → meant s o (Ok (PowerSet wanted)) ≡ okay
+      → reply ≡ reply_line (code "1") (a ∷ b ∷ c ∷ d ∷ []) (codes "OK") → meant s o (Ok (PowerSet wanted)) ≡ okay
       → k ≡ done s o (Ok (PowerSet wanted)) → PowerEffect s o l reply k
 
 module _ (s : Settings) (o : Own) (l : List ℕ) where
@@ -144,7 +146,7 @@ module _ (s : Settings) (o : Own) (l : List ℕ) where
 
   -- a reply under the class byte h
   abbrev reply_under : ℕ → List ℕ → List ℕ
-  reply_under h p = reply_line h (l at 2) (l at 3) (l at 4) (l at 5) p
+  reply_under h p = reply_line h (head_body l) p
 
   abbrev is_powr : ℕ → Bool
   is_powr h = is_body (class_of_byte h) (head_body l) Powr
@@ -180,7 +182,7 @@ module _ (s : Settings) (o : Own) (l : List ℕ) where
           ∙ (λ i. codes "%" ++ (first i ∷ head_body l) ++ codes " "
           ++ power_parameter (command_parameter l) wanted (sym is_asked ∙ r) i))
           (ap (λ (h : ℕ). reply_under h said) first
-          ∙ reply_line-said_bytes (code "1") (l at 2) (l at 3) (l at 4) (l at 5) (meant s o (line_asks l)) m)
+          ∙ reply_line-said_bytes (code "1") (head_body l) (meant s o (line_asks l)) m)
           (ap (meant s o) (sym r) ∙ m) (ap (done s o) r)
 
       powr_effect : EffectOf (replied s o l)

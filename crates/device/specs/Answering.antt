@@ -28,7 +28,7 @@ swallowed o = record { own = o; reply = [] }
 abbrev pub replied : Settings → Own → List ℕ → Answered
 replied s o l = record {
   own = done s o (line_asks l);
-  reply = reply_line (l at 1) (l at 2) (l at 3) (l at 4) (l at 5) (said_bytes (meant s o (line_asks l)));
+  reply = reply_line (l at 1) (head_body l) (said_bytes (meant s o (line_asks l)));
 }
 
 unfoldable pub line_answer : Settings → Own → List ℕ → Answered

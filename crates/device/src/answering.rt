@@ -1,6 +1,5 @@
 //! A line on an open connection: decided over what it asks, then written.
 ghost use Rattle.std.specs.Prelude.{◌≡◌, ◌≤◌, length};
-ghost use Rattle.words.specs.Bytes.{◌at◌};
 ghost use Rattle.words.specs.Classes.{class_code};
 ghost use Rattle.pjlink.specs.Forms.{reply_line};
 ghost use Rattle.pjlink.specs.Said.{parameter_most, said_bytes};
@@ -18,8 +17,7 @@ use words::codec::Line;
 // The reply to a line of this class and these letters.
 fn reply_line(class: ClassNumber, letters: [u8; 4], reply: &Reply<'_>) -> Line
     requires { length (said_bytes (said_by reply.now)) ≤ parameter_most }
-    ensures { result.items ≡ reply_line (class_code class) (letters at 0) (letters at 1) (letters at 2)
-        (letters at 3) (said_bytes (said_by reply.now)) }
+    ensures { result.items ≡ reply_line (class_code class) letters (said_bytes (said_by reply.now)) }
 {
     let [a, b, c, d] = letters;
     let mut line = Line::new();

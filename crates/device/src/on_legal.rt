@@ -10,9 +10,9 @@ ghost use Rattle.device.specs.Outcomes.{told, receiving_told, opening_told, open
 use crate::calls::{Opened, Received};
 use crate::receiving::Taken;
 use crate::{places, receiving};
-use record::connection::{AWAITING, OPENED};
 use record::refusal::Refusal;
 use record::types::{Connection, Device, PLACES, Settings};
+use record::views::Phase;
 use words::codec;
 use words::codec::Line;
 
@@ -82,17 +82,16 @@ fn greeting(s: &Settings, random: u32) -> Line
 }
 
 // The connection as a greeting leaves it: open where there is no password, else awaiting the digest.
-#[tactic(auto, using(stream::proofs::LinesSpelt::empty_spelt), unfolding(crate::specs::Calls::greeted))]
+#[tactic(auto, unfolding(crate::specs::Calls::greeted))]
 fn greet(s: &Settings, random: u32, c: &mut Connection)
     ensures { c.new ≡ greeted s.now random }
 {
-    *c = Connection::CLOSED;
-    c.random = random;
-    c.phase = if s.password.len == 0 {
-        OPENED
+    let phase = if s.password.len == 0 {
+        Phase::Open { random }
     } else {
-        AWAITING
+        Phase::Awaiting { age: 0, random }
     };
+    receiving::turn(c, phase);
 }
 
 /// As `calls::open`, but for `NotLegal`.

@@ -5,6 +5,7 @@ ghost use Rattle.record.specs.Places.{is_shut, lowest_shut};
 use record::connection::SHUT;
 use record::types::{Connection, PLACES};
 
+// Over the number, since any other is none of a closed connection, one of no phase too.
 pub fn is_shut(c: &Connection) -> bool
     ensures { result ≡ is_shut c.now }
 {

@@ -1,10 +1,12 @@
 // Receiving, on settings, the projector's own part and one connection.
 ghost use Rattle.std.specs.Prelude.{◌≡◌, take};
 ghost use Rattle.device.specs.Ready.{IsReady};
-ghost use Rattle.device.specs.Receiving.{turned, is_match, line_ended, keeping_line, taken_in};
+ghost use Rattle.device.specs.Receiving.{is_match, line_ended, keeping_line, taken_in};
+ghost use Rattle.record.specs.Updates.{with_line};
+ghost use Rattle.record.specs.Views.{with_phase};
+ghost use Rattle.stream.specs.Collecting.{empty_line};
 
 use crate::answering;
-use record::connection::{FAILED, OPENED};
 use record::types::{Connection, Line, Own, Settings};
 use record::views::Phase;
 use words::codec;
@@ -20,11 +22,10 @@ pub struct Taken {
 
 // The connection in another phase, with nothing collected.
 #[tactic(auto, using(stream::proofs::LinesSpelt::empty_spelt))]
-fn turn(c: &mut Connection, phase: u8)
-    ensures { c.new ≡ turned c.old phase }
+pub(crate) fn turn(c: &mut Connection, phase: Phase)
+    ensures { c.new ≡ with_line (with_phase c.old phase) empty_line }
 {
-    c.phase = phase;
-    c.age = 0;
+    c.set_phase(phase);
     c.line = Connection::CLOSED.line;
 }
 
@@ -58,19 +59,19 @@ fn end_line(s: &Settings, o: &mut Own, c: &mut Connection, l: &Line) -> codec::L
 {
     let mut reply = codec::Line::new();
     match c.phase() {
-        Phase::Open { .. } => {
-            turn(c, OPENED);
+        Phase::Open { random } => {
+            turn(c, Phase::Open { random });
             if !l.overlong {
                 reply = answering::answer_line(s, o, first(&l.bytes, l.held));
             }
         }
-        Phase::Awaiting { .. } => {
+        Phase::Awaiting { random, .. } => {
             if matches(s, c, l) {
-                turn(c, OPENED);
+                turn(c, Phase::Open { random });
                 let (_, line) = first(&l.bytes, l.held).split_at(DIGEST_LONG);
                 reply = answering::answer_line(s, o, line);
             } else {
-                turn(c, FAILED);
+                turn(c, Phase::Failed { age: 0, random });
                 codec::put_all(b"PJLINK ERRA\r", &mut reply);
             }
         }
@@ -84,13 +85,13 @@ fn end_line(s: &Settings, o: &mut Own, c: &mut Connection, l: &Line) -> codec::L
 fn keep(c: &mut Connection, l: &Line)
     ensures { c.new ≡ keeping_line c.old l.now }
 {
-    if c.phase != FAILED {
+    if !matches!(c.phase(), Phase::Failed { .. }) {
         c.line = *l;
     }
 }
 
 // Takes the bytes up to and including the first CR, or all.
-#[tactic(auto, unfolding(crate::specs::Receiving::taken_in))]
+#[tactic(auto, using(record::proofs::PhaseSeen::phase_tests), unfolding(crate::specs::Receiving::taken_in))]
 pub fn take_in(s: &Settings, o: &mut Own, c: &mut Connection, bytes: &[u8]) -> Taken
     requires { IsReady s.now o.old }
     ensures taken { result.taken ≡ (taken_in s.now o.old c.old bytes.now).taken }
@@ -99,7 +100,7 @@ pub fn take_in(s: &Settings, o: &mut Own, c: &mut Connection, bytes: &[u8]) -> T
     ensures connection { c.new ≡ (taken_in s.now o.old c.old bytes.now).ended.connection }
 {
     let mut line = c.line;
-    let passed = stream::gather(c.phase, &mut line, bytes);
+    let passed = stream::gather(c.phase(), &mut line, bytes);
     if !passed.ended {
         keep(c, &line);
         return Taken {

@@ -7,3 +7,4 @@ pub mod PowerSets
 pub mod InputSets
 pub mod LampsSaid
 pub mod LampsTold
+pub mod PowerSaid

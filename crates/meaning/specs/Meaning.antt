@@ -9,6 +9,7 @@
 --   done s o r            the own part after it
 -- Assumes nothing.
 use Rattle.std.specs.Prelude.{ℕ, ◌+◌, ◌-◌, ◌/◌, Bool, false, not, ◌&&◌, ◌||◌, List, [], ◌∷◌, take}
+use Prim.Native.Char.{code}
 use Rattle.std.specs.Prelude.{if◌then◌else◌, Ok, Err, slice_index_or, nat_lt, ◌==◌}
 use Rattle.words.specs.declared.input.Input.{Input}
 use Rattle.pjlink.specs.declared.body.Body.{Body}
@@ -30,7 +31,10 @@ use Rattle.words.specs.declared.lamp.LampHours.{LampHours}
 use Rattle.record.specs.Limits.{off, on, cooling, warming, is_lit, volume_most}
 use Rattle.record.specs.Updates.{with_power_left, with_chosen, with_mutes, with_freeze, with_volumes}
 use Rattle.record.specs.Record.{blank_name}
-use Rattle.record.specs.Views.{class_seen}
+use Rattle.record.specs.Views.{power_seen, class_seen}
+use Rattle.record.specs.declared.views.Power.{Power as PowerSeen}
+use Rattle.record.specs.declared.views.Power.TheVariants.{Off as SeenOff, WarmUp as SeenWarmUp}
+use Rattle.record.specs.declared.views.Power.TheVariants.{On as SeenOn, Cooling as SeenCooling}
 use Rattle.record.specs.declared.types.Text.{Text}
 use Rattle.record.specs.declared.types.InputName.{InputName}
 use Rattle.record.specs.declared.types.Settings.{Settings}
@@ -38,13 +42,16 @@ use Rattle.record.specs.declared.types.Own.{Own}
 use Rattle.meaning.specs.SetUpInputs.{no_input, inputs_of, place_of}
 use Rattle.meaning.specs.Rules.{is_undefined, is_out_of_parameter, is_failure, is_unavailable}
 
--- 0 off, 1 on, 2 cooling, 3 warm-up
-unfoldable pub power_said : ℕ → Power
-power_said power =
-    if power == off then Off
-    else if power == on then On
-    else if power == cooling then Cooling
-    else WarmUp
+-- in PJLink's words: 0 off, 1 on, 2 cooling, 3 warm-up
+abbrev pub power_said : PowerSeen → Power
+power_said SeenOff = Off
+power_said (SeenWarmUp left) = WarmUp
+power_said SeenOn = On
+power_said (SeenCooling left) = Cooling
+
+-- the character of a power's number
+abbrev pub power_digit : ℕ → ℕ
+power_digit n = code "0" + n
 
 abbrev pub chosen_of : Settings → Own → Input
 chosen_of s o = slice_index_or (inputs_of s) o.chosen no_input
@@ -73,7 +80,7 @@ input_name_of s i = name_bytes (slice_index_or s.names (place_of s i) blank_name
 
 -- a body without a query is never asked one (Rules, `is_no_query`)
 abbrev pub query_answer : Settings → Own → Body → Said
-query_answer s o Powr = power_is (power_said o.power)
+query_answer s o Powr = power_is (power_said (power_seen o))
 query_answer s o Inpt = chosen_is (chosen_of s o)
 query_answer s o Avmt = mutes_are o.video_muted o.audio_muted
 query_answer s o Erst = errors_are o.errors

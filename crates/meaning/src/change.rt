@@ -8,7 +8,7 @@ use record::own::{OFF, ON, VOLUME_MOST};
 use record::types::{Own, Settings};
 use record::views::Power;
 
-// POWR 1 when off starts warm-up, POWR 0 when on starts cooling; otherwise the power stays.
+// POWR 1 when off starts warm-up, POWR 0 when on starts cooling; otherwise the power stays, a number of none too.
 #[tactic(auto, unfolding(crate::specs::Meaning::after_power))]
 fn set_power(s: &Settings, o: &mut Own, wanted: bool)
     ensures { o.new ≡ after_power s.now o.old wanted }

@@ -2,12 +2,12 @@
 ghost use Rattle.std.specs.Prelude.{◌≡◌, Ok};
 ghost use Rattle.meaning.specs.Rules.{is_no_query, is_undefined, is_out_of_parameter, is_failure, is_untimely};
 ghost use Rattle.meaning.specs.Rules.{is_unavailable};
+ghost use Rattle.record.specs.Views.{power_number};
 
 use crate::inputs;
 use pjlink::command::Command;
-use record::own;
-use record::own::ON;
 use record::types::{Own, Settings};
+use record::views::Power;
 
 fn is_no_query(c: Command) -> bool
     ensures { result ≡ is_no_query c }
@@ -44,18 +44,19 @@ pub fn is_failure(o: &Own, c: Command) -> bool
     c.body().has_set() && o.fault
 }
 
-fn is_untimely(power: u8, c: Command) -> bool
-    ensures { result ≡ is_untimely power c }
+fn is_untimely(power: Power, c: Command) -> bool
+    ensures { result ≡ is_untimely (power_number power) c }
 {
     match c {
-        Command::PowerSet(_) => own::is_between(power),
-        _ => c.body().row().on && power != ON,
+        Command::PowerSet(_) => power.is_between(),
+        _ => c.body().row().on && !matches!(power, Power::On),
     }
 }
 
 /// Rule 4: a command that the power does not allow now.
+#[tactic(auto, using(record::proofs::PowerSeen::power_tests))]
 pub fn is_unavailable(o: &Own, c: Command) -> bool
     ensures { result ≡ is_unavailable o.now (Ok c) }
 {
-    is_untimely(o.power, c)
+    is_untimely(o.power(), c)
 }

@@ -9,11 +9,10 @@ use arrayvec::ArrayVec;
 use pjlink::answer::Answer;
 use pjlink::body::Body;
 use pjlink::command::Command;
-use record::own;
-use record::own::{COOLING, OFF, ON};
 use record::types::{
     INPUT_NAME_MOST, INPUTS_MOST, InputName, LAMPS_MOST, Own, Settings, TEXT_ROOM, Text,
 };
+use record::views;
 use words::input::Input;
 use words::lamp::LampHours;
 use words::mutes::Mutes;
@@ -21,15 +20,14 @@ use words::power::Power;
 
 const HOUR: u32 = 3600;
 
-#[tactic(auto, unfolding(crate::specs::Meaning::power_said))]
-fn power_said(power: u8) -> Power
+fn power_said(power: views::Power) -> Power
     ensures { result ≡ power_said power }
 {
     match power {
-        OFF => Power::Off,
-        ON => Power::On,
-        COOLING => Power::Cooling,
-        _ => Power::WarmUp,
+        views::Power::Off => Power::Off,
+        views::Power::WarmUp { .. } => Power::WarmUp,
+        views::Power::On => Power::On,
+        views::Power::Cooling { .. } => Power::Cooling,
     }
 }
 
@@ -76,11 +74,12 @@ fn name_at(names: &[InputName; INPUTS_MOST], place: usize) -> &[u8]
 }
 
 // A body without a query has no answer.
+#[tactic(auto, using(record::proofs::PowerSeen::power_tests))]
 fn query_answer<'a>(s: &'a Settings, o: &Own, b: Body) -> Option<Answer<'a>>
     ensures { value_said result ≡ query_answer s.now o.now b }
 {
     match b {
-        Body::Powr => Some(Answer::Power(power_said(o.power))),
+        Body::Powr => Some(Answer::Power(power_said(o.power()))),
         Body::Inpt | Body::Inpt2 => { Some(Answer::Input(inputs::input_at(s, o.chosen))) }
         Body::Avmt => Some(Answer::Mutes(Mutes {
             video: o.video_muted,
@@ -88,7 +87,7 @@ fn query_answer<'a>(s: &'a Settings, o: &Own, b: Body) -> Option<Answer<'a>>
         })),
         Body::Erst => Some(Answer::Errors(o.errors)),
         Body::Lamp => {
-            let lit = own::is_lit(o.power);
+            let lit = o.power().is_burning();
             Some(Answer::Lamps(lamps_said(&o.lamps, &o.enabled, s.lamp_count, lit)))
         }
         Body::Inst | Body::Inst2 => Some(Answer::Inputs(inputs::inputs_of(s))),

@@ -2,6 +2,7 @@
 //! contracts is that the theorems stand.
 ghost use Rattle.std.specs.Prelude.{◌≡◌, Bool, true, false, Result, Ok};
 ghost use Rattle.words.specs.Inputs.{is_input};
+ghost use Rattle.words.specs.Powers.{power_code};
 ghost use Rattle.words.specs.declared.input.Input.{Input};
 ghost use Rattle.words.specs.declared.refusal.Refusal.{Refusal};
 ghost use Rattle.pjlink.specs.declared.answer.Answer.{Answer};
@@ -13,11 +14,13 @@ ghost use Rattle.pjlink.specs.Said.{okay, refused, chosen_is};
 ghost use Rattle.pjlink.specs.Carried.{said_by};
 ghost use Rattle.record.specs.Limits.{is_between};
 ghost use Rattle.record.specs.Legal.{is_settings};
+ghost use Rattle.record.specs.Facts.{IsOwn};
+ghost use Rattle.record.specs.Views.{power_seen};
 ghost use Rattle.record.specs.declared.types.Settings.{Settings};
 ghost use Rattle.record.specs.declared.types.Own.{Own};
 ghost use Rattle.meaning.specs.SetUpInputs.{is_listed};
 ghost use Rattle.meaning.specs.Rules.{is_undefined, is_out_of_parameter, is_failure, is_unavailable};
-ghost use Rattle.meaning.specs.Meaning.{request_answer, carried_out, meant, done};
+ghost use Rattle.meaning.specs.Meaning.{power_said, power_digit, request_answer, carried_out, meant, done};
 
 /// Two results that meet the promise of a call say the same, and leave the same.
 pub fn one_result()
@@ -59,6 +62,12 @@ pub fn an_input_set_is_answered()
         → meant s o (Ok (InputSet i)) ≡ okay
         → meant s (done s o (Ok (InputSet i))) (Ok (Query Inpt)) ≡ chosen_is i }
     ensures carried { (s : Settings) (i : Input) → is_settings s ≡ true → is_listed s i ≡ true → is_input i ≡ true }
+{}
+
+/// POWR answers the number that a legal record has of the power.
+#[tactic(auto, using(crate::proofs::PowerSaid::power_code_said))]
+pub fn the_power_is_answered_by_its_number()
+    ensures { (s : Settings) (o : Own) → IsOwn s o → power_code (power_said (power_seen o)) ≡ power_digit o.power }
 {}
 
 /// A power set is answered OK exactly where the projector is neither at fault nor between on and off.

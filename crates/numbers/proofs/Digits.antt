@@ -1,23 +1,21 @@
 -- The digits of a number: by the quotient and the last digit, how many there are, and that each is a digit.
 -- Assumes nothing.
+use Rattle.std.proofs.lemmas.Grind.{common_steps}
 use Rattle.std.specs.List.{list_all}
-use Rattle.std.proofs.Common.{ℕ, zero, suc, ◌+◌, ◌/◌, ◌^◌, ◌<◌, ◌≤◌, ◌≡◌, refl, sym, ap, ◌∙◌, true, false, not, List}
+use Rattle.std.proofs.Common.{ℕ, zero, suc, ◌+◌, ◌/◌, ◌^◌, ◌<◌, ◌≤◌, ◌≡◌, refl, sym, ap, ◌∙◌, true, not, List}
 use Rattle.std.proofs.Common.{[], ◌∷◌, ◌++◌, pow-suc, suc-add, zero-add, arith, length, slice_index_or, length-append}
-use Rattle.std.proofs.Common.{nat_lt, nat_le, lt-ltb, le-ltb, le-leb, ltb-true, ltb-false, leb-true, ne_eqb}
+use Rattle.std.proofs.Common.{nat_le, lt-ltb, le-ltb, le-leb, leb-true}
 use Rattle.std.proofs.Math.Nat.{pow-le-pow_right}
 use Prim.Native.Char.{Char, code}
-use Rattle.std.specs.Prelude.{if◌then◌else◌}
 use Rattle.text.specs.Words.{◌is◌}
-use Rattle.text.proofs.Choices.{if_by, both, both_left, both_right}
+use Rattle.text.proofs.Choices.{both, both_right}
 use Rattle.text.proofs.Scanning.{list_all-append, list_all_at, list_all_implies}
 use Rattle.numbers.specs.Decimal.{last_digit, digits_in, digits, long_digits, is_digit}
 
 -- one quotient more to take changes nothing
 room : (k n : ℕ) → n < 10 ^ suc k → digits_in (suc k) n ≡ digits_in k n
 room zero n h = simp (lt-ltb n 10 (omega (arith, pow-suc 10 0)))
-room (suc k) n h =
-    ap (λ (l : List ℕ). if nat_lt n 10 then last_digit n ∷ [] else l ++ (last_digit n ∷ []))
-    (room k (n / 10) (omega (arith, pow-suc 10 (suc k))))
+room (suc k) n h = grind (arith, room k (n / 10) (omega (arith, pow-suc 10 (suc k))))
 
 more_room : (j k n : ℕ) → n < 10 ^ suc k → digits_in (j + k) n ≡ digits_in k n
 more_room zero k n h = ap (λ (m : ℕ). digits_in m n) (zero-add k)
@@ -60,12 +58,7 @@ module _
   where
     digits_In_all : (k n : ℕ) → P k n (digits_in k n)
     digits_In_all zero n = end n
-    digits_In_all (suc k) n =
-        if_by
-        (P (suc k) n)
-        (nat_lt n 10)
-        (λ e. low k n (ltb-true n 10 e))
-        (λ e. high k n (digits_in k (n / 10)) (ltb-false n 10 e) (digits_In_all k (n / 10)))
+    digits_In_all (suc k) n = grind (arith, digits_In_all k (n / 10))
 
 -- what holds of each number below ten, and of a number where it holds of its quotient, holds of list_all u32
 pub digits_all :
@@ -76,15 +69,7 @@ pub digits_all :
     → n < 2 ^ 32
     → P n (digits n)
 unfolding digits
-digits_all P low high n f =
-    digits_In_all
-    (λ (k n : ℕ) (l : List ℕ). n < 10 ^ suc k → P n l)
-    (λ n h. low n (omega (arith, pow-suc 10 0)))
-    (λ k n h g. low n h)
-    (λ k n l h p g. high n l h (p (omega (arith, pow-suc 10 (suc k)))))
-    9
-    n
-    (omega arith)
+digits_all P low high n f = grind (arith, common_steps)
 
 lengths_in : (k n : ℕ) → (1 ≤ length (digits_in k n)) × (length (digits_in k n) ≤ suc k)
 lengths_in =
@@ -124,9 +109,6 @@ digits_at_most_5 n h = digits_at_most 4 n (omega arith) h
 pub digit_is_digit : (b : ℕ) → code "0" ≤ b → b ≤ code "9" → is_digit b ≡ true
 digit_is_digit b l h = simp (le-leb (code "0") b l, le-leb b (code "9") h)
 
-pub digit_from : (b : ℕ) → is_digit b ≡ true → code "0" ≤ b
-digit_from b e = leb-true (code "0") b (both_left (nat_le (code "0") b) (nat_le b (code "9")) e)
-
 pub digit_to : (b : ℕ) → is_digit b ≡ true → b ≤ code "9"
 digit_to b e = leb-true b (code "9") (both_right (nat_le (code "0") b) (nat_le b (code "9")) e)
 
@@ -135,22 +117,11 @@ last_is_digit n = both (digit_is_digit (last_digit n) (omega arith) (omega arith
 
 pub digits_are_digits : (n : ℕ) → list_all is_digit (digits n) ≡ true
 unfolding digits
-digits_are_digits =
-    digits_In_all
-    (λ (k n : ℕ) (l : List ℕ). list_all is_digit l ≡ true)
-    last_is_digit
-    (λ k n h. last_is_digit n)
-    (λ k n l h p. list_all-append is_digit l (last_digit n ∷ []) p (last_is_digit n))
-    9
+digits_are_digits = grind (arith, last_is_digit, list_all-append)
 
 pub is_digit-slice_index_or : (n i : ℕ) → i < length (digits n) → is_digit (slice_index_or (digits n) i 0) ≡ true
 is_digit-slice_index_or n = list_all_at is_digit (digits n) 0 (digits_are_digits n)
 
 -- no CR, no space, and none of the other characters below the digits
-pub digit_isnt : (c : Char) → code c < code "0" → (b : ℕ) → is_digit b ≡ true → (b is c) ≡ false
-digit_isnt c l b e = ne_eqb b (code c) (λ f. omega (arith, digit_from b e))
-
 pub digits_without : (c : Char) → code c < code "0" → (n : ℕ) → list_all (λ (b : ℕ). not (b is c)) (digits n) ≡ true
-digits_without c l n =
-    list_all_implies is_digit (λ (b : ℕ). not (b is c)) (λ b e. ap not (digit_isnt c l b e))
-    (digits n) (digits_are_digits n)
+digits_without c l n = search (arith, list_all_implies, digits_are_digits n)

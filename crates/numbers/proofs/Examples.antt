@@ -1,7 +1,6 @@
 -- Numbers written and read, worked out.
 -- Assumes nothing.
-use Rattle.std.proofs.Common.{◌≡◌, refl, [], codes}
-use Rattle.std.specs.Prelude.{Some, None}
+use Rattle.std.proofs.Common.{◌≡◌, refl, [], codes, Some, None}
 use Rattle.numbers.specs.Decimal.{digits, read_digits, read_number}
 
 writes_0 : digits 0 ≡ codes "0"

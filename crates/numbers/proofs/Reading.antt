@@ -1,8 +1,7 @@
 -- The loop that reads decimal digits: what is read where a byte is none, and at the end of the bytes.
 -- Assumes nothing.
-use Rattle.std.proofs.Common.{ℕ, ◌<◌, ◌≤◌, ◌≡◌, ap, ◌∙◌, false, List, length, slice_index_or}
-use Rattle.std.specs.Prelude.{Some, None}
-use Rattle.text.proofs.Choices.{if_yes, if_no}
+use Rattle.std.proofs.Common.{arith, ℕ, ◌<◌, ◌≤◌, ◌≡◌, false, List, length, slice_index_or, Some, None}
+use Rattle.text.proofs.Choices.{if_no}
 use Rattle.text.proofs.Scanning.{one_fails, all_passed}
 use Rattle.text.proofs.DigitsRead.{ReadTo, all_read}
 use Rattle.numbers.specs.Decimal.{is_digit, decimal_worth, read_digits}
@@ -14,5 +13,4 @@ module _ (s : List ℕ) {v i : ℕ} (p : ReadTo 10 decimal_worth is_digit s v i)
 
   pub digits_read : length s ≤ i → read_digits s ≡ Some v
   unfolding read_digits
-  digits_read h =
-      if_yes _ _ (all_passed is_digit s 0 p.passed h) ∙ ap Some (all_read 10 decimal_worth is_digit s p h)
+  digits_read h = grind (arith, all_passed, all_read)

@@ -7,7 +7,7 @@
 --   Board         the calls; a board may keep more than the device record, which `shows` gives
 --   ours          our calls: beside each, the function whose contract says this very definition
 -- Assumes nothing.
-use Rattle.std.specs.Prelude.{ℕ, Bool, List, length, take}
+use Rattle.std.specs.Prelude.{ℕ, Bool, List, Option, length, take}
 use Rattle.text.specs.Words.{over}
 use Rattle.digest.specs.Md5.{md5_of}
 use Rattle.pjlink.specs.declared.command.Command.{Command}
@@ -63,7 +63,7 @@ pub record Board : Type 1 where
   pub md5 : List ℕ → List ℕ
   pub write : Command → Bool → ℕ → List ℕ → List ℕ → Wrote
   pub read_reply : Command → List ℕ → ReadAs
-  pub read_greeting : List ℕ → Greeting
+  pub read_greeting : List ℕ → Option Greeting
 
 -- the results of the crates below; the reply's length is its own, and it lies over the lent memory
 abbrev pub closed_as : Result Device → Given Device

@@ -7,7 +7,7 @@
 -- Assumes nothing.
 use Rattle.std.specs.Prelude.{ℕ, List}
 use Rattle.record.specs.declared.types.Device.{Device}
-use Rattle.stored.specs.declared.storing.FormWritten.{FormWritten}
+use Rattle.stored.specs.Told.{StoreTold}
 use Rattle.device.specs.Outcomes.{Told}
 use Rattle.controller.specs.Writing.{WriteTold}
 use Rattle.record.specs.Given.{Given}
@@ -19,7 +19,7 @@ lent_as t d m = record { number = t.number; taken = t.taken; length = t.length; 
 abbrev pub wrote_as : WriteTold → List ℕ → Wrote
 wrote_as r m = record { number = r.number; length = r.length; memory = m }
 
-abbrev pub wrote_form : FormWritten → List ℕ → Wrote
+abbrev pub wrote_form : StoreTold → List ℕ → Wrote
 wrote_form r m = record { number = r.number; length = r.length; memory = m }
 
 abbrev pub given_as : ℕ → Device → Given Device

@@ -14,7 +14,7 @@ pub fn read_reply(c: Command, line: &[u8]) -> Result<Reading<'_>, Misread>
     reading::read_reply(c, line)
 }
 
-pub fn read_greeting(line: &[u8]) -> Greeting
+pub fn read_greeting(line: &[u8]) -> Option<Greeting>
     ensures { result ≡ ours.read_greeting line.now }
 {
     greeting::read_greeting(line)

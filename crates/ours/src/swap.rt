@@ -1,16 +1,16 @@
 // `ours`'s storing and loading.
 ghost use Rattle.std.specs.Prelude.{◌≡◌};
-ghost use Rattle.stored.specs.Told.{loading_told};
+ghost use Rattle.stored.specs.Told.{storing_told, loading_told};
 ghost use Rattle.ours.specs.Board.{ours};
 ghost use Rattle.ours.specs.Tied.{wrote_form};
 
+use record::refusal::Refusal;
 use record::types::Device;
 use stored::error::LoadError;
-use stored::storing::FormWritten;
 use stored::{loading, storing};
 
-pub fn store(device: &Device, out: &mut [u8]) -> FormWritten
-    ensures { wrote_form result out.new ≡ ours.store device.now out.old }
+pub fn store(device: &Device, out: &mut [u8]) -> Result<usize, Refusal>
+    ensures { wrote_form (storing_told result) out.new ≡ ours.store device.now out.old }
 {
     storing::store(device, out)
 }

@@ -47,9 +47,9 @@ module _ (e : Entry) (l : List ℕ) where
   step_replied c u = grind (arith, if_no, ne_eqb)
 
   -- each row is the step
-  not_greeting : (g : Greeting) → is_greeting g ≡ false → greeted_as e g ≡ strayed e
-  not_greeting Open n = cc
-  not_greeting (Secured r) n = cc
+  not_greeting : (g : Option Greeting) → is_greeting g ≡ false → greeted_as e g ≡ strayed e
+  not_greeting (Some Open) n = cc
+  not_greeting (Some (Secured r)) n = cc
   not_greeting g n = refl
 
   numbered : (r : ReadAs) {n : ℕ} → (n ≡ 0 → ⊥) → reading_outcome_number r.outcome ≡ n → heard_by e r ≡ strayed e
@@ -78,9 +78,9 @@ module _ (e : Entry) (l : List ℕ) where
   one_step p q = sym (row_steps p) ∙ row_steps q
 
   -- and every line has a row
-  greeting_row : e.greeting ≡ ungreeted → (g : Greeting) → read_greeting l ≡ g → StepTo e l (greeted_as e g)
-  greeting_row u Open r = greets_open u r
-  greeting_row u (Secured random) r = greets_secured random u r
+  greeting_row : e.greeting ≡ ungreeted → (g : Option Greeting) → read_greeting l ≡ g → StepTo e l (greeted_as e g)
+  greeting_row u (Some Open) r = greets_open u r
+  greeting_row u (Some (Secured random)) r = greets_secured random u r
   greeting_row u g r = strays (ungreeted_malformed u (ap is_greeting r))
 
   reply_row : (c : Command) → IsUnderWay e c → (o : Outcome) (m : Said) →

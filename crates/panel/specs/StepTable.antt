@@ -4,7 +4,7 @@
 --   IsStray e l        the line is late, foreign or malformed: by where the talk stands, or by the reader's number
 --   StepTo e l f       the rows
 -- Assumes nothing.
-use Rattle.std.specs.Prelude.{ℕ, ◌≡◌, Bool, true, false, List, Some}
+use Rattle.std.specs.Prelude.{ℕ, ◌≡◌, Bool, true, false, List, Option, Some}
 use Rattle.pjlink.specs.Forms.{erra_line}
 use Rattle.pjlink.specs.declared.command.Command.{Command}
 use Rattle.pjlink.specs.Said.{Said}
@@ -17,9 +17,9 @@ use Rattle.panel.specs.Entries.{ungreeted, greeted_open, greeted_secured, greete
 use Rattle.panel.specs.Stepping.{strayed, with_talk, answered_entry, erra_entry}
 use Rattle.panel.specs.declared.types.Entry.{Entry}
 
-abbrev pub is_greeting : Greeting → Bool
-is_greeting Open = true
-is_greeting (Secured random) = true
+abbrev pub is_greeting : Option Greeting → Bool
+is_greeting (Some Open) = true
+is_greeting (Some (Secured random)) = true
 is_greeting g = false
 
 pub record IsUnderWay (e : Entry) (c : Command) : Type 0 where
@@ -35,8 +35,9 @@ pub data IsStray (e : Entry) (l : List ℕ) : Type 0 where
   not_allowed : (c : Command) → IsUnderWay e c → reading_outcome_number (read_reply c l).outcome ≡ 12 → IsStray e l
 
 pub data StepTo (e : Entry) (l : List ℕ) : Entry → Type 0 where
-  greets_open : e.greeting ≡ ungreeted → read_greeting l ≡ Open → StepTo e l (with_talk e (greeted_by greeted_open 0))
-  greets_secured : (random : ℕ) → e.greeting ≡ ungreeted → read_greeting l ≡ Secured random
+  greets_open : e.greeting ≡ ungreeted → read_greeting l ≡ Some Open
+      → StepTo e l (with_talk e (greeted_by greeted_open 0))
+  greets_secured : (random : ℕ) → e.greeting ≡ ungreeted → read_greeting l ≡ Some (Secured random)
       → StepTo e l (with_talk e (greeted_by greeted_secured random))
   strays : IsStray e l → StepTo e l (strayed e)
   answers : (c : Command) (m : Said) → IsUnderWay e c → read_reply c l ≡ meaning m → StepTo e l (answered_entry e m)

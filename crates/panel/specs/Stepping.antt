@@ -53,9 +53,9 @@ lost_entry e = with_talk e no_talk
 abbrev pub sent_entry : Entry → Coded → Entry
 sent_entry e k = with_talk e (sent_on (talk_of e) k)
 
-abbrev pub greeted_as : Entry → Greeting → Entry
-greeted_as e Open = with_talk e (greeted_by greeted_open 0)
-greeted_as e (Secured random) = with_talk e (greeted_by greeted_secured random)
+abbrev pub greeted_as : Entry → Option Greeting → Entry
+greeted_as e (Some Open) = with_talk e (greeted_by greeted_open 0)
+greeted_as e (Some (Secured random)) = with_talk e (greeted_by greeted_secured random)
 greeted_as e g = strayed e
 
 abbrev pub heard_as : Entry → Outcome → Said → Entry

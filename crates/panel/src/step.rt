@@ -60,10 +60,9 @@ impl Entry {
         ensures { self.new ≡ greeted_as self.old (read_greeting line.now) }
     {
         match greeting::read_greeting(line) {
-            Greeting::Open => self.begin(Greeted::Open),
-            Greeting::Secured(random) => self.begin(Greeted::Secured { random }),
-            Greeting::Refused => self.stray(),
-            Greeting::NotAGreeting => self.stray(),
+            Some(Greeting::Open) => self.begin(Greeted::Open),
+            Some(Greeting::Secured(random)) => self.begin(Greeted::Secured { random }),
+            Some(Greeting::Refused) | None => self.stray(),
         }
     }
 

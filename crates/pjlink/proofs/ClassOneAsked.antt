@@ -2,7 +2,7 @@
 -- asked for; but two characters that name an input of Class 2 alone named none then.
 --   KeptAs now before     a request is what it was, or asks for such an input where it was out of parameter
 -- Assumes nothing.
-use Rattle.std.proofs.Common.{ℕ, ◌≡◌, refl, ap, ◌∙◌, Bool, true, false, ◌&&◌, List, [], ◌∷◌, length, ◌==◌, arith}
+use Rattle.std.proofs.Common.{ℕ, ◌≡◌, refl, ap, Bool, true, false, ◌&&◌, List, length, ◌==◌, arith}
 use Rattle.std.proofs.lemmas.Bool.Decides.{nat_tests}
 use Rattle.std.specs.Prelude.{if◌then◌else◌, Option, Some, None, Ok, Err}
 use Rattle.std.specs.Option.{option_map}
@@ -21,11 +21,9 @@ use Rattle.pjlink.specs.declared.body.Body.TheVariants.{Powr, Inpt, Avmt, Erst, 
 use Rattle.pjlink.specs.declared.body.Body.TheVariants.{Info, Clss}
 use Rattle.pjlink.specs.declared.command.Command.TheVariants.{PowerSet, InputSet, MuteSet, Query}
 use Rattle.words.proofs.ClassOneKept.{InputKept, input_as_before, input_of_class_2, inputs_kept, input_by_two}
-use Rattle.pjlink.specs.Requests.{Request, mute_of, set_of, is_question, or_unlisted}
-use Rattle.pjlink.specs.Requests.{asked_of, asked, request_of}
+use Rattle.pjlink.specs.Requests.{Request, mute_of, set_of, is_question, or_unlisted, asked_of, asked, request_of}
 use Rattle.pjlink.specs.ClassOneAsked.{is_body_1, body_named_1, power_asked_1, input_given_1, input_asked_1}
-use Rattle.pjlink.specs.ClassOneAsked.{half_named_1, mute_asked_1}
-use Rattle.pjlink.specs.ClassOneAsked.{set_asked_1, asked_of_1, asked1, request_of_1}
+use Rattle.pjlink.specs.ClassOneAsked.{half_named_1, mute_asked_1, set_asked_1, asked_of_1, asked1, request_of_1}
 use Rattle.pjlink.specs.declared.request.Unasked.TheVariants.{Unlisted}
 
 pub data KeptAs (now before : Request) : Type 0 where
@@ -36,9 +34,7 @@ pub data KeptAs (now before : Request) : Type 0 where
 -- a parameter of one character, and of two, by its length and its characters
 switch_by_one : (p : List ℕ)
     → whole switch_read p ≡ (if length p == 1 && p at 0 from "0" to "1" then Some (p at 0 is "1") else None)
-switch_by_one [] = refl
-switch_by_one (b ∷ []) = grind (arith, nat_tests)
-switch_by_one (b ∷ c ∷ s) = grind (arith, nat_tests)
+switch_by_one p = grind arith
 
 mute_by_two : (p : List ℕ)
     → mute_of p
@@ -46,43 +42,21 @@ mute_by_two : (p : List ℕ)
     then Some (MuteSet (half_named_1 (p at 0)) (p at 1 is "1"))
     else None)
 unfolding half_named_1
-mute_by_two [] = refl
-mute_by_two (a ∷ []) = grind (arith, nat_tests)
-mute_by_two (a ∷ b ∷ []) = grind (arith, nat_tests)
-mute_by_two (a ∷ b ∷ c ∷ s) = grind (arith, nat_tests)
+mute_by_two p = grind (arith, nat_tests)
 
 power_kept : (p : List ℕ) → or_unlisted Powr (option_map PowerSet (whole switch_read p)) ≡ power_asked_1 p
 unfolding power_asked_1
-power_kept p = rw (switch_by_one p) (by (length p == 1 && p at 0 from "0" to "1"))
-  where
-    by : (digit : Bool)
-        → or_unlisted Powr (option_map PowerSet (if digit then Some (p at 0 is "1") else None))
-        ≡ (if digit then Ok (PowerSet (p at 0 is "1")) else Err (Unlisted Powr))
-    by true = refl
-    by false = refl
+power_kept p = grind arith
 
 or_unlisted-mute_of : (p : List ℕ) → or_unlisted Avmt (mute_of p) ≡ mute_asked_1 p
 unfolding mute_asked_1
-or_unlisted-mute_of p = rw (mute_by_two p) (by (length p == 2 && (p at 0 from "1" to "3" && p at 1 from "0" to "1")))
-  where
-    by : (digits : Bool)
-        → or_unlisted Avmt (if digits then Some (MuteSet (half_named_1 (p at 0)) (p at 1 is "1")) else None)
-        ≡ (if digits then Ok (MuteSet (half_named_1 (p at 0)) (p at 1 is "1")) else Err (Unlisted Avmt))
-    by true = refl
-    by false = refl
+or_unlisted-mute_of p = grind (arith, mute_by_two)
 
 abbrev input_now : Option Input → Request
 input_now m = or_unlisted Inpt (option_map InputSet m)
 
 asked_as_lem : {m n : Option Input} → InputKept m n → KeptAs (input_now m) (input_given_1 n)
-asked_as_lem (input_as_before e) = as_before (given_same e)
-  where
-    same : (n : Option Input) → input_now n ≡ input_given_1 n
-    same (Some i) = refl
-    same None = refl
-
-    given_same : {m n : Option Input} → m ≡ n → input_now m ≡ input_given_1 n
-    given_same {n = n} e = ap input_now e ∙ same n
+asked_as_lem (input_as_before e) = grind arith
 asked_as_lem (input_of_class_2 a b two one now before) =
     of_class_2 a b two one (ap input_now now) (ap input_given_1 before)
 

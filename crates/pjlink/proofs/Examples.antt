@@ -1,7 +1,6 @@
 -- Lines, requests and replies of both classes, by computing (RULES, Commands, Controller and Class 2).
 -- Assumes nothing.
-use Rattle.std.proofs.Common.{◌≡◌, refl, true, false, List, [], ◌∷◌, map, ℕ, codes}
-use Rattle.std.specs.Prelude.{Ok, Err}
+use Rattle.std.proofs.Common.{◌≡◌, refl, true, false, List, [], ◌∷◌, map, ℕ, codes, Ok, Err}
 use Rattle.numbers.specs.Computing.{computing as numbers}
 use Rattle.words.specs.declared.class.ClassNumber.TheVariants.{One, Two}
 use Rattle.words.specs.declared.input.Source.TheVariants.{Digital, Internal}

@@ -1,25 +1,17 @@
 -- A line of the form is spelt by its parts: `%`, its class byte, the four bytes of its body, a space, its parameter.
 -- Its class is 1, or for a set-up of Class 2 also 2.
 -- Assumes nothing.
-use Rattle.std.proofs.Common.{ℕ, ◌≤◌, ◌≡◌, ◌∙◌, Bool, true, ◌&&◌, List, ◌∷◌, ◌++◌, arith, length, nat_le, ◌==◌}
-use Rattle.std.proofs.Common.{eqb-true, codes}
+use Rattle.std.proofs.Common.{ℕ, ◌≤◌, ◌≡◌, Bool, true, ◌&&◌, List, ◌∷◌, ◌++◌, arith, length, nat_le, codes}
 use Prim.Native.Char.{code}
 use Rattle.text.specs.Words.{◌is◌}
 use Rattle.text.proofs.Choices.{both_left, both_right}
-use Rattle.words.specs.Bytes.{◌at◌, is_alnum}
+use Rattle.words.specs.Bytes.{◌at◌, is_alnum, command_most}
 use Rattle.pjlink.specs.Commands.{class_digit}
-use Rattle.pjlink.specs.Forms.{takes_class, is_command_form, is_headed, head_body, command_parameter}
-use Rattle.words.specs.Bytes.{command_most}
-use Rattle.pjlink.specs.Forms.{line_class}
-use Rattle.words.proofs.ByPlaces.{from_place}
-use Rattle.words.proofs.Characters.{either_by}
-use Rattle.pjlink.proofs.CommandLines.{form_long}
+use Rattle.pjlink.specs.Forms.{takes_class, is_command_form, is_headed, head_body, command_parameter, line_class}
 
 -- a class byte that a set-up takes, by which it is
 pub taken_by : (P : Type 0) (k b : ℕ) → takes_class k b ≡ true → (b ≡ code "1" → P) → (k ≡ 2 → b ≡ code "2" → P) → P
-taken_by P k b e one two =
-    either_by (b is "1") (k == 2 && b is "2") e (λ t. one (eqb-true b _ t))
-    (λ t. two (eqb-true k 2 (both_left (k == 2) _ t)) (eqb-true b _ (both_right (k == 2) _ t)))
+taken_by P k b e one two = grind arith
 
 module _ (k : ℕ) (l : List ℕ) (form : is_command_form k l ≡ true) where
   abbrev sized : Bool
@@ -33,9 +25,7 @@ module _ (k : ℕ) (l : List ℕ) (form : is_command_form k l ≡ true) where
 
   headed : is_headed (code " ") l ≡ true
   unfolding is_command_form
-  headed =
-      both_right sized (is_headed (code " ") l)
-      (both_left (sized && is_headed (code " ") l) (takes_class k (l at 1)) form)
+  headed = grind (arith, both_left)
 
   pub form_takes : takes_class k (l at 1) ≡ true
   unfolding is_command_form
@@ -46,20 +36,10 @@ module _ (k : ℕ) (l : List ℕ) (form : is_command_form k l ≡ true) where
   line_class_taken h = taken_by (line_class l ≤ k) k (l at 1) form_takes (λ b. omega arith) (λ e b. omega arith)
 
   pub class_byte : l at 1 ≡ class_digit (line_class l)
-  class_byte =
-      taken_by (l at 1 ≡ class_digit (line_class l)) k (l at 1) form_takes (λ b. omega arith) (λ e b. omega arith)
+  class_byte = grind (arith, form_takes)
 
   marks : marked ≡ true
-  marks =
-      both_left marked (is_alnum (l at 2))
-      (both_left (marked && is_alnum (l at 2)) (is_alnum (l at 3))
-      (both_left (marked && is_alnum (l at 2) && is_alnum (l at 3)) (is_alnum (l at 4))
-      (both_left (marked && is_alnum (l at 2) && is_alnum (l at 3) && is_alnum (l at 4)) (is_alnum (l at 5))
-      (both_left lettered (l at 6 is " ") headed))))
+  marks = grind (arith, headed)
 
   pub form_spelt : l ≡ codes "%" ++ ((l at 1) ∷ head_body l) ++ codes " " ++ command_parameter l
-  form_spelt =
-      let percent = eqb-true (l at 0) (code "%") marks in
-      let space = eqb-true (l at 6) (code " ") (both_right lettered (l at 6 is " ") headed) in
-      from_place 0 7 l (form_long k l form)
-      ∙ (λ i. percent i ∷ (l at 1) ∷ (l at 2) ∷ (l at 3) ∷ (l at 4) ∷ (l at 5) ∷ space i ∷ command_parameter l)
+  form_spelt = grind (arith, both_right, headed)

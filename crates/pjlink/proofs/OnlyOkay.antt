@@ -1,12 +1,11 @@
 -- Of what a projector says to POWR, only OK has the bytes of OK, in any case of letters.
 --   NotOkay m      the parameter that says m is not OK
 -- Assumes nothing.
-use Rattle.std.proofs.Common.{ℕ, ◌≡◌, refl, false, ◌++◌, codes}
+use Rattle.std.proofs.Common.{arith, ℕ, ◌≡◌, refl, false, ◌++◌, codes}
 use Rattle.text.specs.Scans.{same_by}
 use Rattle.words.specs.Bytes.{upper_of}
 use Rattle.pjlink.specs.Said.{Said, refused, power_is, nothing, said_bytes}
 use Rattle.words.specs.declared.power.Power.{Power}
-use Rattle.words.specs.declared.power.Power.TheVariants.{Off, On, Cooling, WarmUp}
 
 abbrev pub NotOkay : Said → Type 0
 NotOkay m = same_by upper_of (said_bytes m ++ codes "\r") (codes "OK\r") ≡ false
@@ -17,10 +16,7 @@ refusal_not_okay n = refl
 
 pub power_not_okay : (p : Power) → NotOkay (power_is p)
 unfolding said_bytes
-power_not_okay Off = refl
-power_not_okay On = refl
-power_not_okay Cooling = refl
-power_not_okay WarmUp = refl
+power_not_okay p = grind arith
 
 pub nothing_not_okay : NotOkay nothing
 unfolding said_bytes

@@ -2,9 +2,8 @@
 -- nothing.
 -- Assumes nothing.
 use Rattle.std.proofs.Common.{ℕ, ◌≡◌, ◌≤◌, Bool, true, List, [], ◌∷◌, ◌++◌, length, refl, sym, ◌∙◌, arith, ◌==◌, nat_le}
-use Rattle.std.proofs.Common.{codes}
+use Rattle.std.proofs.Common.{codes, Option, Some, None, ◌&&◌, if◌then◌else◌}
 use Rattle.std.specs.List.{list_all}
-use Rattle.std.specs.Prelude.{Option, Some, None, ◌&&◌, if◌then◌else◌}
 use Rattle.std.proofs.lemmas.Bool.{eqb-true, leb-true}
 use Rattle.std.proofs.lemmas.List.{append-nil}
 use Prim.Native.Char.{code}
@@ -24,7 +23,6 @@ use Rattle.words.specs.Refusing.{refusal_digit, refusal_read}
 use Rattle.words.specs.Texts.{is_name, is_info, is_input_name}
 use Rattle.words.specs.declared.input.Input.{Input}
 use Rattle.words.specs.declared.refusal.Refusal.{Refusal}
-use Rattle.words.specs.declared.refusal.Refusal.TheVariants.{Undefined, OutOfParameter, Unavailable, Failure}
 use Rattle.pjlink.specs.declared.command.Command.{Command}
 use Rattle.pjlink.specs.declared.command.Command.TheVariants.{PowerSet, InputSet, MuteSet, InputSet2, FreezeSet}
 use Rattle.pjlink.specs.declared.command.Command.TheVariants.{VolumeStep, NameQuery, Query}
@@ -167,10 +165,7 @@ value_sound (NameQuery i) p = text_sound p (is_input_name p) (input_name p refl)
 value_sound (Query b) p = queried_sound b p
 
 refusal_range : (r : Refusal) → (1 ≤ refusal_digit r) × (refusal_digit r ≤ 4)
-refusal_range Undefined = (omega arith, omega arith)
-refusal_range OutOfParameter = (omega arith, omega arith)
-refusal_range Unavailable = (omega arith, omega arith)
-refusal_range Failure = (omega arith, omega arith)
+refusal_range r = grind arith
 
 by_refusal : (c : Command) (p : List ℕ) (o : Option Refusal) → whole refusal_read p ≡ o
     → CanRead c p (refusal_or c o (read_value c p))

@@ -2,21 +2,19 @@
 -- back;
 -- and so its bytes, which are a writing.
 -- Assumes nothing.
+use Rattle.std.proofs.lemmas.Grind.{common_steps}
 use Rattle.std.specs.List.{list_all}
-use Rattle.std.proofs.Common.{ℕ, zero, suc, ◌≡◌, ◌≤◌, Bool, true, false, List, [], ◌∷◌, ◌++◌, length}
-use Rattle.std.proofs.Common.{refl, sym, ap, ◌∙◌, subst, arith, slice_index_or, codes}
-use Rattle.std.specs.Prelude.{Option, None}
+use Rattle.std.proofs.Common.{ℕ, zero, suc, ◌≡◌, ◌≤◌, Bool, true, false, List, [], ◌∷◌, length, refl, ap}
+use Rattle.std.proofs.Common.{◌∙◌, arith, slice_index_or, codes, Option, None}
 use Rattle.std.proofs.lemmas.Bool.{eq-eqb}
 use Rattle.std.proofs.lemmas.List.{length-map}
 use Prim.Native.Char.{code}
-use Rattle.text.proofs.Choices.{if_yes, if_no, both, both_left}
-use Rattle.numbers.specs.Decimal.{is_digit, WritesNumber}
-use Rattle.numbers.proofs.Digits.{digit_to}
+use Rattle.text.proofs.Choices.{if_yes, both}
 use Rattle.words.specs.Codec.{Codec, Ends, Plain, whole}
 use Rattle.words.specs.Combinations.{whole_says, list_says}
 use Rattle.words.specs.Classes.{class_text}
 use Rattle.words.specs.ErrorDigits.{is_error_digit, errors_text}
-use Rattle.words.specs.Inputs.{is_input, input_text, source_digit, number_digit}
+use Rattle.words.specs.Inputs.{is_input, input_text, number_digit}
 use Rattle.words.specs.Joined.{JoinedBy, list_text}
 use Rattle.words.specs.Lamps.{WritesLampHours}
 use Rattle.words.specs.Laws.{power_codec, input_codec, mutes_codec, errors_codec, lamp_codec, class_codec, switch_codec}
@@ -25,28 +23,22 @@ use Rattle.words.specs.Powers.{power_text, switch_code}
 use Rattle.words.specs.Refusing.{refusal_digit, refusal_read}
 use Rattle.words.specs.Texts.{is_input_name, name_most, info_most, input_name_most}
 use Rattle.words.specs.declared.input.Input.{Input}
-use Rattle.words.specs.declared.input.Source.{Source}
-use Rattle.words.specs.declared.input.Source.TheVariants.{Rgb, Video, Digital, Storage, Network, Internal}
 use Rattle.words.specs.declared.lamp.LampHours.{LampHours}
 use Rattle.words.specs.declared.refusal.Refusal.{Refusal}
 use Rattle.words.specs.declared.refusal.Refusal.TheVariants.{Undefined, OutOfParameter, Unavailable, Failure}
 use Rattle.words.proofs.TextsTold.{name_is_text}
 use Rattle.pjlink.specs.Commands.{body_of}
 use Rattle.pjlink.specs.declared.command.Command.{Command}
-use Rattle.pjlink.specs.declared.command.Command.TheVariants.{PowerSet, InputSet, MuteSet, InputSet2, FreezeSet}
-use Rattle.pjlink.specs.declared.command.Command.TheVariants.{VolumeStep, NameQuery, Query}
-use Rattle.pjlink.specs.declared.command.Volume.TheVariants.{Speaker, Microphone}
-use Rattle.pjlink.specs.declared.body.Body.{Body}
 use Rattle.pjlink.specs.declared.body.Body.TheVariants.{Erst, Inst, Innm}
 use Rattle.pjlink.specs.Said.{Said, okay, refused, power_is, chosen_is, mutes_are, errors_are, lamps_are, inputs_are}
-use Rattle.pjlink.specs.Said.{text_is, class_is, freeze_is, nothing, said_text, said_bytes}
+use Rattle.pjlink.specs.Said.{text_is, class_is, freeze_is, said_text, said_bytes}
 use Rattle.pjlink.specs.Carried.{lamps_carried, inputs_carried, errors_carried}
 use Rattle.pjlink.specs.CanSay.{is_set, is_refusal_to}
 use Rattle.pjlink.specs.CanSay.{CanSay, done, refuses, power, input, mutes, errors, lamps, inputs, name, maker}
 use Rattle.pjlink.specs.CanSay.{model, other, class_said, freeze, serial, version, input_name, input_2, inputs_2}
-use Rattle.pjlink.specs.Reading.{said_or, read_ok, read_queried, read_value, refusal_or, read_parameter}
+use Rattle.pjlink.specs.Reading.{said_or, read_queried, read_value, refusal_or, read_parameter}
 use Rattle.pjlink.specs.Writings.{Writes}
-use Rattle.words.proofs.Refusals.{not_four, digit_first, text_no_refusal, whole-refusal_text}
+use Rattle.words.proofs.Refusals.{not_four, digit_first, text_no_refusal}
 use Rattle.pjlink.proofs.SaidRows.{said_row}
 use Rattle.pjlink.proofs.Written.{list_legal, said_is_written}
 
@@ -75,68 +67,29 @@ refusal_numbered (suc (suc (suc (suc (suc n))))) l h = absurd (omega arith)
 read_parameter-said_text : (c : Command) (r : Refusal) → is_refusal_to c (refusal_digit r) ≡ true
     → read_parameter c (said_text (refused (refusal_digit r))) ≡ refused (refusal_digit r)
 unfolding read_parameter
-read_parameter-said_text c r t =
-    ap (λ o. refusal_or c o (read_value c (said_text (refused (refusal_digit r))))) (whole-refusal_text r)
-    ∙ if_yes _ nothing t
+read_parameter-said_text c r t = grind arith
 
 -- an input's name is the answer to no set
 name_no_set : (c : Command) → body_of c ≡ Innm → is_set c ≡ false
-name_no_set (PowerSet on) e = cc
-name_no_set (InputSet i) e = cc
-name_no_set (MuteSet half on) e = cc
-name_no_set (InputSet2 i) e = cc
-name_no_set (FreezeSet on) e = cc
-name_no_set (VolumeStep Speaker up) e = cc
-name_no_set (VolumeStep Microphone up) e = cc
-name_no_set (NameQuery i) e = refl
-name_no_set (Query b) e = refl
+name_no_set c h = grind arith
 
 name_back : (c : Command) (s : List ℕ) → body_of c ≡ Innm → is_input_name s ≡ true → read_value c s ≡ text_is s
-name_back c s b e =
-    if_no (read_ok s) (read_queried (body_of c) s) (name_no_set c b)
-    ∙ ap (λ (x : Body). read_queried x s) b
-    ∙ if_yes (text_is s) nothing e
+name_back c s b e = grind arith
 
 length-halves_text : (v a : Bool) → length (halves_text v a) ≡ 2
-length-halves_text true true = refl
-length-halves_text true false = refl
-length-halves_text false true = refl
-length-halves_text false false = refl
+length-halves_text v a = grind arith
 
 -- a list begins as its first thing does, and that with a digit
 lamp_first : (l : LampHours) (t : List ℕ) → WritesLampHours l t → (b : ℕ) × (u : List ℕ) × (t ≡ b ∷ u) × (b ≤ code "9")
-lamp_first l t w = by w.word w.hours w.text
-  where
-    by : (s : List ℕ) → WritesNumber l.hours s → t ≡ s ++ code " " ∷ switch_code l.lit ∷ []
-        → (b : ℕ) × (u : List ℕ) × (t ≡ b ∷ u) × (b ≤ code "9")
-    by [] n e = absurd (omega (arith, n.some))
-    by (b ∷ s) n e = (
-      b,
-      s ++ code " " ∷ switch_code l.lit
-          ∷ [],
-      e,
-      digit_to b (both_left (is_digit b) (list_all is_digit s) n.figures),
-    )
-
-source_first : (s : Source) → source_digit s ≤ code "9"
-source_first Rgb = omega arith
-source_first Video = omega arith
-source_first Digital = omega arith
-source_first Storage = omega arith
-source_first Network = omega arith
-source_first Internal = omega arith
+lamp_first l t w = grind (arith, not_four)
 
 lamps_first : (ls : List LampHours) (p : List ℕ) → JoinedBy WritesLampHours ls p → slice_index_or p 0 0 ≤ code "9"
 lamps_first [] p w = absurd w
-lamps_first (l ∷ []) p w =
-    let (b, u, e, h) = lamp_first l p w in omega (arith, h, ap (λ (s : List ℕ). slice_index_or s 0 0) e)
-lamps_first (l ∷ m ∷ ls) p (t, rest, w, more, e) =
-    let (b, u, d, h) = lamp_first l t w in
-    omega (arith, h, ap (λ (s : List ℕ). slice_index_or s 0 0) (e ∙ ap (λ (t : List ℕ). t ++ code " " ∷ rest) d))
+lamps_first (l ∷ []) p w = grind (arith, lamp_first l p w)
+lamps_first (l ∷ m ∷ ls) p (t, rest, w, more, e) = grind (arith, common_steps, lamp_first)
 
 inputs_first : (is : List Input) → 1 ≤ length is → slice_index_or (list_text input_text is) 0 0 ≤ code "9"
-inputs_first [] h = absurd (omega arith)
-inputs_first (i ∷ is) h = source_first i.source
+inputs_first is h = grind arith
 
 -- a value of a codec, read from its own text
 module _
@@ -164,10 +117,7 @@ errors_back ds h e = own_back errors_codec errors_are ds (both (eq-eqb (length d
 pub written_back : {c : Command} {m : Said} → CanSay c m → (p : List ℕ) → Writes m p → read_parameter c p ≡ m
 written_back {c} (done s) p w = by _ _ w (value c (codes "OK") (not_four (codes "OK") (λ e. omega arith)) (ok_back c s))
 written_back {c} (refuses n l h t) p w =
-    let (r, e) = refusal_numbered n l h in
-    ap (read_parameter c) (w ∙ said_row (refused n) ∙ ap (λ k. said_text (refused k)) e)
-    ∙ read_parameter-said_text c r (subst (λ k. is_refusal_to c k ≡ true) e t)
-    ∙ ap refused (sym e)
+    search (arith, refusal_numbered, said_row, read_parameter-said_text, refusal_numbered n l h, said_row (refused n))
 written_back (power q) p w =
     by _ _ w (value _ (power_text q) (not_four (power_text q) (λ e. omega arith))
     (own_back power_codec power_is q refl))

@@ -14,6 +14,8 @@ use Rattle.text.proofs.Sameness.{same_is}
 use Rattle.words.specs.Bytes.{◌at◌, is_alnum, no_cr}
 use Rattle.pjlink.specs.Commands.{class_digit}
 use Rattle.pjlink.specs.Forms.{is_headed, head_body, reply_most, is_reply_form, reply_parameter, reply_line, erra_line}
+use Rattle.pjlink.specs.Forms.{IsLetters}
+use Rattle.pjlink.specs.Said.{parameter_most}
 
 module _ (a b c d : ℕ) (letters : list_all is_alnum (a ∷ b ∷ c ∷ d ∷ []) ≡ true) where
   -- whatever the class, and whatever follows the mark
@@ -32,17 +34,14 @@ module _ (a b c d : ℕ) (letters : list_all is_alnum (a ∷ b ∷ c ∷ d ∷ [
 
   module _ (h : ℕ) (p : List ℕ) where
     abbrev line : List ℕ
-    line = reply_line h a b c d p
+    line = reply_line h (a ∷ b ∷ c ∷ d ∷ []) p
 
-    pub reply_body : head_body line ≡ a ∷ b ∷ c ∷ d ∷ []
-    reply_body = refl
+    line_long : length line ≡ length p + 8
+    line_long = omega (arith, length-append p (codes "\r"))
 
-    pub reply_length : length line ≡ length p + 8
-    reply_length = omega (arith, length-append p (codes "\r"))
-
-    pub reply_parameter_of_line : reply_parameter line ≡ p
-    reply_parameter_of_line =
-        let n : length line - 8 ≡ length p = omega (arith, length-append p (codes "\r")) in
+    line_parameter : reply_parameter line ≡ p
+    line_parameter =
+        let n : length line - 8 ≡ length p = omega (arith, line_long) in
         ap (λ (k : ℕ). take k (p ++ codes "\r")) n ∙ take-append_seam p (codes "\r")
 
     ends : line at (length line - 1) ≡ code "\r"
@@ -51,31 +50,54 @@ module _ (a b c d : ℕ) (letters : list_all is_alnum (a ∷ b ∷ c ∷ d ∷ [
         let n : length line - 1 ≡ length before = omega (arith, length-append p (codes "\r")) in
         ap (λ (k : ℕ). line at k) n ∙ get_or-append_seam before (code "\r") [] 0
 
-    -- the form, but for the class
-    by_class : (k : ℕ) → length p ≤ 128 → no_cr p ≡ true → is_reply_form k line ≡ (h == class_digit k)
+    by_class : length p ≤ parameter_most → no_cr p ≡ true → (k : ℕ) → is_reply_form k line ≡ (h == class_digit k)
     unfolding is_reply_form
-    by_class k short plain =
-        let long = reply_length in
-        let from = le-leb 8 (length line) (omega arith) in
-        let most = le-leb (length line) reply_most (omega arith) in
+    by_class short plain k =
+        let from = le-leb 8 (length line) (omega (arith, line_long)) in
+        let most = le-leb (length line) reply_most (omega (arith, line_long)) in
         let head = headed h (code "=") (p ++ codes "\r") in
         let last = eq-eqb _ (code "\r") ends in
-        let rest = ap no_cr reply_parameter_of_line ∙ plain in
+        let rest = ap no_cr line_parameter ∙ plain in
         (λ i. from i && most i && head i && h == class_digit k && last i && rest i)
         ∙ simp no_more
 
-    pub reply_not_erra : same_by itself line erra_line ≡ false
-    reply_not_erra = refl
+by_four : (P : List ℕ → Type 0) (s : List ℕ) → length s ≡ 4 → ((a b c d : ℕ) → P (a ∷ b ∷ c ∷ d ∷ [])) → P s
+by_four P (a ∷ b ∷ c ∷ d ∷ []) four p = p a b c d
+by_four P [] four p = absurd (omega arith)
+by_four P (a ∷ []) four p = absurd (omega arith)
+by_four P (a ∷ b ∷ []) four p = absurd (omega arith)
+by_four P (a ∷ b ∷ c ∷ []) four p = absurd (omega arith)
+by_four P (a ∷ b ∷ c ∷ d ∷ e ∷ s) four p = absurd (omega arith)
 
-  pub reply_form : (k : ℕ) (p : List ℕ) → length p ≤ 128 → no_cr p ≡ true
-      → is_reply_form k (reply_line (class_digit k) a b c d p) ≡ true
-  reply_form k p short plain = by_class (class_digit k) p k short plain ∙ eq-eqb (class_digit k) (class_digit k) refl
+-- what the line of a reply shows: its form is of its class alone
+pub record ReplyShows (h : ℕ) (s p : List ℕ) : Type 0 where
+  pub form : (k : ℕ) → is_reply_form k (reply_line h s p) ≡ (h == class_digit k)
+  pub body : head_body (reply_line h s p) ≡ s
+  pub parameter : reply_parameter (reply_line h s p) ≡ p
+  pub not_erra : same_by itself (reply_line h s p) erra_line ≡ false
+
+module _ {s : List ℕ} (letters : IsLetters s) where
+  pub reply_shows : (h : ℕ) (p : List ℕ) → length p ≤ parameter_most → no_cr p ≡ true → ReplyShows h s p
+  reply_shows h p short plain =
+      by_four (λ (s : List ℕ). list_all is_alnum s ≡ true → ReplyShows h s p) s letters.four
+      (λ a b c d each. record {
+        form = by_class a b c d each h p short plain;
+        body = refl;
+        parameter = line_parameter a b c d each h p;
+        not_erra = refl;
+      })
+      letters.each
+
+  pub reply_form : (k : ℕ) (p : List ℕ) → length p ≤ parameter_most → no_cr p ≡ true
+      → is_reply_form k (reply_line (class_digit k) s p) ≡ true
+  reply_form k p short plain =
+      (reply_shows (class_digit k) p short plain).form k ∙ eq-eqb (class_digit k) (class_digit k) refl
 
   -- a reply of one class is no reply of another
-  pub reply_other_class : (j k : ℕ) (p : List ℕ) → (j ≡ k → ⊥) → length p ≤ 128 → no_cr p ≡ true
-      → is_reply_form k (reply_line (class_digit j) a b c d p) ≡ false
+  pub reply_other_class : (j k : ℕ) (p : List ℕ) → (j ≡ k → ⊥) → length p ≤ parameter_most → no_cr p ≡ true
+      → is_reply_form k (reply_line (class_digit j) s p) ≡ false
   reply_other_class j k p other short plain =
-      by_class (class_digit j) p k short plain
+      (reply_shows (class_digit j) p short plain).form k
       ∙ ne_eqb (class_digit j) (class_digit k) (λ e. let same : j ≡ k = omega arith in other same)
 
 pub reply_long : (k : ℕ) (l : List ℕ) → is_reply_form k l ≡ true → 8 ≤ length l

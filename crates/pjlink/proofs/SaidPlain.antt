@@ -2,54 +2,39 @@
 -- Assumes nothing.
 use Rattle.std.specs.List.{list_all}
 use Rattle.std.proofs.Common.{ℕ, ◌≤◌, ◌≡◌, refl, ap, Bool, true, false, not, List, [], ◌∷◌, arith, length}
-use Rattle.std.proofs.Common.{length-append, nat_le, ne_eqb, leb-true}
+use Rattle.std.proofs.Common.{length-append, ne_eqb}
 use Rattle.std.proofs.lemmas.List.{length-map}
 use Prim.Native.Char.{code}
-use Rattle.text.proofs.Choices.{both, both_left}
+use Rattle.text.proofs.Choices.{both}
 use Rattle.text.proofs.Scanning.{list_all-append, list_all_implies}
 use Rattle.numbers.specs.Decimal.{digits}
 use Rattle.numbers.proofs.Digits.{digits_at_most_5, digits_without}
 use Rattle.words.specs.Bytes.{not_cr, no_cr}
 use Rattle.words.specs.Inputs.{is_input, input_text, number_digit}
-use Rattle.words.specs.Texts.{is_text_byte, is_text, name_most, info_most, input_name_most}
-use Rattle.words.specs.Powers.{switch_code}
+use Rattle.words.specs.Texts.{is_text, name_most, info_most, input_name_most}
+use Rattle.words.specs.Powers.{switch_code, power_text}
 use Rattle.pjlink.specs.declared.command.Command.{Command}
 use Rattle.words.proofs.Characters.{no_cr_of}
-use Rattle.words.proofs.TextsTold.{name_long, info_long, input_name_long}
+use Rattle.words.proofs.TextsTold.{name_long, info_long, input_name_long, text_bytes, name_is_text}
 use Rattle.pjlink.proofs.CommandLines.{input_no_cr}
-use Rattle.pjlink.specs.Said.{Said, text_is, said_bytes}
-use Rattle.words.specs.Lamps.{lamp_text}
-use Rattle.words.specs.Powers.{power_text}
+use Rattle.pjlink.specs.Said.{Said, text_is, said_bytes, parameter_most, said_most, bytes_most}
+use Rattle.words.specs.Lamps.{lamp_text, is_lamp_hours}
 use Rattle.words.specs.Muting.{halves_text}
 use Rattle.words.specs.ErrorDigits.{errors_text}
-use Rattle.pjlink.specs.Said.{parameter_most, said_most, bytes_most}
 use Rattle.pjlink.specs.CanSay.{CanSay, done, refuses, power, input, mutes, errors, lamps, inputs, name, maker}
 use Rattle.pjlink.specs.CanSay.{model, other, class_said, freeze, serial, version, input_name, input_2, inputs_2}
-use Rattle.words.specs.Numerals.{hours_most}
-use Rattle.words.specs.Lamps.{is_lamp_hours}
 use Rattle.words.specs.declared.power.Power.{Power}
-use Rattle.words.specs.declared.power.Power.TheVariants.{Off, On, Cooling, WarmUp}
 use Rattle.words.specs.Classes.{class_text}
 use Rattle.words.specs.declared.class.ClassNumber.{ClassNumber}
-use Rattle.words.specs.declared.class.ClassNumber.TheVariants.{One, Two}
 use Rattle.words.specs.declared.lamp.LampHours.{LampHours}
-use Rattle.words.proofs.TextsTold.{text_bytes, name_is_text}
 use Rattle.pjlink.proofs.Joined.{list_all-list_text, joined_long}
 
 mutes_within : (v a : Bool) → length (halves_text v a) ≤ 2
-mutes_within true true = omega arith
-mutes_within true false = omega arith
-mutes_within false true = omega arith
-mutes_within false false = omega arith
+mutes_within v a = grind arith
 
 -- hours of five digits make a lamp of at most seven bytes
 lamp_of_seven : (x : LampHours) → is_lamp_hours x ≡ true → length (lamp_text x) ≤ 7
-lamp_of_seven x e =
-    omega (
-      arith,
-      length-append (digits x.hours) (code " " ∷ switch_code x.lit ∷ []),
-      digits_at_most_5 x.hours (omega (arith, leb-true x.hours hours_most e)),
-    )
+lamp_of_seven x e = grind (arith, length-append, digits_at_most_5)
 
 pub said_long : {c : Command} {m : Said} → CanSay c m → length (said_bytes m) ≤ bytes_most m
 unfolding said_bytes
@@ -74,25 +59,7 @@ said_long (input_2 i e) = omega arith
 said_long (inputs_2 is l h e) = omega (arith, joined_long input_text is_input 2 (λ x f. omega arith) is e l)
 
 most_within : {c : Command} {m : Said} → CanSay c m → bytes_most m ≤ said_most
-most_within (done s) = omega arith
-most_within (refuses n l h t) = omega arith
-most_within (power p) = omega arith
-most_within (input i e) = omega arith
-most_within (mutes v a) = omega arith
-most_within (errors ds h e) = omega arith
-most_within (lamps ls l h e) = omega arith
-most_within (inputs is l h e) = omega arith
-most_within (name s e) = omega (arith, name_long s e)
-most_within (maker s e) = omega (arith, info_long s e)
-most_within (model s e) = omega (arith, info_long s e)
-most_within (other s e) = omega (arith, info_long s e)
-most_within (class_said k) = omega arith
-most_within (freeze on) = omega arith
-most_within (serial s e) = omega (arith, info_long s e)
-most_within (version s e) = omega (arith, info_long s e)
-most_within (input_name s b e) = omega (arith, input_name_long s e)
-most_within (input_2 i e) = omega arith
-most_within (inputs_2 is l h e) = omega arith
+most_within h = grind (arith, name_long, info_long, input_name_long)
 
 pub said_within_most : {c : Command} {m : Said} → CanSay c m → length (said_bytes m) ≤ said_most
 said_within_most w = omega (arith, said_long w, most_within w)
@@ -101,19 +68,14 @@ not_cr-number_digit : (d : ℕ) → not_cr (number_digit d) ≡ true
 not_cr-number_digit d = ap not (ne_eqb (number_digit d) (code "\r") (omega arith))
 
 class_plain : (k : ClassNumber) → list_all not_cr (class_text k) ≡ true
-class_plain One = refl
-class_plain Two = refl
+class_plain k = grind arith
 
 list_all-errors_text : (ds : List ℕ) → list_all not_cr (errors_text ds) ≡ true
 list_all-errors_text [] = refl
 list_all-errors_text (d ∷ ds) = both (not_cr-number_digit d) (list_all-errors_text ds)
 
 text_no_cr : (n : ℕ) (s : List ℕ) → is_text n s ≡ true → list_all not_cr s ≡ true
-text_no_cr n s e =
-    list_all_implies is_text_byte not_cr
-    (λ b t. ap not
-    (ne_eqb b (code "\r") (λ q. omega (arith, leb-true 0x20 b (both_left (nat_le 0x20 b) (nat_le b 0xFF) t)))))
-    s (text_bytes n s e)
+text_no_cr n s e = grind (arith, list_all_implies, text_bytes)
 
 list_all-lamp_text : (x : LampHours) → list_all not_cr (lamp_text x) ≡ true
 list_all-lamp_text x =
@@ -125,16 +87,10 @@ list_all-lamp_text x =
     flag false = refl
 
 list_all-power_text : (p : Power) → list_all not_cr (power_text p) ≡ true
-list_all-power_text Off = refl
-list_all-power_text On = refl
-list_all-power_text Cooling = refl
-list_all-power_text WarmUp = refl
+list_all-power_text p = grind arith
 
 list_all-halves_text : (v a : Bool) → list_all not_cr (halves_text v a) ≡ true
-list_all-halves_text true true = refl
-list_all-halves_text true false = refl
-list_all-halves_text false true = refl
-list_all-halves_text false false = refl
+list_all-halves_text v a = grind arith
 
 has_no_cr : {c : Command} {m : Said} → CanSay c m → list_all not_cr (said_bytes m) ≡ true
 unfolding said_bytes

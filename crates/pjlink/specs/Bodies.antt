@@ -21,9 +21,8 @@ use Rattle.words.specs.declared.class.ClassNumber.TheVariants.{One}
 use Rattle.pjlink.specs.declared.body.TheConstants.{BODIES}
 use Rattle.pjlink.specs.declared.body.Row.{Row}
 use Rattle.pjlink.specs.declared.body.Body.{Body}
-use Rattle.pjlink.specs.declared.body.Body.TheVariants.{Powr, Inpt, Avmt, Erst, Lamp, Inst, Name, Inf1, Inf2}
-use Rattle.pjlink.specs.declared.body.Body.TheVariants.{Info, Clss, Frez, Svol, Mvol, Snum, Sver, Innm}
-use Rattle.pjlink.specs.declared.body.Body.TheVariants.{Inpt2, Inst2}
+use Rattle.pjlink.specs.declared.body.Body.TheVariants.{Powr, Inpt, Avmt, Erst, Lamp, Inst, Name, Inf1, Inf2, Info}
+use Rattle.pjlink.specs.declared.body.Body.TheVariants.{Clss, Frez, Svol, Mvol, Snum, Sver, Innm, Inpt2, Inst2}
 use Rattle.pjlink.specs.declared.body.Sets.{Sets}
 use Rattle.pjlink.specs.declared.body.Sets.TheVariants.{NamesInput, QueryOnly}
 

@@ -10,13 +10,15 @@
 --   command_parameter l       what follows the mark; in a reply, up to the CR: reply_parameter l
 --   IsCommandOf k l j s p     the line l of the form has the class j, the body s and the parameter p
 --   IsReplyOf k l s p         the reply l of the form has the body s and the parameter p
---   reply_line h a b c d p    the reply with the class byte h, the body a b c d and the parameter p
+--   IsLetters s               the body s is four letters or digits
+--   reply_line h s p          the reply with the class byte h, the body s and the parameter p
 --   greeting_open             the greeting of a projector without security
 --   greeting_secured digits   the greeting with its random number's eight digits
 --   erra_line                 the refusal of a first line without the matching digest
 -- Assumes nothing.
 use Rattle.std.specs.Prelude.{ℕ, ◌-◌, ◌≡◌, true, Bool, ◌&&◌, ◌||◌, List, [], ◌∷◌, ◌++◌, length, take, drop, nat_le}
 use Rattle.std.specs.Prelude.{◌==◌, codes}
+use Rattle.std.specs.List.{list_all}
 use Prim.Native.Char.{code}
 use Rattle.text.specs.Words.{◌is◌}
 use Rattle.words.specs.Bytes.{◌at◌, is_alnum, no_cr, command_most}
@@ -73,8 +75,12 @@ pub record IsReplyOf (k : ℕ) (l s p : List ℕ) : Type 0 where
   pub body : s ≡ head_body l
   pub parameter : p ≡ reply_parameter l
 
-abbrev pub reply_line : ℕ → ℕ → ℕ → ℕ → ℕ → List ℕ → List ℕ
-reply_line h a b c d p = codes "%" ++ (h ∷ a ∷ b ∷ c ∷ d ∷ []) ++ codes "=" ++ p ++ codes "\r"
+pub record IsLetters (s : List ℕ) : Type 0 where
+  pub four : length s ≡ 4
+  pub each : list_all is_alnum s ≡ true
+
+abbrev pub reply_line : ℕ → List ℕ → List ℕ → List ℕ
+reply_line h s p = codes "%" ++ (h ∷ s) ++ codes "=" ++ p ++ codes "\r"
 
 abbrev pub greeting_open : List ℕ
 greeting_open = codes "PJLINK 0\r"

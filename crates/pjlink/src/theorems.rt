@@ -1,14 +1,14 @@
 // What is proved beside the contracts of the functions. Nothing is done here: that these functions have their contracts
 // is that the theorems stand.
-ghost use Rattle.std.specs.Prelude.{[], ◌∷◌, ◌≡◌, ◌≤◌, ◌++◌, ℕ, List, Option, Result, false, true, length};
-ghost use Rattle.std.specs.List.{list_all};
-ghost use Rattle.words.specs.Bytes.{◌at◌, is_alnum, no_cr};
+ghost use Rattle.std.specs.Prelude.{◌≡◌, ◌≤◌, ◌++◌, ℕ, Bool, List, Option, Result, false, true, length};
+ghost use Rattle.words.specs.Bytes.{◌at◌, no_cr};
 ghost use Rattle.pjlink.specs.declared.answer.Answer.{Answer};
 ghost use Rattle.words.specs.declared.refusal.Refusal.{Refusal};
 ghost use Rattle.pjlink.specs.Carried.{parameter_said};
 ghost use Rattle.pjlink.specs.Said.{said_bytes, nothing, Said, parameter_most};
 ghost use Rattle.pjlink.specs.Commands.{class_digit};
-ghost use Rattle.pjlink.specs.Forms.{is_command_form, line_class, is_reply_form, reply_line};
+ghost use Rattle.pjlink.specs.Forms.{is_command_form, line_class, head_body, is_reply_form, reply_parameter};
+ghost use Rattle.pjlink.specs.Forms.{IsLetters, reply_line};
 ghost use Rattle.pjlink.specs.declared.command.Command.{Command};
 ghost use Rattle.pjlink.specs.Reading.{read_parameter};
 ghost use Rattle.pjlink.specs.Writings.{Says, IsAllowed};
@@ -31,6 +31,7 @@ pub fn what_is_read_was_written()
     ensures one_meaning { (c : Command) (p : List ℕ) (m n : Said) → Says c m p → Says c n p → m ≡ n }
     ensures not_allowed { (c : Command) (p : List ℕ) → IsAllowed c p false → read_parameter c p ≡ nothing }
     ensures allowed { (c : Command) (p : List ℕ) → IsAllowed c p true → read_parameter c p ≡ nothing → ⊥ }
+    ensures either { (c : Command) (p : List ℕ) → (t : Bool) × IsAllowed c p t }
 {}
 
 /// A line that a set-up takes is of its class or of a lower one, and has that class's digit; a reply of one class is
@@ -38,7 +39,18 @@ pub fn what_is_read_was_written()
 pub fn a_line_has_its_class()
     ensures taken { (k : ℕ) (l : List ℕ) → is_command_form k l ≡ true → 1 ≤ k → line_class l ≤ k }
     ensures digit { (k : ℕ) (l : List ℕ) → is_command_form k l ≡ true → l at 1 ≡ class_digit (line_class l) }
-    ensures other { (a b c d j k : ℕ) (p : List ℕ) → list_all is_alnum (a ∷ b ∷ c ∷ d ∷ []) ≡ true → (j ≡ k → ⊥)
-        → length p ≤ parameter_most → no_cr p ≡ true
-        → is_reply_form k (reply_line (class_digit j) a b c d p) ≡ false }
+    ensures other { (s : List ℕ) → IsLetters s → (j k : ℕ) (p : List ℕ) → (j ≡ k → ⊥)
+        → length p ≤ parameter_most → no_cr p ≡ true → is_reply_form k (reply_line (class_digit j) s p) ≡ false }
+{}
+
+/// A reply built from a class, a body and a parameter has the form of that class, and gives body and parameter back; a
+/// line of the form has its head and its CR (RULES, Controller).
+pub fn a_reply_gives_its_parts()
+    ensures form { (s : List ℕ) → IsLetters s → (k : ℕ) (p : List ℕ) → length p ≤ parameter_most → no_cr p ≡ true
+        → is_reply_form k (reply_line (class_digit k) s p) ≡ true }
+    ensures body { (s : List ℕ) → IsLetters s → (h : ℕ) (p : List ℕ) → length p ≤ parameter_most → no_cr p ≡ true
+        → head_body (reply_line h s p) ≡ s }
+    ensures parameter { (s : List ℕ) → IsLetters s → (h : ℕ) (p : List ℕ) → length p ≤ parameter_most
+        → no_cr p ≡ true → reply_parameter (reply_line h s p) ≡ p }
+    ensures long { (k : ℕ) (l : List ℕ) → is_reply_form k l ≡ true → 8 ≤ length l }
 {}

@@ -6,6 +6,7 @@ pub mod Pairs
 pub mod Marks
 pub mod MarksTold
 pub mod PowerSeen
+pub mod PhaseSeen
 pub mod FactsTold
 pub mod Kept
 pub mod Rules

@@ -3,7 +3,7 @@
 use Rattle.std.proofs.Common.{ℕ, ◌≡◌, refl, arith, true}
 use Rattle.record.specs.Legal.{is_left}
 use Rattle.record.specs.Views.{power_of, power_number, power_left, IsPower, IsPowerOf, is_burning}
-use Rattle.record.specs.Limits.{is_lit}
+use Rattle.record.specs.Limits.{is_lit, is_between}
 use Rattle.record.specs.declared.views.Power.{Power}
 use Rattle.record.specs.declared.views.Power.TheVariants.{Off, WarmUp, On, Cooling}
 
@@ -33,3 +33,8 @@ written w c Off h = record { number = refl; seconds = refl; within = h }
 
 pub is_burning-power_of : (power left : ℕ) → is_burning (power_of power left) ≡ is_lit power
 is_burning-power_of power left = grind arith
+
+pub is_between-power_of : (power left : ℕ) → is_between (power_number (power_of power left)) ≡ is_between power
+is_between-power_of power left = grind arith
+
+pub ruleset power_tests = (is_burning-power_of, is_between-power_of)

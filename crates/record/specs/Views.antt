@@ -8,12 +8,15 @@
 --   is_burning p                          the lamps burn
 --   IsPowerOf warm cool power left   the numbers are those of such a power
 --   phase_of phase age random        the phase of a connection
+--   phase_number p, phase_age p, phase_random p     as the record has them
+--   with_phase c p                   the connection in that phase, with the line that it has
 --   class_seen s                     the class of a set-up
 -- Assumes nothing.
 use Rattle.std.specs.Prelude.{ℕ, ◌≤◌, ◌≡◌, Bool, true, false, if◌then◌else◌, ◌==◌}
-use Rattle.record.specs.Limits.{off, on, cooling, warming, awaiting, opened, failed}
+use Rattle.record.specs.Limits.{off, on, cooling, warming, shut, awaiting, opened, failed}
 use Rattle.record.specs.Updates.{with_power_left}
 use Rattle.record.specs.declared.types.Own.{Own}
+use Rattle.record.specs.declared.types.Connection.{Connection}
 use Rattle.record.specs.declared.types.Settings.{Settings}
 use Rattle.words.specs.declared.class.ClassNumber.{ClassNumber}
 use Rattle.words.specs.declared.class.ClassNumber.TheVariants.{One, Two}
@@ -70,6 +73,26 @@ phase_of phase age random =
     else if phase == opened then Open random
     else if phase == failed then Failed age random
     else Closed
+
+abbrev pub phase_number : Phase → ℕ
+phase_number Closed = shut
+phase_number (Awaiting age random) = awaiting
+phase_number (Open random) = opened
+phase_number (Failed age random) = failed
+
+abbrev pub phase_age : Phase → ℕ
+phase_age (Awaiting age random) = age
+phase_age (Failed age random) = age
+phase_age p = 0
+
+abbrev pub phase_random : Phase → ℕ
+phase_random Closed = 0
+phase_random (Awaiting age random) = random
+phase_random (Open random) = random
+phase_random (Failed age random) = random
+
+abbrev pub with_phase : Connection → Phase → Connection
+with_phase c p = record { phase = phase_number p; age = phase_age p; random = phase_random p; line = c.line }
 
 abbrev pub class_seen : Settings → ClassNumber
 class_seen s = if s.class_number == 2 then Two else One

@@ -1,7 +1,7 @@
 // The power, and the legality of the projector's own part (RULES, The legal record).
 ghost use Rattle.std.specs.Prelude.{◌≡◌, ◌≤◌, not};
 ghost use Rattle.std.specs.List.{list_all};
-ghost use Rattle.record.specs.Limits.{lamps_most, is_lit, is_between};
+ghost use Rattle.record.specs.Limits.{lamps_most};
 ghost use Rattle.record.specs.Rules.{is_lamps, is_marks, is_error_list};
 ghost use Rattle.record.specs.Legal.{fills_room, is_left, is_own};
 
@@ -32,20 +32,6 @@ pub const COOLING: u8 = 2;
 
 /// Warm-up.
 pub const WARMING: u8 = 3;
-
-/// Whether lamps burn in this power: in warm-up and on.
-pub fn is_lit(power: u8) -> bool
-    ensures { result ≡ is_lit power }
-{
-    matches!(power, WARMING | ON)
-}
-
-/// Whether seconds are left of this power: of warm-up and of cooling.
-pub fn is_between(power: u8) -> bool
-    ensures { result ≡ is_between power }
-{
-    matches!(power, WARMING | COOLING)
-}
 
 /// 0 to 8 lamps, each within the limit.
 #[tactic(auto, unfolding(crate::specs::Rules::is_lamps))]
@@ -86,7 +72,8 @@ pub fn errors_ok(s: &[u8]) -> bool
     s.len() == ERRORS && scan::bytes_within(s, ERROR_MOST)
 }
 
-// Seconds left: 1 to `warm` in warm-up, 1 to `cool` in cooling, else 0.
+// Seconds left: 1 to `warm` in warm-up, 1 to `cool` in cooling, else 0. Over the number, since this decides whether it
+// is that of a power.
 #[tactic(auto, unfolding(crate::specs::Legal::is_left))]
 fn left_ok(power: u8, left: u32, warm: u32, cool: u32) -> bool
     ensures { result ≡ is_left power left warm cool }

@@ -1,10 +1,13 @@
 // What the record's numbers mean: a total view of each, and how it is written back.
 ghost use Rattle.std.specs.Prelude.{◌≡◌};
-ghost use Rattle.record.specs.Views.{power_of, with_power, is_burning, phase_of, class_seen};
+ghost use Rattle.record.specs.Limits.{is_between};
+ghost use Rattle.record.specs.Legal.{is_timed, is_collecting, held_most};
+ghost use Rattle.record.specs.Views.{power_of, power_number, with_power, is_burning};
+ghost use Rattle.record.specs.Views.{phase_of, phase_number, with_phase, class_seen};
 
-use crate::connection::{AWAITING, FAILED, OPENED};
+use crate::connection::{AWAITING, FAILED, LINE_MOST, OPENED, SHUT};
 use crate::own::{COOLING, OFF, ON, WARMING};
-use crate::types::{Connection, Own, Settings};
+use crate::types::{Connection, LINE_ROOM, Own, Settings};
 use words::class::ClassNumber;
 
 /// The power, with the seconds that are left of it.
@@ -31,6 +34,41 @@ impl Power {
         ensures { result ≡ is_burning self }
     {
         matches!(self, Power::WarmUp { .. } | Power::On)
+    }
+
+    /// Seconds are left of it.
+    pub fn is_between(self) -> bool
+        ensures { result ≡ is_between (power_number self) }
+    {
+        matches!(self, Power::WarmUp { .. } | Power::Cooling { .. })
+    }
+}
+
+impl Phase {
+    /// A connection ages in it.
+    pub fn is_timed(self) -> bool
+        ensures { result ≡ is_timed (phase_number self) }
+    {
+        matches!(self, Phase::Awaiting { .. } | Phase::Failed { .. })
+    }
+
+    /// It collects bytes in it.
+    pub fn is_collecting(self) -> bool
+        ensures { result ≡ is_collecting (phase_number self) }
+    {
+        matches!(self, Phase::Awaiting { .. } | Phase::Open { .. })
+    }
+
+    /// The most bytes that it collects of a line.
+    #[tactic(auto, unfolding(crate::specs::Legal::held_most))]
+    pub fn held_most(self) -> usize
+        ensures { result ≡ held_most (phase_number self) }
+    {
+        match self {
+            Phase::Awaiting { .. } => LINE_ROOM,
+            Phase::Open { .. } => LINE_MOST,
+            Phase::Closed | Phase::Failed { .. } => 0,
+        }
     }
 }
 
@@ -73,6 +111,20 @@ impl Connection {
             FAILED => Phase::Failed { age, random },
             _ => Phase::Closed,
         }
+    }
+
+    pub fn set_phase(&mut self, phase: Phase)
+        ensures { self.new ≡ with_phase self.old phase }
+    {
+        let (number, age, random) = match phase {
+            Phase::Closed => (SHUT, 0, 0),
+            Phase::Awaiting { age, random } => (AWAITING, age, random),
+            Phase::Open { random } => (OPENED, 0, random),
+            Phase::Failed { age, random } => (FAILED, age, random),
+        };
+        self.phase = number;
+        self.age = age;
+        self.random = random;
     }
 }
 

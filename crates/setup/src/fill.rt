@@ -38,6 +38,7 @@ pub fn name_of(s: &[u8]) -> InputName
 }
 
 /// So many names, as they are lent, into the record's list (RULES, Class 2).
+#[tactic(auto, using(record::proofs::CountedNames::as_many_counted))]
 pub fn keep_names(list: &mut [InputName; INPUTS_MOST], lent: &Names<'_>, count: usize)
     requires named { are_names count (names_lent lent.now) ≡ true }
     requires few { count ≤ listed_most }

@@ -1,120 +1,109 @@
 -- Loading by its cases: what it gives by the version, by what the form says and leaves, and by what set-up gave.
 -- Assumes nothing.
-use Rattle.std.proofs.Common.{◌≡◌, ℕ, ◌<◌, Bool, true, false, not, ◌&&◌, List, [], ◌∷◌, length, map, replicate}
-use Rattle.std.proofs.Common.{Option, Some, None, refl, sym, ap, ◌∙◌, arith, if◌then◌else◌, ◌==◌, eqb-true}
-use Rattle.text.specs.Rows.{◌when◌, by_rows}
-use Rattle.text.proofs.Choices.{if_yes, if_no, by_not}
+use Rattle.std.proofs.Common.{ℕ, ◌<◌, ◌≡◌, Bool, true, false, ◌&&◌, ◌==◌, if◌then◌else◌, List, length, map, replicate}
+use Rattle.std.proofs.Common.{Some, None, Result, Ok, Err, sym, ap, ◌∙◌, arith, eqb-true}
+use Rattle.std.specs.Prelude.{OnOk}
+use Rattle.std.specs.Result.{is_ok}
+use Rattle.text.proofs.Choices.{if_yes, by_not}
 use Rattle.record.specs.Limits.{lamps_most, is_class_number}
-use Rattle.record.specs.Wanted.{Wanted, counted_in}
-use Rattle.record.specs.Updates.{with_own, with_marks}
+use Rattle.record.specs.Wanted.{Wanted}
 use Rattle.record.specs.Record.{started, blank}
-use Rattle.record.specs.Given.{Given, accepted, refused}
-use Rattle.record.specs.Legal.{is_legal}
-use Rattle.record.specs.SetUp.{is_set_up}
+use Rattle.record.specs.Given.{Given, accepted, refused, gives}
+use Rattle.record.specs.SetUp.{is_set_up, set_up}
 use Rattle.record.specs.declared.types.Device.{Device}
+use Rattle.record.specs.declared.set_up_error.SetUpError.{SetUpError}
 use Rattle.record.specs.declared.types.Setting.TheVariants.{Inputs, Lamps}
+use Rattle.record.proofs.Calls.{set_up_accepted, set_up_in_range}
 use Rattle.record.proofs.OutOfRange.{each_in_range}
 use Rattle.record.proofs.Rules.{lamps_few, inputs_class}
-use Rattle.record.proofs.Started.{started_parts, started_legal}
-use Rattle.stored.specs.Reading.{alone, FormSaid, form}
+use Rattle.record.proofs.Started.{started_parts}
+use Rattle.stored.proofs.Seconds.{length-seconds_in}
+use Rattle.stored.specs.Form.{mark_byte}
+use Rattle.stored.specs.Reading.{FormSaid, form}
 use Rattle.stored.specs.Views.{class_said}
 use Rattle.stored.specs.declared.form.Rest.{Rest}
-use Rattle.stored.specs.Loading.{is_other_version, ends_early, leaves_more, said, is_legal_said, contents, loaded}
-use Rattle.stored.specs.Loading.{device_of}
-use Rattle.stored.specs.Loading.{is_marked, mark_room, are_marks, started_with}
-use Rattle.stored.proofs.DeviceMade.{some_set_up, none_set_up}
-use Rattle.stored.proofs.Contents.{ones_are_marks, started_with-replicate}
-use Rattle.stored.proofs.MarkBytes.{ones_marked}
-
-otherwise : {A : Type 0} (a b : A) (t : Bool) → (if not t then a else b) ≡ (if t then b else a)
-otherwise a b true = refl
-otherwise a b false = refl
+use Rattle.stored.specs.Loading.{is_other_version, contents, loaded, is_marked, is_marks_of, are_marks, started_with}
+use Rattle.stored.proofs.Marks.{marks_back, are_marks-map, all_are_marks, map-replicate, started_with-replicate}
 
 -- by the version, and by what reading gives
-abbrev decided : Bool → Option (FormSaid × List ℕ) → Given Device
-decided other read =
-    by_rows
-    ((20 when other) ∷ (21 when ends_early read) ∷ (22 when leaves_more read)
-    ∷ (23 when not (is_legal_said (said read))) ∷ [])
-    (λ n. refused n blank) (accepted (started_with (said read).settings (map is_marked (said read).marks)))
-
 module _ (s : List ℕ) where
   pub loaded_other : is_other_version s ≡ true → loaded s ≡ refused 20 blank
   unfolding loaded
-  loaded_other v = if_yes _ _ v
+  loaded_other v = grind (arith, v)
 
   module _ (v : is_other_version s ≡ false) where
     pub loaded_cut : form s ≡ None → loaded s ≡ refused 21 blank
     unfolding loaded
-    loaded_cut e = (λ j. decided (v j) (e j))
+    loaded_cut e = grind (arith, v, e)
 
     module _ {f : FormSaid} {rest : List ℕ} (e : form s ≡ Some (f, rest)) where
       pub loaded_over : (length rest == 0) ≡ false → loaded s ≡ refused 22 blank
       unfolding loaded
-      loaded_over h = (λ j. decided (v j) (e j)) ∙ if_yes _ _ (ap not h)
+      loaded_over h = rw (v, e, h)
 
       pub loaded_whole : (length rest == 0) ≡ true → loaded s ≡ contents f
       unfolding loaded
-      loaded_whole h =
-          (λ j. decided (v j) (e j)) ∙ if_no _ _ (ap not h)
-          ∙ otherwise (refused 23 blank) (accepted (started_with f.settings (map is_marked f.marks))) (is_legal_said f)
+      loaded_whole h = grind (arith, v, e, h)
+
+pub ruleset loaded_early = (loaded_other, loaded_cut, loaded_over)
 
 -- ---- by what set-up gave
 
-module _ (w : Wanted) where
-  pub none_of_class : is_class_number w.class ≡ false → None ≡ device_of w
-  none_of_class e =
-      none_set_up w
-      (by_not (is_set_up w)
-      (λ h. let k = inputs_class _ _ (each_in_range w h Inputs) in let both = sym k ∙ e in cc))
-
-  pub too_many_lamps : lamps_most < length w.lamps → None ≡ device_of w
-  too_many_lamps l = none_set_up w (by_not (is_set_up w) (λ h. omega (arith, lamps_few _ (each_in_range w h Lamps))))
-
 -- the class that is said is the form's
 pub said_class : (n : ℕ) (r : Rest) → (class_said n r).class ≡ r.class
-said_class n r = by (r.class == 2) refl
-  where
-    by : (two : Bool) → (r.class == 2) ≡ two
-        → (if two
-        then record { class = 2; serial = r.serial.now; version = r.version.now; names = counted_in n r.names.now }
-        else alone r.class).class
-        ≡ r.class
-    by true e = sym (eqb-true r.class 2 e)
-    by false e = refl
+said_class n r = grind (arith, eqb-true r.class 2)
 
--- the device with the marks that the bytes are, if they are marks of n lamps
-abbrev pub marked_as : ℕ → Device → List ℕ → Given Device
-marked_as n d bytes =
-    if are_marks n bytes then accepted (with_own d (with_marks d.own (mark_room (map is_marked bytes))))
-    else refused 23 blank
+module _ (w : Wanted) where
+  pub none_of_class : is_class_number w.class ≡ false → is_set_up w ≡ false
+  none_of_class e = by_not (is_set_up w) (λ h. grind (arith, e, inputs_class _ _ (each_in_range w h Inputs)))
 
-module _ (f : FormSaid) where
-  module _ {d : Device} (e : Some d ≡ device_of f.settings) where
-    set_up_known : is_set_up f.settings ≡ true
-    set_up_known = (some_set_up f.settings e).0
+  pub too_many_lamps : lamps_most < length w.lamps → is_set_up w ≡ false
+  too_many_lamps l = by_not (is_set_up w) (λ h. omega (arith, lamps_few _ (each_in_range w h Lamps)))
 
-    made : d ≡ started f.settings
-    made = (some_set_up f.settings e).1
+  pub record Sets (r : Result (Unit {0}) SetUpError) (d : Device) : Type 0 where
+    pub taken : is_ok r ≡ is_set_up w
+    pub made : OnOk r (d ≡ started w)
 
-    pub set_up_is_legal : is_legal d ≡ true
-    set_up_is_legal = ap is_legal made ∙ started_legal f.settings set_up_known
+  pub set_up_sets : (r : Result (Unit {0}) SetUpError) (d : Device) → gives r d ≡ set_up w → Sets r d
+  set_up_sets (Ok u) d e = record {
+    taken = grind (arith, set_up_in_range w, e);
+    made = cc (e, set_up_accepted w (grind (arith, set_up_in_range w, e)));
+  }
+  set_up_sets (Err x) d e = record { taken = grind (arith, set_up_accepted w, e); made = tt }
 
-    pub contents_marked : marked_as d.settings.lamp_count d f.marks ≡ contents f
-    contents_marked =
-        ap (λ (x : Device). marked_as x.settings.lamp_count x f.marks) made
-        ∙ ap (λ (n : ℕ). marked_as n (started f.settings) f.marks)
-        (ap (λ (x : Device). x.settings.lamp_count) (started_parts f.settings))
-        ∙ ap (λ (t : Bool). if t && are_marks (length f.settings.lamps) f.marks
-        then accepted (started_with f.settings (map is_marked f.marks)) else refused 23 blank)
-        (sym set_up_known)
+  -- what a form says of it with these marks, and what a load of it gives where they may stand there
+  abbrev pub saying : List ℕ → FormSaid
+  saying marks = record { settings = w; marks = marks }
+
+  abbrev pub started_if : Bool → List Bool → Given Device
+  started_if t ms = if t then accepted (started_with w ms) else refused 23 blank
+
+  module _ (ok : is_set_up w ≡ true) where
+    abbrev n : ℕ
+    n = length w.lamps
+
+    contents_marked : (s : List ℕ) → contents (saying s) ≡ started_if (are_marks n s) (map is_marked s)
+    contents_marked s = ap (λ (t : Bool). started_if (t && are_marks n s) (map is_marked s)) ok
+
+    pub contents_of : (ms : List Bool) → contents (saying (map mark_byte ms)) ≡ started_if (is_marks_of n ms) ms
+    contents_of ms = contents_marked (map mark_byte ms) ∙ (λ j. started_if (are_marks-map n ms j) (marks_back ms j))
+
+    -- as the code tests them on the device that was set up
+    pub contents_tested : {d : Device} → d ≡ started w → {m s : List ℕ} → m ≡ s → {t : Bool}
+        → t ≡ are_marks d.settings.lamp_count s → contents (saying m) ≡ started_if t (map is_marked s)
+    contents_tested made {m} {s} same e =
+        let count = ap (λ (x : Device). are_marks x.settings.lamp_count s) (made ∙ started_parts w) in
+        ap (λ (l : List ℕ). contents (saying l)) same ∙ contents_marked s
+        ∙ ap (λ (t : Bool). started_if t (map is_marked s)) (sym (e ∙ count))
 
     -- in the version that has none, each of its lamps is enabled
-    pub contents_unmarked : f.marks ≡ replicate (length f.settings.lamps) 1 → accepted d ≡ contents f
-    contents_unmarked m =
-        ap accepted (made ∙ sym (started_with-replicate f.settings set_up_known))
-        ∙ ap (λ (l : List Bool). accepted (started_with f.settings l))
-        (sym (ap (map is_marked) m ∙ ones_marked (length f.settings.lamps)))
-        ∙ sym (if_yes _ _
-        ((λ j. set_up_known j && are_marks (length f.settings.lamps) (m j))
-        ∙ ones_are_marks f.settings set_up_known))
+    pub contents_unmarked : contents (saying (replicate n 1)) ≡ accepted (started w)
+    contents_unmarked =
+        ap (λ (s : List ℕ). contents (saying s)) (sym (map-replicate n))
+        ∙ contents_of (replicate n true)
+        ∙ if_yes _ _ (all_are_marks n (lamps_few w.lamps (each_in_range w ok Lamps)))
+        ∙ ap accepted (started_with-replicate w ok)
+
+pub ruleset said_contents = (contents_unmarked, length-seconds_in)
+
+pub ruleset not_set_up = (none_of_class, too_many_lamps, said_class, length-seconds_in)

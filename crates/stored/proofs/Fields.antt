@@ -1,66 +1,104 @@
--- The laws of a field (RULES, Stored form): what is written is read again, whatever follows; what is read was written
--- so, each byte of it; and what reads from some bytes reads the same from more of them.
---   Takes r spell      what r reads, spelled, is the bytes that it took
---   Extends r          what r reads from the bytes s it reads from s with more after it, which is left
+-- The laws of the fields of a stored form (RULES, Stored form), each in both directions: what is written of a value is
+-- its form; what was read begins with the form of the value.
+--   IsForm r x s         to the reader r the bytes s are the form of x: read so whatever follows, cut short where cut
+--   Bytes s              each element of s is a byte
+--   Begins s a rest      if s are bytes, they are a, and the rest after it
 -- Assumes nothing.
-use Rattle.std.proofs.Common.{◌≡◌, ℕ, zero, suc, ◌*◌, ◌^◌, ◌<◌, ◌≤◌, Bool, true, false, List, [], ◌∷◌, ◌++◌}
-use Rattle.std.proofs.Common.{length, drop, Option, Some, None, refl, sym, ap, subst, ◌∙◌, arith, append_assoc}
-use Rattle.std.proofs.Common.{if◌then◌else◌, nat_lt, length-append, take_at, drop_at, le-ltb, ltb-false}
-use Rattle.std.proofs.Math.Seq.{drop-append_seam}
-use Rattle.std.proofs.lemmas.List.{take-append-le, drop-append-le}
-use Rattle.text.proofs.Choices.{if_yes, if_no}
+use Rattle.std.proofs.Common.{ℕ, zero, suc, ◌+◌, ◌-◌, ◌*◌, ◌/◌, ◌^◌, ◌<◌, ◌≡◌, Bool, true, false, if◌then◌else◌, List}
+use Rattle.std.proofs.Common.{[], ◌∷◌, ◌++◌, length, take, Option, Some, None, refl, sym, ap, subst, ◌∙◌, arith}
+use Rattle.std.proofs.Common.{append_assoc, length-append, length-take-le, take-append-drop}
+use Rattle.std.proofs.lemmas.Grind.{common_steps}
+use Rattle.std.proofs.lemmas.List.{take-append-le, get_or-append-add}
+use Rattle.std.proofs.Math.Seq.{take-append-add}
+use Rattle.std.specs.List.{list_all}
+use Rattle.record.specs.Rules.{at_most}
+use Rattle.text.proofs.Scanning.{list_all_at}
+use Rattle.text.specs.InTurn.{each_in_turn}
+use Rattle.text.specs.Scans.{itself}
+use Rattle.text.proofs.Bases.{Digits}
 use Rattle.numbers.specs.HighestFirst.{highest_first, number_in}
-use Rattle.numbers.proofs.HighestFirst.{length-highest_first, highest_back}
-use Rattle.stored.specs.Form.{text_section, texts_bytes}
+use Rattle.numbers.proofs.HighestFirst.{length-highest_first, highest_back, highest_one_form}
+use Rattle.stored.specs.Form.{section, text_section, texts_bytes}
 use Rattle.stored.specs.Reading.{Field, onward, ◌giving◌, given, byte, bytes, number, section_of, text, texts}
-use Rattle.stored.proofs.BytesAgain.{Bytes, drop_bytes}
 
--- ---- read again
+-- ---- written
 
-pub bytes_again : (n : ℕ) (s rest : List ℕ) → length s ≡ n → bytes n (s ++ rest) ≡ Some (s, rest)
+pub record IsForm {A : Type 0} (r : Field A) (x : A) (s : List ℕ) : Type 0 where
+  pub again : (t : List ℕ) → r (s ++ t) ≡ Some (x, t)
+  pub cut : (k : ℕ) → k < length s → r (take k s) ≡ None
+
+pub given_form : {A : Type 0} (x : A) → IsForm (given x) x []
+given_form x = record { again = λ t. refl; cut = λ k l. absurd (omega arith) }
+
+module _ {A B : Type 0} {r : Field A} {x : A} {s : List ℕ} (p : IsForm r x s) where
+  -- one field after the other
+  pub form_then : (f : A → Field B) {y : B} {t : List ℕ} → IsForm (f x) y t → IsForm (r giving f) y (s ++ t)
+  form_then f {y} {t} q = record {
+    again = λ u. grind (arith, append_assoc s t u, p.again (t ++ u), q.again u);
+    cut = λ k l.
+        let left = k - length s in
+        grind (
+          arith,
+          take-append-le k s t,
+          p.cut k,
+          take-append-add s t left,
+          p.again (take left t),
+          q.cut left,
+          length-append s t,
+        );
+  }
+
+  -- and what is made of it
+  pub form_as : (g : A → B) {y : B} → g x ≡ y → IsForm (r giving λ z. given (g z)) y s
+  form_as g e = record { again = λ t. grind (arith, p.again t, e); cut = λ k l. grind (arith, p.cut k l) }
+
+-- one of two fields
+pub if_form : {A : Type 0} (t : Bool) {r q : Field A} {x : A} {s u : List ℕ} → (t ≡ true → IsForm r x s)
+    → (t ≡ false → IsForm q x u) → IsForm (if t then r else q) x (if t then s else u)
+if_form true p q = p refl
+if_form false p q = q refl
+
+pub byte_form : (b : ℕ) → IsForm byte b (b ∷ [])
+unfolding byte
+byte_form b = record { again = λ t. refl; cut = λ k l. grind (arith, common_steps) }
+
+pub bytes_form : (s : List ℕ) {n : ℕ} → length s ≡ n → IsForm (bytes n) s s
 unfolding bytes
-bytes_again n s rest e =
-    if_no _ _ (le-ltb (length (s ++ rest)) n (omega (arith, length-append s rest)))
-    ∙ (λ j. Some (take_at s rest n e j, drop_at s rest n e j))
+bytes_form s {n} e = record {
+  again = λ t. grind (arith, common_steps, length-append s t);
+  cut = λ k l. grind (arith, length-take-le k s);
+}
 
-pub section_again : (width n : ℕ) (s rest : List ℕ) → length s ≡ width * n
-    → section_of width (n ∷ (s ++ rest)) ≡ Some (s, rest)
-unfolding section_of byte
-section_again width n s rest e = bytes_again (width * n) s rest e
+pub section_form : (width n : ℕ) (s : List ℕ) → length s ≡ width * n → IsForm (section_of width) s (section n s)
+unfolding section_of
+section_form width n s e = form_then (byte_form n) _ (bytes_form s e)
 
-pub text_again : (s rest : List ℕ) → text (text_section s ++ rest) ≡ Some (s, rest)
-text_again s rest = section_again 1 (length s) s rest (omega arith)
+pub text_form : (s : List ℕ) → IsForm text s (text_section s)
+text_form s = section_form 1 (length s) s (omega arith)
 
-pub number_again : (n x : ℕ) (rest : List ℕ) → x < 256 ^ n → number n (highest_first n x ++ rest) ≡ Some (x, rest)
+pub number_form : (n x : ℕ) → x < 256 ^ n → IsForm (number n) x (highest_first n x)
 unfolding number
-number_again n x rest h =
-    ap (onward (λ s. given (number_in s))) (bytes_again n (highest_first n x) rest (length-highest_first n x))
-    ∙ ap (λ (y : ℕ). Some (y, rest)) (highest_back n x h)
+number_form n x h = form_as (bytes_form (highest_first n x) (length-highest_first n x)) _ (highest_back n x h)
 
-pub texts_again : (ts : List (List ℕ)) (rest : List ℕ) → texts (length ts) (texts_bytes ts ++ rest) ≡ Some (ts, rest)
+pub texts_form : (ts : List (List ℕ)) → IsForm (texts (length ts)) ts (texts_bytes ts)
 unfolding texts texts_bytes
-texts_again [] rest = refl
-texts_again (t ∷ ts) rest =
-    (λ j. texts (suc (length ts)) (append_assoc (text_section t) (texts_bytes ts) rest j))
-    ∙ ap (onward (λ first. texts (length ts) giving λ others. given (first ∷ others)))
-    (text_again t (texts_bytes ts ++ rest))
-    ∙ ap (onward (λ others. given (t ∷ others))) (texts_again ts rest)
+texts_form [] = given_form []
+texts_form (t ∷ ts) = form_then (text_form t) _ (form_as (texts_form ts) _ refl)
 
--- a text that is cut short cuts the texts short
-pub texts_cut : (n : ℕ) (ts : List (List ℕ)) (rest : List ℕ) → length ts < n → text rest ≡ None
-    → texts n (texts_bytes ts ++ rest) ≡ None
-unfolding texts texts_bytes
-texts_cut zero ts rest l e = absurd (omega arith)
-texts_cut (suc n) [] rest l e = ap (onward (λ first. texts n giving λ others. given (first ∷ others))) e
-texts_cut (suc n) (t ∷ ts) rest l e =
-    (λ j. texts (suc n) (append_assoc (text_section t) (texts_bytes ts) rest j))
-    ∙ ap (onward (λ first. texts n giving λ others. given (first ∷ others))) (text_again t (texts_bytes ts ++ rest))
-    ∙ ap (onward (λ others. given (t ∷ others))) (texts_cut n ts rest (omega arith) e)
+-- ---- read
 
--- ---- taken
+abbrev pub Bytes : List ℕ → Type 0
+Bytes s = Digits 256 itself s
 
-pub record Takes {A : Type 0} (r : Field A) (spell : A → List ℕ) : Type 0 where
-  pub back : (s : List ℕ) (x : A) (rest : List ℕ) → Bytes s → r s ≡ Some (x, rest) → s ≡ spell x ++ rest
+pub bytes_all : (s : List ℕ) → list_all (at_most 255) s ≡ true → Bytes s
+bytes_all s h i l = grind (arith, list_all_at (at_most 255) s 0 h i l)
+
+module _ {s : List ℕ} (a rest : List ℕ) (e : s ≡ a ++ rest) (b : Bytes s) where
+  pub front_bytes : Bytes a
+  front_bytes i l = grind (arith, common_steps, e, b i)
+
+  pub rest_bytes : Bytes rest
+  rest_bytes i l = grind (arith, e, b (length a + i), get_or-append-add a rest i 0, length-append a rest)
 
 -- what reads one field after another read each of them, and left what the next one read
 pub reading : {A B : Type 0} (r : Field A) {f : A → Field B} {s : List ℕ} {y : B × List ℕ} {G : Type 0}
@@ -71,75 +109,87 @@ reading {A} {B} r {f} {s} {y} {G} e next = by (r s) refl
     by None h = absurd (let none : None ≡ Some y = sym (ap (onward f) h) ∙ e in cc)
     by (Some x) h = next x.0 x.1 h (sym (ap (onward f) h) ∙ e)
 
-pub taking : {A B : Type 0} {r : Field A} {spell : A → List ℕ} → Takes r spell → {f : A → Field B} {s : List ℕ}
-    {y : B × List ℕ} {G : Type 0} → Bytes s → (r giving f) s ≡ Some y
-    → ((x : A) (rest : List ℕ) → r s ≡ Some (x, rest) → s ≡ spell x ++ rest → Bytes rest → f x rest ≡ Some y → G) → G
-taking {r = r} {spell} t {s = s} b e next =
-    reading r e
-    (λ x rest h k.
-    let spelled = t.back s x rest b h in
-    next x rest h spelled
-    (subst Bytes (ap (drop (length (spell x))) spelled ∙ drop-append_seam (spell x) rest)
-    (drop_bytes (length (spell x)) s b)) k)
+-- what holds of what was given holds of what was read
+pub ended : {A : Type 0} (P : A → List ℕ → Type 0) {x y : A} {s rest : List ℕ}
+    → ◌≡◌ {A = Option (A × List ℕ)} (Some (x, s)) (Some (y, rest)) → P x s → P y rest
+ended {A} P {x} {y} {s} {rest} e h =
+    let same : (x, s) ≡ (y, rest) = cc in
+    subst (λ (z : A × List ℕ). P z.0 z.1) same h
 
--- ---- extended
+pub record Begins (s a rest : List ℕ) : Type 0 where
+  pub joined : Bytes s → s ≡ a ++ rest
 
-abbrev pub more : {A : Type 0} → List ℕ → Option (A × List ℕ) → Option (A × List ℕ)
-more t None = None
-more t (Some x) = Some (x.0, x.1 ++ t)
+pub begins_then : {s a t b rest : List ℕ} → Begins s a t → Begins t b rest → Begins s (a ++ b) rest
+begins_then {s} {a} {t} {b} {rest} p q = record {
+  joined = λ c.
+      let e = p.joined c in
+      grind (arith, e, q.joined (rest_bytes a t e c), append_assoc a b rest);
+}
 
-pub record Extends {A : Type 0} (r : Field A) : Type 0 where
-  pub on : (s t : List ℕ) (x : A) (rest : List ℕ) → r s ≡ Some (x, rest) → r (s ++ t) ≡ Some (x, rest ++ t)
+pub given_begins : {A : Type 0} {x y : A} {s rest : List ℕ}
+    → ◌≡◌ {A = Option (A × List ℕ)} (Some (x, s)) (Some (y, rest)) → Begins s [] rest
+given_begins e = record { joined = λ b. grind (arith, e) }
 
-pub extends_given : {A : Type 0} (x : A) → Extends (given x)
-extends_given x = record { on = λ s t y rest e. ap (more t) e }
-
-pub extends_then : {A B : Type 0} {r : Field A} {f : A → Field B} → Extends r → ((x : A) → Extends (f x))
-    → Extends (r giving f)
-extends_then {A} {B} {r} {f} a b = record { on = λ s t y rest e. by s t y rest e (r s) refl }
-  where
-    by : (s t : List ℕ) (y : B) (rest : List ℕ) → (r giving f) s ≡ Some (y, rest) → (o : Option (A × List ℕ)) → r s ≡ o
-        → (r giving f) (s ++ t) ≡ Some (y, rest ++ t)
-    by s t y rest e None h = absurd (let none : None ≡ Some (y, rest) = sym (ap (onward f) h) ∙ e in cc)
-    by s t y rest e (Some x) h =
-        ap (onward f) (a.on s t x.0 x.1 h) ∙ (b x.0).on x.1 t y rest (sym (ap (onward f) h) ∙ e)
-
-pub extends_if : {A : Type 0} (c : Bool) {r q : Field A} → Extends r → Extends q → Extends (if c then r else q)
-extends_if true a b = a
-extends_if false a b = b
-
-pub extends_byte : Extends byte
+pub byte_begins : {s : List ℕ} {x : ℕ} {rest : List ℕ} → byte s ≡ Some (x, rest) → Begins s (x ∷ []) rest
 unfolding byte
-extends_byte = record { on = by }
-  where
-    by : (s t : List ℕ) (x : ℕ) (rest : List ℕ) → byte s ≡ Some (x, rest) → byte (s ++ t) ≡ Some (x, rest ++ t)
-    by [] t x rest e = absurd (cc)
-    by (b ∷ s) t x rest e = ap (more t) e
+byte_begins {s = []} e = absurd (cc)
+byte_begins {s = b ∷ s} e = record { joined = λ c. grind (arith, e) }
 
-pub extends_bytes : (n : ℕ) → Extends (bytes n)
+pub record Cut (n : ℕ) (s t rest : List ℕ) : Type 0 where
+  pub spelled : s ≡ t ++ rest
+  pub long : length t ≡ n
+
+bytes_cut : (n : ℕ) (s t rest : List ℕ) → bytes n s ≡ Some (t, rest) → Cut n s t rest
 unfolding bytes
-extends_bytes n = record { on = λ s t x rest e. by s t x rest e (nat_lt (length s) n) refl }
-  where
-    by : (s t : List ℕ) (x rest : List ℕ) → bytes n s ≡ Some (x, rest) → (c : Bool) → nat_lt (length s) n ≡ c
-        → bytes n (s ++ t) ≡ Some (x, rest ++ t)
-    by s t x rest e true h = absurd (let none : None ≡ Some (x, rest) = sym (if_yes _ _ h) ∙ e in cc)
-    by s t x rest e false h =
-        let l : n ≤ length s = ltb-false (length s) n h in
-        if_no _ _ (le-ltb (length (s ++ t)) n (omega (arith, length-append s t)))
-        ∙ (λ j. Some (take-append-le n s t l j, drop-append-le n s t l j))
-        ∙ ap (more t) (sym (if_no _ _ h) ∙ e)
+bytes_cut n s t rest e = record {
+  spelled = grind (arith, e, take-append-drop n s);
+  long = grind (arith, e, length-take-le n s);
+}
 
-pub extends_number : (n : ℕ) → Extends (number n)
+pub record Counted (width : ℕ) (s t rest : List ℕ) : Type 0 where
+  pub count : ℕ
+  pub spelled : s ≡ count ∷ (t ++ rest)
+  pub long : length t ≡ width * count
+
+pub section_counted : (width : ℕ) (s t rest : List ℕ) → section_of width s ≡ Some (t, rest) → Counted width s t rest
+unfolding section_of byte
+section_counted width [] t rest e = absurd (cc)
+section_counted width (n ∷ s) t rest e =
+    let c = bytes_cut (width * n) s t rest e in
+    record { count = n; spelled = ap (λ (l : List ℕ). n ∷ l) c.spelled; long = c.long }
+
+pub text_spelled : {s t rest : List ℕ} → text s ≡ Some (t, rest) → s ≡ text_section t ++ rest
+text_spelled {s} {t} {rest} e = grind (arith, section_counted 1 s t rest e)
+
+pub text_begins : {s t rest : List ℕ} → text s ≡ Some (t, rest) → Begins s (text_section t) rest
+text_begins e = record { joined = λ b. text_spelled e }
+
+pub inputs_begin : {s t rest : List ℕ} → section_of 2 s ≡ Some (t, rest) → Begins s (section (length t / 2) t) rest
+inputs_begin {s} {t} {rest} e = record { joined = λ b. grind (arith, section_counted 2 s t rest e) }
+
+pub number_begins : (n : ℕ) {s : List ℕ} {x : ℕ} {rest : List ℕ} → number n s ≡ Some (x, rest)
+    → Begins s (highest_first n x) rest
 unfolding number
-extends_number n = extends_then (extends_bytes n) (λ s. extends_given (number_in s))
+number_begins n {s} e =
+    reading (bytes n) e
+    (λ y left h k.
+    let c = bytes_cut n s y left h in
+    ended (λ x rest. Begins s (highest_first n x) rest) k
+    (record {
+      joined = λ b.
+          c.spelled
+          ∙ ap (λ (l : List ℕ). l ++ left)
+          (sym (highest_one_form y (front_bytes y left c.spelled b))
+          ∙ ap (λ (k : ℕ). highest_first k (number_in y)) c.long);
+    }))
 
-pub extends_section : (width : ℕ) → Extends (section_of width)
-unfolding section_of
-extends_section width = extends_then extends_byte (λ n. extends_bytes (width * n))
-
-pub extends_texts : (n : ℕ) → Extends (texts n)
-unfolding texts
-extends_texts zero = extends_given []
-extends_texts (suc n) =
-    extends_then (extends_section 1)
-    (λ t. extends_then (extends_texts n) (λ ts. extends_given (t ∷ ts)))
+pub texts_begin : (n : ℕ) {s : List ℕ} {ts : List (List ℕ)} {rest : List ℕ} → texts n s ≡ Some (ts, rest)
+    → Begins s (texts_bytes ts) rest
+unfolding texts texts_bytes
+texts_begin zero {s} e =
+    ended (λ ts rest. Begins s (each_in_turn text_section ts) rest) e (record { joined = λ b. refl })
+texts_begin (suc n) {s} e =
+    reading text e
+    (λ t s1 r1 e1. reading (texts n) e1
+    (λ others s2 r2 e2. ended (λ ts rest. Begins s (each_in_turn text_section ts) rest) e2
+    (begins_then (text_begins r1) (texts_begin n r2))))

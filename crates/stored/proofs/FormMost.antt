@@ -2,27 +2,24 @@
 -- than `form_most`; proofs/Samples has one that is as long.
 -- Assumes nothing.
 use Rattle.std.specs.List.{list_all}
-use Rattle.std.proofs.Common.{ℕ, suc, ◌+◌, ◌*◌, ◌/◌, ◌≤◌, ◌≡◌, refl, ap, Bool, true, false, List, [], ◌∷◌, arith}
-use Rattle.std.proofs.Common.{length, length-append, ◌==◌, eqb-true}
+use Rattle.std.proofs.Common.{ℕ, ◌+◌, ◌*◌, ◌≤◌, ◌≡◌, Bool, true, List, [], ◌∷◌, arith, length, length-append, ◌==◌}
+use Rattle.std.proofs.Common.{eqb-true}
 use Rattle.std.proofs.lemmas.List.{length-map}
-use Rattle.std.specs.Prelude.{if◌then◌else◌}
-use Rattle.text.proofs.Choices.{both_left, both_right}
-use Rattle.words.specs.Texts.{is_input_name, info_most}
+use Rattle.text.proofs.Choices.{both_left}
+use Rattle.words.specs.Texts.{is_input_name}
 use Rattle.numbers.proofs.HighestFirst.{length-highest_first}
 use Rattle.words.proofs.TextsTold.{name_long, info_long, password_long, input_name_long}
 use Rattle.record.specs.Wanted.{Wanted}
 use Rattle.record.specs.Legal.{is_legal}
-use Rattle.record.specs.SetUp.{is_setting_in_range, is_set_up}
+use Rattle.record.specs.SetUp.{is_set_up}
 use Rattle.record.specs.declared.types.Device.{Device}
-use Rattle.record.specs.declared.types.Setting.{Setting}
-use Rattle.record.specs.declared.types.Setting.TheVariants.{Serial, Version, Names}
-use Rattle.record.specs.declared.types.Setting.TheVariants.{Name, Maker, Model, Other, Password, Inputs, Lamps}
-use Rattle.record.proofs.Rules.{inputs_few, lamps_few, only_in_2_within, names_many, names_each, text_most}
+use Rattle.record.specs.declared.types.Setting.TheVariants.{Serial, Version, Names, Name, Maker, Model, Other, Password}
+use Rattle.record.specs.declared.types.Setting.TheVariants.{Inputs, Lamps}
+use Rattle.record.proofs.Rules.{inputs_few, lamps_few, names_many, names_each, text_most}
+use Rattle.record.proofs.FactsTold.{legal_is}
 use Rattle.record.proofs.OutOfRange.{each_in_range}
 use Rattle.stored.specs.Form.{form_version, mark_byte, marks_section, form_of, form_most, stored_of, marks_stored}
 use Rattle.stored.specs.Form.{texts_bytes, texts_in_class_2, class_part_text, form_with, stored_form}
-use Rattle.stored.proofs.TextsWritten.{no_texts, texts_bytes-cons}
-use Rattle.stored.proofs.ClassPart.{class_part}
 use Rattle.stored.proofs.Seconds.{seconds_long}
 use Rattle.stored.specs.Loading.{is_marks_of}
 use Rattle.stored.proofs.StoredLoads.{stored_in_range, stored_marks}
@@ -38,41 +35,25 @@ form_long v marks rest w =
 
 -- names of 128 bytes at most, each with its count
 names_most : (ts : List (List ℕ)) → list_all is_input_name ts ≡ true → length (texts_bytes ts) ≤ 129 * length ts
-names_most [] e = omega (arith, ap length no_texts)
-names_most (t ∷ ts) e =
-    omega (
-      arith,
-      ap length (texts_bytes-cons t ts),
-      length-append t (texts_bytes ts),
-      input_name_long t (both_left (is_input_name t) (list_all is_input_name ts) e),
-      names_most ts (both_right (is_input_name t) (list_all is_input_name ts) e),
-    )
+unfolding texts_bytes
+names_most [] e = omega arith
+names_most (t ∷ ts) e = grind (arith, e, length-append t (texts_bytes ts), input_name_long t, names_most ts)
 
 -- the class, and what Class 2 alone has
 class_most : (w : Wanted) → is_set_up w ≡ true → length (class_part_text w.class (texts_in_class_2 w)) ≤ 4195
-class_most w ok = rw (class_part w.class (texts_in_class_2 w)) (by (w.class == 2) refl)
-  where
-    met : (s : Setting) → is_setting_in_range w s ≡ true
-    met = each_in_range w ok
-
-    by : (two : Bool) → (w.class == 2) ≡ two
-        → suc (length (if two then texts_bytes (texts_in_class_2 w) else [])) ≤ 4195
-    by false e = omega arith
-    by true e =
-        omega (
-          arith,
-          ap length (texts_bytes-cons w.serial (w.version ∷ w.names)),
-          ap length (texts_bytes-cons w.version w.names),
-          length-append w.serial (texts_bytes (w.version ∷ w.names)),
-          length-append w.version (texts_bytes w.names),
-          names_most w.names (names_each _ w.names (met Names)),
-          names_many _ w.names (met Names),
-          only_in_2_within w.class (length w.inputs / 2),
-          only_in_2_within w.class info_most,
-          text_most w.serial _ (met Serial),
-          text_most w.version _ (met Version),
-          inputs_few _ w.inputs (met Inputs),
-        )
+unfolding texts_bytes class_part_text
+class_most w ok =
+    let met = each_in_range w ok in
+    grind (
+      arith,
+      length-append w.serial (texts_bytes (w.version ∷ w.names)),
+      length-append w.version (texts_bytes w.names),
+      names_most w.names (names_each _ w.names (met Names)),
+      names_many _ w.names (met Names),
+      text_most w.serial _ (met Serial),
+      text_most w.version _ (met Version),
+      inputs_few _ w.inputs (met Inputs),
+    )
 
 pub form_within_most : (w : Wanted) (ms : List Bool) → is_set_up w ≡ true → is_marks_of (length w.lamps) ms ≡ true
     → length (form_of w ms) ≤ form_most
@@ -96,3 +77,5 @@ form_within_most w ms ok marks =
 -- so memory of that size is never too short for a legal record
 pub stored_most : (d : Device) → is_legal d ≡ true → length (stored_form d) ≤ form_most
 stored_most d h = form_within_most (stored_of d) (marks_stored d) (stored_in_range d h) (stored_marks d h)
+
+pub ruleset stored_fits = (stored_most, legal_is)

@@ -1,12 +1,13 @@
 -- How many bytes a form takes at most, legal or not, since each of its counts is a byte (RULES, Stored form): 68,866.
 -- So that many bytes and one say of a file what all of it says.
---   ReadWithin k P s o   o is what was read of s: a P, of at most k bytes
---   Within k P r         where k bytes are there, r reads a P of at most so many
+--   ReadWithin k P r s   r reads of s a P, of at most k bytes, whatever more follows
+--   Within k P r         so it does where k bytes are there
 -- Assumes nothing.
 use Rattle.std.proofs.Common.{◌≡◌, ℕ, zero, suc, ◌+◌, ◌*◌, ◌/◌, ◌<◌, ◌≤◌, Bool, true, false, List, [], ◌∷◌, ◌++◌}
 use Rattle.std.proofs.Common.{length, take, drop, Option, Some, refl, ap, ◌∙◌, sym, arith, if◌then◌else◌, nat_lt, ◌==◌}
-use Rattle.std.proofs.Common.{length-drop, length-take-le, le-ltb, ltb-true, ltb-false, take-append-drop, not, map}
-use Rattle.std.proofs.lemmas.List.{take_all}
+use Rattle.std.proofs.Common.{length-append, length-drop, length-take-le, le-ltb, ltb-true, ltb-false, take-append-drop, not, map}
+use Rattle.std.proofs.lemmas.Grind.{common_steps}
+use Rattle.std.proofs.lemmas.List.{take_all, take-append-le, drop-append-le}
 use Rattle.std.proofs.lemmas.Bool.Decides.{nat_tests}
 use Rattle.text.proofs.Choices.{if_yes, if_no}
 use Rattle.text.specs.Rows.{◌when◌, by_rows}
@@ -18,19 +19,19 @@ use Rattle.stored.specs.Reading.{Field, onward, ◌giving◌, given, byte, bytes
 use Rattle.stored.specs.Reading.{alone, texts_of_2, class_part, class_in, marks_of, FormSaid, form}
 use Rattle.stored.specs.Loading.{is_other_version, ends_early, leaves_more, said, is_marked, is_legal_said}
 use Rattle.stored.specs.Loading.{started_with, loaded}
-use Rattle.stored.proofs.BytesAgain.{Bytes, drop_bytes}
-use Rattle.stored.proofs.Grammar.{extends_form}
+use Rattle.stored.proofs.Fields.{Bytes, rest_bytes}
 
-pub record ReadWithin {A : Type 0} (k : ℕ) (P : A → Type 0) (s : List ℕ) (o : Option (A × List ℕ)) : Type 0 where
+pub record ReadWithin {A : Type 0} (k : ℕ) (P : A → Type 0) (r : Field A) (s : List ℕ) : Type 0 where
   pub value : A
   pub rest : List ℕ
-  pub read : o ≡ Some (value, rest)
+  pub read : r s ≡ Some (value, rest)
+  pub more : (t : List ℕ) → r (s ++ t) ≡ Some (value, rest ++ t)
   pub few : length s ≤ k + length rest
   pub bytes : Bytes rest
   pub such : P value
 
 pub record Within {A : Type 0} (k : ℕ) (P : A → Type 0) (r : Field A) : Type 0 where
-  pub reads : (s : List ℕ) → Bytes s → k ≤ length s → ReadWithin k P s (r s)
+  pub reads : (s : List ℕ) → Bytes s → k ≤ length s → ReadWithin k P r s
 
 abbrev Any : {A : Type 0} → A → Type 0
 Any x = Unit {0}
@@ -45,6 +46,7 @@ within_more k l h weaker w = record {
         value = x.value;
         rest = x.rest;
         read = x.read;
+        more = x.more;
         few = omega (arith, x.few);
         bytes = x.bytes;
         such = weaker x.value x.such;
@@ -53,7 +55,7 @@ within_more k l h weaker w = record {
 
 within_given : {A : Type 0} {P : A → Type 0} (k : ℕ) (x : A) → P x → Within k P (given x)
 within_given k x p = record {
-  reads = λ s b long. record { value = x; rest = s; read = refl; few = omega arith; bytes = b; such = p };
+  reads = λ s b long. record { value = x; rest = s; read = refl; more = λ t. refl; few = omega arith; bytes = b; such = p };
 }
 
 within_then : {A B : Type 0} {P : A → Type 0} {Q : B → Type 0} {r : Field A} {f : A → Field B} (k l : ℕ)
@@ -66,6 +68,7 @@ within_then {f = f} k l a b = record {
         value = y.value;
         rest = y.rest;
         read = ap (onward f) x.read ∙ y.read;
+        more = λ t. ap (onward f) (x.more t) ∙ y.more t;
         few = omega (arith, x.few, y.few);
         bytes = y.bytes;
         such = y.such;
@@ -81,14 +84,15 @@ within_byte : Within 1 (λ n. n < 256) byte
 unfolding byte
 within_byte = record { reads = by }
   where
-    by : (s : List ℕ) → Bytes s → 1 ≤ length s → ReadWithin 1 (λ n. n < 256) s (byte s)
+    by : (s : List ℕ) → Bytes s → 1 ≤ length s → ReadWithin 1 (λ n. n < 256) byte s
     by [] b long = absurd (omega arith)
     by (n ∷ s) b long = record {
       value = n;
       rest = s;
       read = refl;
+      more = λ t. refl;
       few = omega arith;
-      bytes = drop_bytes 1 (n ∷ s) b;
+      bytes = rest_bytes (n ∷ []) s refl b;
       such = b 0 (omega arith);
     }
 
@@ -99,8 +103,9 @@ within_bytes n = record {
     value = take n s;
     rest = drop n s;
     read = if_no _ _ (le-ltb (length s) n long);
+    more = λ t. grind (arith, common_steps, take-append-le n s t, drop-append-le n s t, length-append s t);
     few = omega (arith, length-drop n s);
-    bytes = drop_bytes n s b;
+    bytes = rest_bytes (take n s) (drop n s) (sym (take-append-drop n s)) b;
     such = length-take-le n s long;
   };
 }
@@ -186,16 +191,16 @@ left_over_told s f x xs e =
 -- as many bytes as no form takes are loaded as they are with any more after them
 pub loaded-append : (s t : List ℕ) → Bytes s → 68867 ≤ length s → loaded (s ++ t) ≡ loaded s
 loaded-append [] t b long = absurd (omega arith)
-loaded-append (v ∷ s) t b long = by r.rest r.read (omega (arith, r.few))
+loaded-append (v ∷ s) t b long = by r.rest r.read (r.more t) (omega (arith, r.few))
   where
-    r : ReadWithin 68866 Any (v ∷ s) (form (v ∷ s))
+    r : ReadWithin 68866 Any form (v ∷ s)
     r = within_form.reads (v ∷ s) b (omega arith)
 
-    by : (rest : List ℕ) → form (v ∷ s) ≡ Some (r.value, rest) → 1 ≤ length rest
-        → loaded (v ∷ (s ++ t)) ≡ loaded (v ∷ s)
-    by [] e some = absurd (omega arith)
-    by (x ∷ xs) e some =
-        left_over_told (v ∷ (s ++ t)) r.value x (xs ++ t) (extends_form.on (v ∷ s) t r.value (x ∷ xs) e)
+    by : (rest : List ℕ) → form (v ∷ s) ≡ Some (r.value, rest) → form (v ∷ (s ++ t)) ≡ Some (r.value, rest ++ t)
+        → 1 ≤ length rest → loaded (v ∷ (s ++ t)) ≡ loaded (v ∷ s)
+    by [] e more some = absurd (omega arith)
+    by (x ∷ xs) e more some =
+        left_over_told (v ∷ (s ++ t)) r.value x (xs ++ t) more
         ∙ sym (left_over_told (v ∷ s) r.value x xs e)
 
 pub loaded-take : (s : List ℕ) → Bytes (take 68867 s) → loaded (take 68867 s) ≡ loaded s

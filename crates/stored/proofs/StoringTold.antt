@@ -1,18 +1,14 @@
 -- What storing gives (RULES, Stored form): the number is that of the first row that applies, for every record; a
--- refused store writes no byte; and the promise leaves one result.
+-- refused store writes no byte.
 --   StoredTold r      an accepted store: the record is legal, the memory has room, the bytes are the form's
---   Stores r m        the result r and the lent bytes m meet what storing promises
 -- Assumes nothing.
-use Rattle.std.proofs.Common.{ℕ, ◌≤◌, ◌≡◌, refl, true, List, [], length, ltb-false}
+use Rattle.std.proofs.Common.{ℕ, ◌≤◌, ◌≡◌, true, [], length, refl, arith, ltb-false}
 use Rattle.std.proofs.lemmas.Bool.{not-false}
-use Rattle.text.specs.Words.{over}
 use Rattle.text.specs.Rows.{first_of}
 use Rattle.text.proofs.ByRows.{by_rows_lem, rows_number}
-use Rattle.text.proofs.OneResult.{Left, one_left}
 use Rattle.record.specs.Legal.{is_legal}
 use Rattle.record.specs.declared.types.Device.{Device}
-use Rattle.stored.specs.Form.{stored_form, StoredAs, nothing_stored, storing_rows, stored_by, told_stored}
-use Rattle.stored.specs.declared.storing.FormWritten.{FormWritten}
+use Rattle.stored.specs.Form.{stored_form, StoredAs, nothing_stored, storing_rows, stored_by}
 
 module _ (d : Device) (room : ℕ) where
   pub storing_number : (stored_by d room).number ≡ first_of (storing_rows d room)
@@ -36,18 +32,9 @@ module _ (d : Device) (room : ℕ) where
       (λ none. accept (not-false (is_legal d) none.0) (ltb-false room (length (stored_form d)) none.1.0))
 
   pub refused_store_writes_nothing : ((stored_by d room).number ≡ 0 → ⊥) → (stored_by d room).bytes ≡ []
-  refused_store_writes_nothing =
-      storing_by (λ r. (r.number ≡ 0 → ⊥) → r.bytes ≡ []) (λ n some k. refl) (λ h l k. absurd (k refl))
+  unfolding stored_by
+  refused_store_writes_nothing h = grind (arith, h)
 
   pub stored_told : (stored_by d room).number ≡ 0 → StoredTold (stored_by d room)
-  stored_told =
-      storing_by (λ r. r.number ≡ 0 → StoredTold r) (λ n some e. absurd (some e))
-      (λ h l e. record { legal = h; fits = l; form = refl })
-
--- out is the lent memory
-module _ (d : Device) (out : List ℕ) where
-  abbrev pub Stores : FormWritten → List ℕ → Type 0
-  Stores = let w = stored_by d (length out) in Left (told_stored w) (over w.bytes out)
-
-  pub one_storing : {r s : FormWritten} {m n : List ℕ} → Stores r m → Stores s n → (r ≡ s) × (m ≡ n)
-  one_storing p q = one_left p q
+  unfolding stored_by
+  stored_told e = record { legal = grind (arith, e); fits = grind (arith, e); form = grind (arith, e) }

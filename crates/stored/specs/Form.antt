@@ -29,7 +29,6 @@
 --   nothing_stored n           a refusal: the number n, and no bytes
 --   storing_rows d room        when it is refused, and with which number: memory is short by this form's own length
 --   stored_by d room           refused with no byte, or the form
---   told_stored                the same as the code returns it
 -- Assumes nothing.
 use Rattle.std.specs.Prelude.{ℕ, ◌*◌, ◌/◌, Bool, true, false, not, List, [], ◌∷◌, ◌++◌, map, length, take}
 use Rattle.std.specs.Prelude.{if◌then◌else◌, nat_lt, ◌==◌}
@@ -42,7 +41,6 @@ use Rattle.record.specs.Legal.{is_legal}
 use Rattle.record.specs.declared.types.Text.{Text}
 use Rattle.record.specs.declared.types.InputName.{InputName}
 use Rattle.record.specs.declared.types.Device.{Device}
-use Rattle.stored.specs.declared.storing.FormWritten.{FormWritten}
 
 abbrev pub form_version : ℕ
 form_version = 3
@@ -147,6 +145,3 @@ storing_rows d room = (1 when not (is_legal d)) ∷ (2 when nat_lt room (length 
 
 unfoldable pub stored_by : Device → ℕ → StoredAs
 stored_by d room = by_rows (storing_rows d room) nothing_stored (record { number = 0; bytes = stored_form d })
-
-abbrev pub told_stored : StoredAs → FormWritten
-told_stored s = record { number = s.number; length = length s.bytes }

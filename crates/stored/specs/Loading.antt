@@ -11,16 +11,16 @@
 --   is_marks_of n ms          ms are marks of n lamps: one a lamp, and legal in their room
 --   are_marks n bytes         the bytes are such marks
 --   started_with w ms         the device that a set-up of w gives, the lamps with the marks ms
---   device_of w               the device that a set-up of w gives, or none where it is refused
 --   is_legal_said f           what is said can be set up, and the marks are those of its lamps
 --   contents f                what loading gives by what is said, where that is all that stands there
 --   load_rows s               when a load is refused, and with which number
 --   loaded s                  refused with the blank record, or the set-up of the settings in s with the marks in s
 -- Assumes nothing.
-use Rattle.std.specs.Prelude.{ℕ, ◌-◌, Bool, true, false, not, ◌&&◌, List, [], ◌∷◌, ◌++◌}
+use Rattle.std.specs.Prelude.{ℕ, Bool, true, false, not, ◌&&◌, List, [], ◌∷◌}
 use Rattle.std.specs.List.{list_all}
-use Rattle.std.specs.Prelude.{map, length, replicate}
+use Rattle.std.specs.Prelude.{map, length}
 use Rattle.std.specs.Prelude.{Option, Some, None, if◌then◌else◌, ◌==◌}
+use Rattle.text.specs.Rooms.{kept}
 use Rattle.text.specs.Rows.{Row, ◌when◌, by_rows}
 use Rattle.record.specs.Limits.{lamps_most}
 use Rattle.record.specs.Wanted.{Wanted, wanted_of}
@@ -75,7 +75,7 @@ abbrev pub marks_read : List ℕ → List Bool
 marks_read s = map is_marked (mark_bytes_in s)
 
 unfoldable pub mark_room : List Bool → List Bool
-mark_room ms = ms ++ replicate (lamps_most - length ms) false
+mark_room ms = kept false lamps_most ms
 
 abbrev pub is_marks_of : ℕ → List Bool → Bool
 is_marks_of n ms = length ms == n && is_marks n (mark_room ms)
@@ -85,9 +85,6 @@ are_marks n bytes = list_all is_mark_byte bytes && is_marks_of n (map is_marked 
 
 abbrev pub started_with : Wanted → List Bool → Device
 started_with w ms = with_own (started w) (with_marks (started w).own (mark_room ms))
-
-abbrev pub device_of : Wanted → Option Device
-device_of w = if is_set_up w then Some (started w) else None
 
 abbrev pub is_legal_said : FormSaid → Bool
 is_legal_said f = is_set_up f.settings && are_marks (length f.settings.lamps) f.marks

@@ -1,14 +1,15 @@
 // Loading a stored form (RULES, Stored form and Lamps): the version, then whether the bytes end with the form, then
 // what it says. The record is made where it lies, so that no copy of it is on the stack.
-ghost use Rattle.std.specs.Prelude.{◌≡◌, ◌/◌, ◌≤◌, true, map, length, OnErr};
-ghost use Rattle.std.specs.Result.{result_ok};
+ghost use Rattle.std.specs.Prelude.{◌≡◌, ◌/◌, ◌≤◌, true, map, length, OnOk, OnErr};
+ghost use Rattle.std.specs.Result.{is_ok};
 ghost use Rattle.record.specs.Limits.{lamps_most};
-ghost use Rattle.record.specs.Record.{in_room, blank};
+ghost use Rattle.record.specs.Record.{in_room, started, blank};
 ghost use Rattle.record.specs.Updates.{with_own, with_marks};
-ghost use Rattle.record.specs.Legal.{is_legal};
+ghost use Rattle.record.specs.Facts.{IsLegal};
+ghost use Rattle.record.specs.SetUp.{is_set_up};
 ghost use Rattle.record.specs.Given.{gives};
 ghost use Rattle.stored.specs.Reading.{seconds_in};
-ghost use Rattle.stored.specs.Loading.{is_other_version, is_marked, mark_room, are_marks, device_of, contents, loaded};
+ghost use Rattle.stored.specs.Loading.{is_other_version, is_marked, mark_room, are_marks, contents, loaded};
 ghost use Rattle.stored.specs.Told.{loading_told};
 ghost use Rattle.stored.specs.Views.{said_of};
 
@@ -34,6 +35,7 @@ fn is_other_version(bytes: &[u8]) -> bool
 }
 
 // The seconds of lamps, four bytes each, in their room.
+#[tactic(auto, using(crate::proofs::Seconds::seconds_copied))]
 fn seconds_of(bytes: &[u8]) -> [u32; LAMPS_MOST]
     requires { length bytes.now / 4 ≤ lamps_most }
     ensures { result ≡ in_room lamps_most (seconds_in (length bytes.now / 4) bytes.now) }
@@ -59,8 +61,9 @@ fn marks_of(bytes: &[u8]) -> [bool; LAMPS_MOST]
 
 // The marks that the bytes are, if they are marks of its lamps, and whether they are: the record's own test says which
 // marks are legal.
+#[tactic(auto, using(crate::proofs::Marks::marks_are, record::proofs::FactsTold::own_is))]
 fn enable(device: &mut Device, bytes: &[u8]) -> bool
-    requires { is_legal device.old ≡ true }
+    requires { IsLegal device.old }
     ensures value { result ≡ are_marks device.old.settings.lamp_count bytes.now }
     ensures device { result ≡ true
         → device.new ≡ with_own device.old (with_marks device.old.own (mark_room (map is_marked bytes.now))) }
@@ -77,8 +80,10 @@ fn enable(device: &mut Device, bytes: &[u8]) -> bool
 
 impl<'a> Form<'a> {
     // Set up with what the form says. Lamps that are too many are not copied.
+    #[tactic(auto, using(crate::proofs::Cases::not_set_up))]
     fn set_up_in(&self, device: &mut Device) -> Result<(), SetUpError>
-        ensures { result_ok (gives result device.new) ≡ device_of (said_of self.now).settings }
+        ensures taken { is_ok result ≡ is_set_up (said_of self.now).settings }
+        ensures made { OnOk result (device.new ≡ started (said_of self.now).settings) }
     {
         let Some(class) = self.rest.class(self.inputs.len() / 2) else {
             return Err(SetUpError::OutOfRange(Setting::Inputs));
@@ -106,6 +111,7 @@ impl<'a> Form<'a> {
     }
 
     // And with its marks: all set where it has none.
+    #[tactic(auto, using(crate::proofs::Cases::said_contents))]
     fn load_in(&self, device: &mut Device) -> Result<(), LoadError>
         ensures { loading_told (gives result device.new) ≡ contents (said_of self.now) }
     {
@@ -123,6 +129,7 @@ impl<'a> Form<'a> {
 }
 
 // Where it is refused, what the record is then is not said.
+#[tactic(auto, using(crate::proofs::Cases::loaded_early))]
 fn read_in(device: &mut Device, bytes: &[u8]) -> Result<(), LoadError>
     ensures { loading_told (gives result device.new) ≡ loaded bytes.now }
 {

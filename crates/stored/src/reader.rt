@@ -94,6 +94,7 @@ impl<'a> Reader<'a> {
     }
 
     /// So many texts, one after the other, each with its count before it.
+    #[tactic(auto, using(crate::proofs::TextsRead::texts_read))]
     pub fn texts(&mut self, n: usize) -> Result<&'a [u8], LoadError>
         ensures { Reads (λ s. counted_in n s.now) result self.new (texts n self.old) }
     {

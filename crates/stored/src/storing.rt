@@ -5,10 +5,12 @@ ghost use Rattle.text.specs.Words.{over};
 ghost use Rattle.record.specs.Limits.{only_in_2};
 ghost use Rattle.record.specs.Legal.{is_legal};
 ghost use Rattle.record.specs.Facts.{IsSettings, IsLegal};
-ghost use Rattle.stored.specs.Form.{text_stored, name_stored, class_part_text, stored_form, stored_by, told_stored};
+ghost use Rattle.stored.specs.Form.{text_stored, name_stored, class_part_text, stored_form, stored_by};
+ghost use Rattle.stored.specs.Told.{told_stored, storing_told};
 ghost use Rattle.stored.specs.Puts.{Puts};
 
 use crate::writer::Writer;
+use record::refusal::Refusal;
 use record::types::{Device, Settings};
 
 // The newest, which is written: it has a class (RULES, Class 2).
@@ -16,14 +18,6 @@ pub const VERSION: u8 = 3;
 
 // No form is longer, so memory that has room for it is not measured.
 const FORM_MOST: usize = 4504;
-
-/// What storing gives: 0, or why nothing is stored, and how long the form is.
-#[repr(C)]
-#[derive(Clone, Copy)]
-pub struct FormWritten {
-    pub number: u32,
-    pub length: usize,
-}
 
 impl<'a> Writer<'a> {
     // The class, and what Class 2 alone has.
@@ -90,25 +84,18 @@ fn put_form(d: &Device, out: &mut [u8]) -> usize
     writer.count()
 }
 
-/// The form of a record, from the start of lent memory: 1 for a record that is not legal, then 2 for memory shorter
-/// than the form, and nothing is written.
-#[tactic(auto, using(crate::proofs::FormMost::stored_most), unfolding(crate::specs::Form::stored_by))]
-pub fn store(d: &Device, out: &mut [u8]) -> FormWritten
-    ensures value { result ≡ told_stored (stored_by d.now (length out.old)) }
+/// The form of a record, from the start of lent memory; its length. Refused, in that order: `NotLegal`, and `NoRoom`
+/// for memory shorter than the form; then nothing is written.
+#[tactic(auto, using(crate::proofs::FormMost::stored_fits), unfolding(crate::specs::Form::stored_by))]
+pub fn store(d: &Device, out: &mut [u8]) -> Result<usize, Refusal>
+    ensures told { storing_told result ≡ told_stored (stored_by d.now (length out.old)) }
     ensures written { out.new ≡ over (stored_by d.now (length out.old)).bytes out.old }
 {
     if !d.is_legal() {
-        return FormWritten {
-            number: 1,
-            length: 0,
-        };
+        return Err(Refusal::NotLegal);
     }
     if out.len() < FORM_MOST && out.len() < form_length(d) {
-        return FormWritten {
-            number: 2,
-            length: 0,
-        };
+        return Err(Refusal::NoRoom);
     }
-    let length = put_form(d, out);
-    FormWritten { number: 0, length }
+    Ok(put_form(d, out))
 }

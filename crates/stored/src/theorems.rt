@@ -1,18 +1,22 @@
 // What is proved beside the contracts of the functions. Nothing is done here: that these functions have their contracts
 // is that the theorems stand.
-ghost use Rattle.std.specs.Prelude.{◌≡◌, ◌<◌, ◌≤◌, ◌∷◌, ◌++◌, true, List, Bool, ℕ, length, take, Result};
+ghost use Rattle.std.specs.Prelude.{◌≡◌, ◌<◌, ◌≤◌, ◌∷◌, ◌++◌, true, List, Bool, ℕ, length, take, replicate, Result};
+ghost use Rattle.std.specs.List.{list_all};
+ghost use Rattle.words.specs.Bytes.{◌at◌};
+ghost use Rattle.record.specs.Rules.{at_most};
+ghost use Rattle.record.specs.Record.{started};
+ghost use Rattle.record.specs.Updates.{with_own, with_marks};
 ghost use Rattle.record.specs.Wanted.{Wanted};
 ghost use Rattle.record.specs.SetUp.{is_set_up};
-ghost use Rattle.record.specs.Given.{Given};
+ghost use Rattle.record.specs.Given.{Given, accepted};
 ghost use Rattle.text.specs.Words.{over};
 ghost use Rattle.stored.specs.Form.{form_of, marked_form_of, old_form_of, stored_form, form_most, stored_by};
-ghost use Rattle.stored.specs.Form.{told_stored};
-ghost use Rattle.stored.specs.declared.storing.FormWritten.{FormWritten};
+ghost use Rattle.stored.specs.Form.{old_version, version_form, stored_of, marks_stored};
 ghost use Rattle.stored.specs.Loading.{loaded};
 ghost use Rattle.record.specs.declared.types.Device.{Device};
 ghost use Rattle.record.specs.Legal.{is_legal};
 ghost use Rattle.stored.specs.declared.error.LoadError.{LoadError};
-ghost use Rattle.stored.specs.Told.{loading_told};
+ghost use Rattle.stored.specs.Told.{StoreTold, told_stored, loading_told};
 
 /// A form of any version that is cut anywhere is 21, and one with more after it 22.
 pub fn a_form_is_whole()
@@ -30,14 +34,35 @@ pub fn a_form_is_whole()
         → (loaded (old_form_of w ++ x ∷ xs)).number ≡ 22 }
 {}
 
+/// What a legal record stores loads as a fresh set-up of its settings, each lamp with its seconds and its mark.
+#[tactic(auto, using(crate::proofs::StoredLoads::stored_loads_as))]
+pub fn what_is_stored_loads()
+    ensures { (d : Device) → is_legal d ≡ true → loaded (stored_form d)
+        ≡ accepted (with_own (started (stored_of d)) (with_marks (started (stored_of d)).own d.own.enabled)) }
+{}
+
+/// Bytes that load are their version's form of what they loaded, each lamp enabled in the oldest, and no others of that
+/// version load as the same record.
+pub fn a_form_is_one()
+    ensures stored_again { (s : List ℕ) → list_all (at_most 255) s ≡ true → (loaded s).number ≡ 0
+        → version_form (s at 0) (stored_of (loaded s).device) (marks_stored (loaded s).device) ≡ s }
+    ensures old_enabled { (s : List ℕ) → (loaded s).number ≡ 0 → s at 0 ≡ old_version
+        → marks_stored (loaded s).device ≡ replicate (length (stored_of (loaded s).device).lamps) true }
+    ensures apart { (s t : List ℕ) → list_all (at_most 255) s ≡ true → list_all (at_most 255) t ≡ true
+        → (loaded s).number ≡ 0 → (loaded t).number ≡ 0 → s at 0 ≡ t at 0
+        → (loaded s).device ≡ (loaded t).device → s ≡ t }
+{}
+
 /// Memory of this size is never too short for the form of a legal record.
+#[tactic(auto, using(crate::proofs::FormMost::stored_most))]
 pub fn a_form_is_short()
     ensures { (d : Device) → is_legal d ≡ true → length (stored_form d) ≤ form_most }
 {}
 
 /// Two results that meet the promise of a call are equal, lent memory included.
+#[tactic(auto, using(crate::proofs::Results::one_outcome))]
 pub fn one_result()
-    ensures storing { (d : Device) (out : List ℕ) (r s : FormWritten) (m n : List ℕ)
+    ensures storing { (d : Device) (out : List ℕ) (r s : StoreTold) (m n : List ℕ)
         → let w = stored_by d (length out) in
         (r ≡ told_stored w) × (m ≡ over w.bytes out)
         → (s ≡ told_stored w) × (n ≡ over w.bytes out) → (r ≡ s) × (m ≡ n) }

@@ -44,6 +44,7 @@ impl<'a> Writer<'a> {
     }
 
     /// These bytes.
+    #[tactic(auto, using(crate::proofs::Writing::sets_past, crate::proofs::Writing::sets_fit))]
     pub fn bytes(&mut self, s: &[u8])
         requires { self.old.at + length s.now < 2 ^ 64 }
         ensures { Puts self.old self.new s.now }

@@ -4,11 +4,12 @@
 ghost use Rattle.std.specs.Prelude.{◌≡◌, ◌≤◌, length};
 ghost use Rattle.record.specs.Limits.{line_room};
 ghost use Rattle.record.specs.Legal.{held_most};
+ghost use Rattle.record.specs.Views.{phase_number};
 ghost use Rattle.stream.specs.Collecting.{collected_all, gathered};
 ghost use Rattle.stream.specs.Places.{index_of};
 
-use record::connection;
 use record::types::{LINE_ROOM, Line};
+use record::views::Phase;
 
 // What one call makes of the bytes it is handed, as the specs say it: the line so far, the bytes before CR, and whether
 // there was one.
@@ -67,13 +68,13 @@ pub fn find(s: &[u8], b: u8) -> usize
 }
 
 // The bytes up to the first CR, collected as the phase allows.
-pub fn gather(phase: u8, l: &mut Line, bytes: &[u8]) -> Passed
-    ensures line { l.new ≡ (gathered (held_most phase) l.old bytes.now).line }
-    ensures before { result.before ≡ (gathered (held_most phase) l.old bytes.now).before }
-    ensures ended { result.ended ≡ (gathered (held_most phase) l.old bytes.now).ended }
+pub fn gather(phase: Phase, l: &mut Line, bytes: &[u8]) -> Passed
+    ensures line { l.new ≡ (gathered (held_most (phase_number phase)) l.old bytes.now).line }
+    ensures before { result.before ≡ (gathered (held_most (phase_number phase)) l.old bytes.now).before }
+    ensures ended { result.ended ≡ (gathered (held_most (phase_number phase)) l.old bytes.now).ended }
 {
     let before = find(bytes, b'\r');
-    collect(connection::held_most(phase), l, &bytes[0..before]);
+    collect(phase.held_most(), l, &bytes[0..before]);
     Passed {
         before,
         ended: before < bytes.len(),

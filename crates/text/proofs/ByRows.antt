@@ -1,17 +1,15 @@
 -- What a call does by a table of rows: it is refused with the number of the first that applies, or done where none
 -- does.
 -- Assumes nothing.
+use Rattle.std.proofs.Common.{arith, ℕ, ◌≡◌, refl, ◌∙◌, Bool, true, List, [], ◌∷◌, if◌then◌else◌}
 use Rattle.std.specs.List.{list_all}
-use Rattle.std.proofs.Common.{ℕ, ◌≡◌, refl, ◌∙◌, Bool, true, false, List, [], ◌∷◌}
 use Rattle.std.proofs.lemmas.Bool.{eqb-false, not-true}
-use Rattle.std.specs.Prelude.{if◌then◌else◌}
 use Rattle.text.specs.Rows.{Row, first_of, by_rows, NoneOf, is_numbered}
 use Rattle.text.proofs.Choices.{if_no, if_by, both_left, both_right}
 
 both_sides : {R : Type 0} (f : R → ℕ) (t : Bool) {a b : R} {m n : ℕ} → f a ≡ m → f b ≡ n
     → f (if t then a else b) ≡ (if t then m else n)
-both_sides f true p q = p
-both_sides f false p q = q
+both_sides f t h g = grind arith
 
 module _ {R : Type 0} (refuse : ℕ → R) (done : R) where
   pub by_rows_lem : (P : R → Type 0) → ((n : ℕ) → (n ≡ 0 → ⊥) → P (refuse n)) → (rows : List Row)

@@ -1,7 +1,6 @@
 -- What holds of a choice: by its test, or of both its sides.
 -- Assumes nothing.
-use Rattle.std.proofs.Common.{◌≡◌, refl, sym, ap, Bool, true, false, ◌&&◌}
-use Rattle.std.specs.Prelude.{if◌then◌else◌}
+use Rattle.std.proofs.Common.{arith, ◌≡◌, refl, ap, Bool, true, false, ◌&&◌, if◌then◌else◌}
 
 module _ {A : Type 0} where
   pub if_yes : {t : Bool} (a b : A) → t ≡ true → (if t then a else b) ≡ a
@@ -20,23 +19,18 @@ module _ {A : Type 0} where
 
 -- a conjunction that holds, taken apart and put together
 pub both_left : (a b : Bool) → (a && b) ≡ true → a ≡ true
-both_left true b e = refl
-both_left false b e = e
+both_left a b h = grind arith
 
 pub both_right : (a b : Bool) → (a && b) ≡ true → b ≡ true
-both_right true b e = e
-both_right false b e = cc
+both_right a b h = grind arith
 
 pub both : {a b : Bool} → a ≡ true → b ≡ true → (a && b) ≡ true
 both {a} {b} p q = (λ i. p i && q i)
 
 -- two tests that hold together are one
 pub alike : (a b : Bool) → (a ≡ true → b ≡ true) → (b ≡ true → a ≡ true) → a ≡ b
-alike true b p q = sym (p refl)
-alike false true p q = q refl
-alike false false p q = refl
+alike a b h g = grind arith
 
 -- a test that does not hold, by what would follow if it did
 pub by_not : (b : Bool) → (b ≡ true → ⊥) → b ≡ false
-by_not true h = absurd (h refl)
-by_not false h = refl
+by_not b h = grind arith

@@ -11,4 +11,3 @@ pub mod Sameness
 pub mod RoomsTold
 pub mod Scanning
 pub mod Stores
-pub mod Written

@@ -1,9 +1,8 @@
 -- What is used of a room, by the tests that find it; what these tests tell; and that what is kept in a room is used.
 -- Assumes nothing.
-use Rattle.std.proofs.Common.{◌≡◌, ℕ, ◌-◌, ◌<◌, ◌≤◌, ◌↔◌, IsTrue, Bool, true, false, List, ◌++◌, length, take, drop}
-use Rattle.std.proofs.Common.{zero, suc, replicate, Some, None, arith, ap, refl, ◌∙◌, ◌&&◌, nat_le, length-append}
+use Rattle.std.proofs.Common.{◌≡◌, ℕ, ◌<◌, ◌≤◌, ◌↔◌, IsTrue, Bool, true, false, List, ◌++◌, length, take, drop, zero}
+use Rattle.std.proofs.Common.{suc, replicate, Some, None, arith, ap, refl, ◌&&◌, nat_le, length-append, is_some}
 use Rattle.std.specs.List.{list_all}
-use Rattle.std.specs.Prelude.{is_some}
 use Rattle.std.proofs.Math.Seq.{take-append_seam, drop-append_seam}
 use Rattle.std.proofs.lemmas.List.{drop-replicate, length-replicate}
 use Rattle.std.proofs.lemmas.Grind.{common_steps}
@@ -42,15 +41,7 @@ holds_used blank room rule s n few long = grind (arith, common_steps)
 pub uses_told : {A : Type 0} (blank : A → Bool) (room : ℕ) (rule : List A → Bool) (s : List A) (n : ℕ)
     → IsTrue (holds rule (used blank room s n)) ↔ Uses blank room rule s n
 unfolding used
-uses_told blank room rule s n = (
-  λ h. record {
-    long = grind (arith, h);
-    inside = grind (arith, h);
-    clear = grind (arith, h);
-    follows = grind (arith, h);
-  },
-  λ t. grind (arith, t.long, t.inside, t.clear, t.follows),
-)
+uses_told blank room rule s n = grind arith
 
 all_blank : {A : Type 0} (blank : A → Bool) (x : A) (n : ℕ) → blank x ≡ true → list_all blank (replicate n x) ≡ true
 all_blank blank x zero h = refl
@@ -60,9 +51,4 @@ all_blank blank x (suc n) h = rw h (all_blank blank x n h)
 pub kept_used : {A : Type 0} (blank : A → Bool) (x : A) (room : ℕ) (rule : List A → Bool) (items : List A)
     → length items ≤ room → blank x ≡ true → rule items ≡ true → Uses blank room rule (kept x room items) (length items)
 kept_used {A} blank x room rule items fits blanks follows =
-    let rest = replicate (room - length items) x in record {
-      long = length-append items rest ∙ omega (arith, length-replicate {A = A} (room - length items) x);
-      inside = fits;
-      clear = ap (list_all blank) (drop-append_seam items rest) ∙ all_blank blank x (room - length items) blanks;
-      follows = ap rule (take-append_seam items rest) ∙ follows;
-    }
+    grind (arith, length-append, length-replicate, drop-append_seam, all_blank, take-append_seam)

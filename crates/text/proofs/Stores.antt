@@ -2,8 +2,7 @@
 -- None but the last asks for room.
 -- Assumes nothing.
 use Rattle.std.proofs.Common.{◌≡◌, sym, ap, ◌∙◌, List, [], ◌∷◌, ◌++◌, ℕ, suc, ◌+◌, ◌≤◌, ◌<◌, add-zero, add-suc, suc-add}
-use Rattle.std.proofs.Common.{zero-add, add-one, arith, length, slice_index_or, set, take, drop, take-suc}
-use Rattle.std.proofs.Common.{length-take-le}
+use Rattle.std.proofs.Common.{add-one, arith, length, slice_index_or, set, take, take-suc, length-take-le}
 use Rattle.std.proofs.Math.Seq.{sets, sets-eq}
 use Rattle.text.specs.Words.{over}
 
@@ -38,5 +37,4 @@ sets_more {A = A} l at src i d h e =
 
 -- a reply that fits, stored from the first byte on
 pub sets_over : (r m : List ℕ) → length r ≤ length m → sets m 0 r ≡ over r m
-sets_over r m h = sets-eq r m 0 (omega (arith, zero-add (length r)))
-    ∙ ap (λ (k : ℕ). r ++ drop k m) (zero-add (length r))
+sets_over r m h = grind (arith, sets-eq)

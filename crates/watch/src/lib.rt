@@ -6,12 +6,11 @@ mod light;
 mod marking;
 
 ghost use Rattle.std.specs.Prelude.{◌≡◌, true};
-ghost use Rattle.watch.specs.Watching.{is_sound};
+ghost use Rattle.watch.specs.Watching.{is_burning_in, is_sound};
 
 use floorlog::line;
 use floorlog::playing::KEPT_ROOM;
 use record::legality::Tested;
-use record::own;
 use record::types::{Device, LAMPS_MOST};
 
 /// A log as it is watched: its record, tested where the log began; the seconds gone since the log began; the second at
@@ -23,6 +22,13 @@ pub struct Watch {
     from: u64,
     burnt: [u64; LAMPS_MOST],
     ghost sound: { is_sound (record { device = tested.device; time = time; from = from; burnt = burnt }) ≡ true },
+}
+
+#[tactic(auto, using(record::proofs::PowerSeen::power_tests))]
+fn is_burning_in(device: &Device) -> bool
+    ensures { result ≡ is_burning_in device.now }
+{
+    device.own.power().is_burning()
 }
 
 impl Watch {
@@ -63,9 +69,9 @@ impl Watch {
         let Some(time) = self.time.checked_add(seconds as u64) else {
             return None;
         };
-        let was = own::is_lit(self.tested.device.own.power);
+        let was = is_burning_in(&self.tested.device);
         marking::end_line(&mut self.tested, mark, says, line, held);
-        let is = own::is_lit(self.tested.device.own.power);
+        let is = is_burning_in(&self.tested.device);
         let next = light::light_after(was, is, time, self.from);
         let burnt = light::gained_if(
             next.dark,
@@ -105,7 +111,7 @@ impl Watch {
     pub fn is_underway(&self) -> bool
         ensures { result ≡ (is_burning_in self.now.tested.device && is_long (state_of self.now)) }
     {
-        own::is_lit(self.tested.device.own.power) && self.from < self.time
+        is_burning_in(&self.tested.device) && self.from < self.time
     }
 
     /// The seconds that each lamp burnt, should the log end here.
@@ -113,7 +119,7 @@ impl Watch {
         ensures { result ≡ burnt_by (state_of self.now) }
     {
         light::gained_if(
-            own::is_lit(self.tested.device.own.power),
+            is_burning_in(&self.tested.device),
             self.burnt,
             self.tested.device.own.enabled,
             self.tested.device.settings.lamp_count,

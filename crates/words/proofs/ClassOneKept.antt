@@ -2,45 +2,22 @@
 -- input that they named; those that name one of Class 2 alone named none then.
 --   InputKept now before     what two characters name is what it was, or such an input
 -- Assumes nothing.
-use Rattle.std.proofs.Common.{ℕ, ◌+◌, ◌-◌, ◌≡◌, refl, sym, ap, ◌∙◌, Bool, true, false, List, [], ◌∷◌, arith, length}
-use Rattle.std.proofs.Common.{nat_le, ◌==◌, eq-eqb, ne_eqb}
-use Rattle.std.proofs.lemmas.Bool.{false≢true, eqb-false}
-use Prim.Native.Char.{code}
-use Rattle.std.specs.Prelude.{Option, Some, None, if◌then◌else◌}
-use Rattle.text.specs.Words.{◌is◌, ◌from◌to◌}
-use Rattle.text.proofs.Choices.{if_yes, if_no, both_left, both_right}
+use Rattle.std.proofs.Common.{ℕ, ◌≡◌, refl, sym, ap, ◌∙◌, Bool, true, false, List, arith, length, ◌==◌, Option, Some}
+use Rattle.std.proofs.Common.{None, if◌then◌else◌}
+use Rattle.std.proofs.lemmas.Bool.{false≢true}
 use Rattle.words.specs.Bytes.{◌at◌}
-use Rattle.words.specs.Codec.{whole, ◌>>=◌}
+use Rattle.words.specs.Codec.{◌>>=◌}
 use Rattle.words.specs.Sources.{number_for}
 use Rattle.words.specs.Inputs.{is_input_text, source_named, input_named, read_input, input_of}
 use Rattle.words.specs.ClassOne.{is_input_text_1, source_named_1, input_named_1, read_input_1}
-use Rattle.words.specs.declared.input.Source.TheVariants.{Rgb, Video, Digital, Storage, Network, Internal}
 use Rattle.words.specs.declared.input.Input.{Input}
-use Rattle.words.proofs.Characters.{in_range}
 use Rattle.words.proofs.InputsReadBack.{named_widely}
-
-five_kept : (t u v w x : Bool) → (t ≡ false → u ≡ false → v ≡ false → w ≡ false → x ≡ true)
-    → (if t then Rgb else if u then Video else if v then Digital else if w then Storage else Network)
-    ≡ (if t then Rgb else if u then Video else if v then Digital else if w then Storage
-    else if x then Network else Internal)
-five_kept true u v w x h = refl
-five_kept false true v w x h = refl
-five_kept false false true w x h = refl
-five_kept false false false true x h = refl
-five_kept false false false false true h = refl
-five_kept false false false false false h = absurd (false≢true (h refl refl refl refl))
 
 module _ (a b : ℕ) where
   -- the characters of an input of Class 1 named the same input
   input_kept : is_input_text_1 a b ≡ true → input_named a b ≡ input_named_1 a b
   unfolding source_named source_named_1 number_for
-  input_kept named =
-      let type = in_range a "1" "5" (both_left (a from "1" to "5") (b from "1" to "9") named) in
-      let digit = both_right (nat_le (code "1") b) _ (both_right (a from "1" to "5") (b from "1" to "9") named) in
-      let source = five_kept (a is "1") (a is "2") (a is "3") (a is "4") (a is "5") (λ n₁ n₂ n₃ n₄.
-      eq-eqb a (code "5")
-      (omega (arith, type, eqb-false a _ n₁, eqb-false a _ n₂, eqb-false a _ n₃, eqb-false a _ n₄))) in
-      (λ i. record { source = sym source i; number = if_yes (b - code "0") (10 + (b - code "A")) digit i })
+  input_kept named = grind arith
 
 pub data InputKept (now before : Option Input) : Type 0 where
   input_as_before : now ≡ before → InputKept now before
@@ -64,16 +41,4 @@ one o s = o >>= λ i. Some (i, s)
 
 pub input_by_two : (p : List ℕ) → input_of p ≡ (if length p == 2 then read_input (p at 0) (p at 1) else None)
 unfolding input_of
-input_by_two [] = refl
-input_by_two (a ∷ []) = refl
-input_by_two (a ∷ b ∷ []) = by (read_input a b)
-  where
-    by : (o : Option Input) → whole (one o) [] ≡ o
-    by None = refl
-    by (Some i) = refl
-input_by_two (a ∷ b ∷ c ∷ p) =
-    by (read_input a b) ∙ sym (if_no _ None (ne_eqb (length (a ∷ b ∷ c ∷ p)) 2 (λ e. omega arith)))
-  where
-    by : (o : Option Input) → whole (one o) (c ∷ p) ≡ None
-    by None = refl
-    by (Some i) = refl
+input_by_two p = grind arith

@@ -1,7 +1,6 @@
 -- The examples that RULES gives of inputs, and the same inputs and more of Class 2 (RULES, Inputs and Class 2).
 -- Assumes nothing.
-use Rattle.std.proofs.Common.{◌≡◌, refl, true, false, List, [], ◌∷◌, map, ℕ, codes}
-use Rattle.std.specs.Prelude.{Some, None}
+use Rattle.std.proofs.Common.{◌≡◌, refl, true, false, List, [], ◌∷◌, map, ℕ, codes, Some, None}
 use Rattle.words.specs.Bytes.{◌at◌}
 use Rattle.words.specs.Sources.{number_for, input_for}
 use Rattle.words.specs.Inputs.{is_input_text}

@@ -2,21 +2,17 @@
 -- characters.
 -- Assumes nothing.
 use Rattle.std.specs.List.{list_all}
-use Rattle.std.proofs.Common.{ℕ, ◌≤◌, ◌≡◌, refl, sym, ap, ◌∙◌, Bool, true, ◌||◌, [], ◌∷◌, arith, nat_le, ◌==◌, eqb-true}
-use Rattle.std.proofs.Common.{leb-true, le-leb}
-use Rattle.std.proofs.lemmas.Bool.{eqb-false}
+use Rattle.std.proofs.Common.{ℕ, ◌≤◌, ◌≡◌, refl, true, [], ◌∷◌, arith, nat_le, leb-true, le-leb, Option, Some, None}
 use Prim.Native.Char.{code}
-use Rattle.std.specs.Prelude.{Option, Some, None}
-use Rattle.text.specs.Words.{◌is◌, ◌from◌to◌}
-use Rattle.text.proofs.Choices.{if_yes, if_by, both, both_left, both_right}
+use Rattle.text.specs.Words.{◌from◌to◌}
+use Rattle.text.proofs.Choices.{if_by, both, both_left, both_right}
 use Rattle.words.specs.Bytes.{is_alnum}
-use Rattle.words.specs.Sources.{is_number_character, number_for, number_character}
+use Rattle.words.specs.Sources.{is_number_character, number_character}
 use Rattle.words.specs.Inputs.{is_input_text, source_named, input_named, read_input, input_of, is_input, source_digit}
 use Rattle.words.specs.Inputs.{input_text}
 use Rattle.words.specs.Combinations.{whole_says}
 use Rattle.words.specs.Laws.{input_codec}
 use Rattle.words.specs.declared.input.Source.{Source}
-use Rattle.words.specs.declared.input.Source.TheVariants.{Rgb, Video, Digital, Storage, Network, Internal}
 use Rattle.words.specs.declared.input.Input.{Input}
 use Rattle.words.proofs.Characters.{in_range}
 use Rattle.words.proofs.NumbersReadBack.{is_number_character-number_character, number_back, number_low, number_high}
@@ -30,12 +26,7 @@ pub record SourceTold (s : Source) : Type 0 where
 
 pub source_told : (s : Source) → SourceTold s
 unfolding source_named
-source_told Rgb = record { listed = refl; alnum = refl; back = refl }
-source_told Video = record { listed = refl; alnum = refl; back = refl }
-source_told Digital = record { listed = refl; alnum = refl; back = refl }
-source_told Storage = record { listed = refl; alnum = refl; back = refl }
-source_told Network = record { listed = refl; alnum = refl; back = refl }
-source_told Internal = record { listed = refl; alnum = refl; back = refl }
+source_told s = grind arith
 
 -- its characters are a letter or digit each, whatever the number
 pub input_alnum : (i : Input) → list_all is_alnum (input_text i) ≡ true
@@ -53,10 +44,7 @@ module _ (i : Input) (legal : is_input i ≡ true) where
 
   pub input_read_back : read_input (source_digit i.source) (number_character i.number) ≡ Some i
   unfolding read_input
-  input_read_back =
-      let same = number_back i.number low high in
-      if_yes _ None input_is_text
-      ∙ (λ j. Some (record { source = (source_told i.source).back j; number = same j }))
+  input_read_back = grind (arith, number_back, low, input_is_text, source_told)
 
   pub input_of-input_text : input_of (input_text i) ≡ Some i
   unfolding input_of
@@ -64,14 +52,10 @@ module _ (i : Input) (legal : is_input i ≡ true) where
 
 -- what names an input of Class 1 names one of Class 2
 wider : (a b : ℕ) → is_input_text 1 a b ≡ true → is_input_text 2 a b ≡ true
-wider a b e =
-    let type = in_range a "1" "5" (both_left (a from "1" to "5") (b from "1" to "9") e) in
-    both (both (le-leb (code "1") a type.0) (le-leb a (code "6") (omega arith)))
-    (ap (λ (t : Bool). t || b from "A" to "Z") (both_right (a from "1" to "5") (b from "1" to "9") e))
+wider a b e = grind arith
 
 pub named_widely : (k a b : ℕ) → is_input_text k a b ≡ true → is_input_text 2 a b ≡ true
-named_widely k a b =
-    if_by (λ (t : Bool). t ≡ true → is_input_text 2 a b ≡ true) (k == 1) (λ h e. wider a b e) (λ h e. e)
+named_widely k a b = grind arith
 
 module _ (k a b : ℕ) (named : is_input_text k a b ≡ true) where
   source_is : (code "1" ≤ a) × (a ≤ code "6")
@@ -82,26 +66,10 @@ module _ (k a b : ℕ) (named : is_input_text k a b ≡ true) where
 
   source_digit-source_named : source_digit (source_named a) ≡ a
   unfolding source_named
-  source_digit-source_named =
-      let P : Source → Type 0 = λ s. source_digit s ≡ a in
-      if_by P (a is "1") (λ e. sym (eqb-true a _ e)) (λ n₁.
-      if_by P (a is "2") (λ e. sym (eqb-true a _ e)) (λ n₂.
-      if_by P (a is "3") (λ e. sym (eqb-true a _ e)) (λ n₃.
-      if_by P (a is "4") (λ e. sym (eqb-true a _ e)) (λ n₄.
-      if_by P (a is "5") (λ e. sym (eqb-true a _ e)) (λ n₅.
-      omega (
-        arith,
-        source_is,
-        eqb-false a _ n₁,
-        eqb-false a _ n₂,
-        eqb-false a _ n₃,
-        eqb-false a _ n₄,
-        eqb-false a _ n₅,
-      ))))))
+  source_digit-source_named = grind arith
 
   pub is_input-input_named : is_input (input_named a b) ≡ true
-  is_input-input_named =
-      both (le-leb 1 (number_for b) (number_low b number_is)) (le-leb (number_for b) 35 (number_high b number_is))
+  is_input-input_named = simp (le-leb, number_low, number_is, number_high)
 
   pub named_text : input_text (input_named a b) ≡ a ∷ b ∷ []
   named_text = (λ j. source_digit-source_named j ∷ number_character-number_for b number_is j ∷ [])

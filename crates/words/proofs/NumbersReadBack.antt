@@ -1,16 +1,13 @@
 -- The character of an input's number, 1 to 9 and A to Z: read, it gives the number back, and is no other's (RULES,
 -- Class 2).
 -- Assumes nothing.
-use Rattle.std.proofs.Common.{ℕ, ◌+◌, ◌-◌, ◌%◌, ◌≤◌, ◌<◌, ◌≡◌, refl, ap, ◌∙◌, Bool, true, false, not, ◌&&◌, ◌||◌, arith}
-use Rattle.std.proofs.Common.{nat_le, ◌==◌, eqb-true, leb-true, le-leb}
-use Rattle.std.proofs.Math.Bool.{or-true}
+use Rattle.std.proofs.Common.{ℕ, ◌+◌, ◌≤◌, ◌<◌, ◌≡◌, refl, Bool, true, not, ◌&&◌, ◌||◌, arith}
+use Rattle.std.proofs.Common.{nat_le, ◌==◌, eqb-true, le-leb}
 use Prim.Native.Char.{code}
-use Rattle.text.specs.Words.{◌from◌to◌}
-use Rattle.text.proofs.Choices.{if_by, both, both_left, both_right}
+use Rattle.text.proofs.Choices.{both, both_left, both_right}
 use Rattle.text.proofs.EachBelow.{all_below, each_below}
 use Rattle.words.specs.Bytes.{is_alnum}
-use Rattle.words.specs.Sources.{is_number_character, number_for, number_character, character}
-use Rattle.words.proofs.Characters.{in_range, either_by}
+use Rattle.words.specs.Sources.{is_number_character, number_for, number_character}
 
 -- a number 1 to 35
 abbrev is_number : ℕ → Bool
@@ -36,8 +33,7 @@ unfolding number_for number_character
 read_back = refl
 
 implied : (t u : Bool) → (not t || u) ≡ true → t ≡ true → u ≡ true
-implied true u e h = e
-implied false u e h = cc
+implied t u h g = grind arith
 
 module _ (n : ℕ) (low : 1 ≤ n) (high : n ≤ 35) where
   back : (is_number_character (number_character n) && number_for (number_character n) == n) ≡ true
@@ -53,20 +49,16 @@ module _ (n : ℕ) (low : 1 ≤ n) (high : n ≤ 35) where
 
 module _ (b : ℕ) (named : is_number_character b ≡ true) where
   up_to_Z : b < most
-  up_to_Z =
-      either_by (b from "1" to "9") (b from "A" to "Z") named
-      (λ e. omega (arith, in_range b "1" "9" e)) (λ e. omega (arith, in_range b "A" "Z" e))
+  up_to_Z = grind arith
 
   told : (is_number (number_for b) && number_character (number_for b) == b) ≡ true
   told = implied (is_number_character b) _ (each_below reads_same most read_back b up_to_Z) named
 
   pub number_low : 1 ≤ number_for b
-  number_low =
-      leb-true 1 (number_for b) (both_left (nat_le 1 (number_for b)) _ (both_left (is_number (number_for b)) _ told))
+  number_low = grind (arith, told)
 
   pub number_high : number_for b ≤ 35
-  number_high =
-      leb-true (number_for b) 35 (both_right (nat_le 1 (number_for b)) _ (both_left (is_number (number_for b)) _ told))
+  number_high = grind (arith, told)
 
   pub number_character-number_for : number_character (number_for b) ≡ b
   number_character-number_for = eqb-true _ b (both_right (is_number (number_for b)) _ told)
@@ -74,15 +66,4 @@ module _ (b : ℕ) (named : is_number_character b ≡ true) where
 -- whatever the number, its character is a digit or a capital letter
 pub is_alnum-number_character : (n : ℕ) → is_alnum (number_character n) ≡ true
 unfolding number_character
-is_alnum-number_character n =
-    if_by (λ (x : ℕ). is_alnum x ≡ true) (nat_le n 9)
-    (λ e.
-    let low = leb-true n 9 e in
-    let x = character n in
-    ap (λ (t : Bool). t || x from "A" to "Z" || x from "a" to "z")
-    (both (le-leb (code "0") x (omega arith)) (le-leb x (code "9") (omega arith))))
-    (λ e.
-    let x = code "A" + (n - 10) % 26 in
-    ap (λ (t : Bool). x from "0" to "9" || t || x from "a" to "z")
-    (both (le-leb (code "A") x (omega arith)) (le-leb x (code "Z") (omega arith)))
-    ∙ ap (λ (t : Bool). t || x from "a" to "z") (or-true (x from "0" to "9")))
+is_alnum-number_character n = grind arith

@@ -2,35 +2,23 @@
 -- digit, and a legal text.
 -- Assumes nothing.
 use Rattle.std.specs.List.{list_all}
-use Rattle.std.proofs.Common.{ℕ, ◌≡◌, ◌≤◌, true, List, length, refl, sym, ap, ◌∙◌, arith, slice_index_or, nat_le, ◌==◌}
+use Rattle.std.proofs.Common.{ℕ, ◌≡◌, ◌≤◌, true, List, length, refl, sym, ap, ◌∙◌, arith, slice_index_or, nat_le}
 use Rattle.std.specs.Prelude.{Option, Some, None, not, ◌&&◌}
-use Rattle.std.proofs.lemmas.Bool.{eqb-true}
 use Prim.Native.Char.{code}
-use Rattle.text.specs.Words.{◌is◌, ◌from◌to◌}
-use Rattle.text.proofs.Choices.{both_left, both_right}
-use Rattle.words.specs.Bytes.{◌at◌}
+use Rattle.text.proofs.Choices.{both_right}
 use Rattle.words.specs.Codec.{whole}
 use Rattle.words.specs.Combinations.{whole_says}
 use Rattle.words.specs.Laws.{refusal_codec}
 use Rattle.words.specs.Refusing.{refusal_text, refusal_read}
 use Rattle.words.specs.Texts.{is_refusal, is_text, is_text_byte}
 use Rattle.words.specs.declared.refusal.Refusal.{Refusal}
-use Rattle.words.specs.declared.refusal.Refusal.TheVariants.{Undefined, OutOfParameter, Unavailable, Failure}
 
 pub refusal_long : (s : List ℕ) → is_refusal s ≡ true → length s ≡ 4
 unfolding is_refusal
-refusal_long s r =
-    let four = length s == 4 in
-    let e = four && s at 0 is "E" in
-    let er = e && s at 1 is "R" in
-    let err = er && s at 2 is "R" in
-    eqb-true (length s) 4
-    (both_left four (s at 0 is "E")
-    (both_left e (s at 1 is "R") (both_left er (s at 2 is "R") (both_left err (s at 3 from "1" to "4") r))))
+refusal_long s r = grind arith
 
 none_by : {A : Type 0} (o : Option A) → ((x : A) → o ≡ Some x → ⊥) → o ≡ None
-none_by None h = refl
-none_by (Some x) h = absurd (h x refl)
+none_by o h = grind arith
 
 pub refusal_is : (p : List ℕ) (r : Refusal) → whole refusal_read p ≡ Some r → p ≡ refusal_text r
 refusal_is p r e = ((whole_says refusal_codec).sound p r e).1
@@ -42,16 +30,11 @@ pub not_four : (p : List ℕ) → (length p ≡ 4 → ⊥) → whole refusal_rea
 not_four p h = none_by (whole refusal_read p) (λ r e. h (ap length (refusal_is p r e)))
 
 pub digit_first : (p : List ℕ) → slice_index_or p 0 0 ≤ code "9" → whole refusal_read p ≡ None
-digit_first p h =
-    none_by (whole refusal_read p)
-    (λ r e. omega (arith, h, ap (λ (s : List ℕ). slice_index_or s 0 0) (refusal_is p r e)))
+digit_first p h = grind arith
 
 is_refusal-refusal_text : (r : Refusal) → is_refusal (refusal_text r) ≡ true
 unfolding is_refusal
-is_refusal-refusal_text Undefined = refl
-is_refusal-refusal_text OutOfParameter = refl
-is_refusal-refusal_text Unavailable = refl
-is_refusal-refusal_text Failure = refl
+is_refusal-refusal_text r = grind arith
 
 pub text_no_refusal : (n : ℕ) (s : List ℕ) → is_text n s ≡ true → whole refusal_read s ≡ None
 unfolding is_text

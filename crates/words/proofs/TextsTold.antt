@@ -1,20 +1,16 @@
 -- What the rules of texts tell: their lengths and their bytes.
 -- Assumes nothing.
+use Rattle.std.proofs.Common.{arith, ℕ, ◌≤◌, ◌≡◌, true, List, length}
 use Rattle.std.specs.List.{list_all}
 use Rattle.std.specs.Str.{is_utf8}
-use Rattle.std.proofs.Common.{ℕ, ◌≤◌, ◌≡◌, true, not, ◌&&◌, List, length, nat_le, leb-true}
-use Rattle.text.proofs.Choices.{both_left, both_right}
-use Rattle.words.specs.Bytes.{is_alnum}
-use Rattle.words.specs.Texts.{is_refusal, is_text_byte, is_text, is_name, is_info, is_input_name}
+use Rattle.text.proofs.Choices.{both_left}
+use Rattle.words.specs.Texts.{is_text_byte, is_text, is_name, is_info, is_input_name}
 use Rattle.words.specs.Texts.{is_password, name_most, info_most, input_name_most, password_most}
 
 module _ (s : List ℕ) where
   text_long : (n : ℕ) → is_text n s ≡ true → length s ≤ n
   unfolding is_text
-  text_long n h =
-      leb-true (length s) n
-      (both_left (nat_le (length s) n) (list_all is_text_byte s)
-      (both_left (nat_le (length s) n && list_all is_text_byte s) (not (is_refusal s)) h))
+  text_long n h = grind arith
 
   -- a name is such a text, and more
   pub name_is_text : is_name s ≡ true → is_text name_most s ≡ true
@@ -32,11 +28,8 @@ module _ (s : List ℕ) where
 
   pub password_long : is_password s ≡ true → length s ≤ password_most
   unfolding is_password
-  password_long h =
-      leb-true (length s) password_most (both_left (nat_le (length s) password_most) (list_all is_alnum s) h)
+  password_long h = grind arith
 
 pub text_bytes : (n : ℕ) (s : List ℕ) → is_text n s ≡ true → list_all is_text_byte s ≡ true
 unfolding is_text
-text_bytes n s e =
-    let sized = both_left (nat_le (length s) n && list_all is_text_byte s) (not (is_refusal s)) e in
-    both_right (nat_le (length s) n) (list_all is_text_byte s) sized
+text_bytes n s e = grind arith

@@ -1,10 +1,9 @@
 -- Vectors of UTF-8: the examples of RFC 3629, section 7, and the borders of its tables.
 -- Assumes nothing.
 use Rattle.std.specs.Char.{encode_utf8}
-use Rattle.std.specs.Prelude.{encode_utf8_all}
 use Rattle.std.specs.List.{list_all}
 use Rattle.std.specs.Str.{chars, is_utf8}
-use Rattle.std.proofs.Common.{ℕ, ◌≡◌, refl, true, not, List, [], ◌∷◌, map}
+use Rattle.std.proofs.Common.{ℕ, ◌≡◌, refl, true, not, List, [], ◌∷◌, map, encode_utf8_all}
 use Rattle.std.proofs.Math.Utf8.{scalar}
 
 -- "A<NOT IDENTICAL TO><ALPHA>."; the Korean "hangugeo"; the Japanese "nihongo"; a byte order mark and U+233B4

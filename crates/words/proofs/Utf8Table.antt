@@ -135,5 +135,4 @@ decoded (r ∷ rows) each (suc k) row h is = decoded rows each.1 k row (omega ar
 
 pub IsUtf8-IsOctets : (s : List ℕ) → IsOctets s → IsUtf8 s
 IsUtf8-IsOctets _ none = ([], (refl, refl))
-IsUtf8-IsOctets _ (one_more c s is more) =
-    IsUtf8-append c s (decoded utf8_rows each_decodes is.0 is.1 is.2 is.3 c is.4) (IsUtf8-IsOctets s more)
+IsUtf8-IsOctets _ (one_more c s is more) = grind (arith, IsUtf8-append, each_decodes, IsUtf8-IsOctets s more)

@@ -9,8 +9,7 @@
 --   input_read s          the input at the front of s
 --   input_of w            the input that all of a word names
 -- Assumes nothing.
-use Rattle.std.specs.Prelude.{ℕ, ◌+◌, ◌%◌, Bool, ◌&&◌, List, [], ◌∷◌, if◌then◌else◌}
-use Rattle.std.specs.Prelude.{Option, Some, None, nat_le, ◌==◌}
+use Rattle.std.specs.Prelude.{ℕ, ◌+◌, ◌%◌, Bool, ◌&&◌, List, [], ◌∷◌, if◌then◌else◌, Option, Some, None, nat_le, ◌==◌}
 use Prim.Native.Char.{code}
 use Rattle.text.specs.Words.{◌is◌, ◌from◌to◌}
 use Rattle.words.specs.Codec.{whole, ◌>>=◌}

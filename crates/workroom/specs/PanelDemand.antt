@@ -14,7 +14,7 @@
 --   ShownBy e l f      what f shows is what e showed, or the line l was an accepted reply and f shows what it says, or
 --                      it was the ERRA line and f shows nothing
 -- Assumes nothing.
-use Rattle.std.specs.Prelude.{ℕ, ◌+◌, ◌<◌, min, ◌≡◌, true, List}
+use Rattle.std.specs.Prelude.{ℕ, ◌+◌, ◌<◌, min, ◌≡◌, true, List, Some}
 use Rattle.pjlink.specs.Forms.{erra_line}
 use Rattle.pjlink.specs.declared.command.Command.{Command}
 use Rattle.pjlink.specs.Said.{Said}
@@ -80,11 +80,11 @@ module _ (P : AnyPanel) where
         → ForgotIn (entry_at p i) (after_line p i erra_line)
     -- "Until a greeting is accepted": each of the two is
     pub open_greets : (p : Panel) (i : ℕ) (l : List ℕ) → IsServed p i → (entry_at p i).greeting ≡ ungreeted
-        → read_greeting l ≡ Open
+        → read_greeting l ≡ Some Open
         → Greeted (entry_at p i) (greeted_by greeted_open 0) (after_line p i l)
     pub secured_greets : (p : Panel) (i : ℕ) (l : List ℕ) (random : ℕ)
         → IsServed p i → (entry_at p i).greeting ≡ ungreeted
-        → read_greeting l ≡ Secured random
+        → read_greeting l ≡ Some (Secured random)
         → Greeted (entry_at p i) (greeted_by greeted_secured random) (after_line p i l)
     -- "The step touches only the named projector's entry"
     pub others_stay : (p : Panel) (i : ℕ) (l : List ℕ) (j : ℕ) → (j ≡ i → ⊥)

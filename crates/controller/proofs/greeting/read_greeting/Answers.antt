@@ -1,5 +1,6 @@
 -- The greeting that is compared with is the one with the number that was read.
 use Rattle.std.proofs.Common.{◌≡◌, sym, ap, ◌∙◌, ℕ, Bool, List, take, drop, codes}
+use Rattle.std.specs.Prelude.{Some}
 use Rattle.std.proofs.lemmas.List.Edits.{sets}
 use Rattle.text.specs.Scans.{same_by, itself}
 use Rattle.digest.specs.Hex.{hex_digits, hex_value}
@@ -27,7 +28,7 @@ pub returns-then-same-3 : goal.returns-then-same-3
 returns-then-same-3 c =
     let l = c.args.line.now in
     let read = number l c.hex_value-random.ensures in
-    ap Secured read
+    ap (λ (n : ℕ). Some (Secured n)) read
     ∙ sym (greeting_secured_lem l (sym c.same.ensures ∙ c.if-same.false) (sym c.same-2.ensures ∙ c.if-same-2.false)
     (sym (compared l read c.hex8-digits.ensures c.put.ensures c.same-3.ensures) ∙ c.if-same-3.true))
 

@@ -1,9 +1,6 @@
+use Rattle.std.proofs.Common.{arith}
 use Rattle.demands.proofs.WrongBoardsFall.{closes_next_falls, counts_failures_falls, refuses_elsewhere_falls}
 use Rattle.demands.proofs.wrong_boards.wrong_outsiders_fall.Goals as goal
 
 pub returns : goal.returns
-returns c = record {
-  closes_the_next_place = closes_next_falls;
-  counts_failed_log_ins = counts_failures_falls;
-  refuses_at_another_place = refuses_elsewhere_falls;
-}
+returns c = grind (arith, closes_next_falls, counts_failures_falls, refuses_elsewhere_falls)

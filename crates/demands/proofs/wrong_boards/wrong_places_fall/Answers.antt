@@ -1,8 +1,6 @@
+use Rattle.std.proofs.Common.{arith}
 use Rattle.demands.proofs.WrongBoardsFall.{forgets_others_power_falls, one_line_for_all_falls}
 use Rattle.demands.proofs.wrong_boards.wrong_places_fall.Goals as goal
 
 pub returns : goal.returns
-returns c = record {
-  forgets_power_set_elsewhere = forgets_others_power_falls;
-  collects_all_in_one_line = one_line_for_all_falls;
-}
+returns c = grind (arith, forgets_others_power_falls, one_line_for_all_falls)

@@ -1,6 +1,5 @@
 -- The line is taken apart into what its answer speaks of, and its class is one that the set-up takes.
 use Rattle.std.proofs.Common.{ℕ, ◌≡◌, sym, ap, ◌∙◌, Bool, true, false, List, arith}
-use Rattle.words.specs.Bytes.{◌at◌}
 use Rattle.words.specs.Classes.{class_as_number, class_code}
 use Rattle.words.specs.declared.class.ClassNumber.{ClassNumber}
 use Rattle.words.specs.declared.refusal.Refusal.{Refusal}
@@ -55,13 +54,10 @@ module _
 
         answers : {r : Request} (reply : Result Answer Refusal) → r ≡ request_of (class_as_number j) letters p
             → said_by reply ≡ meant s o r
-            → reply_line (class_code j) (letters at 0) (letters at 1) (letters at 2) (letters at 3)
-            (said_bytes (said_by reply))
-            ≡ (line_answer s o l).reply
+            → reply_line (class_code j) letters (said_bytes (said_by reply)) ≡ (line_answer s o l).reply
         answers reply f g =
             let said = g ∙ ap (meant s o) (asks f) in
-            (λ i. reply_line (sym taken.class i) (taken.body i at 0) (taken.body i at 1) (taken.body i at 2)
-            (taken.body i at 3) (said_bytes (said i)))
+            (λ i. reply_line (sym taken.class i) (taken.body i) (said_bytes (said i)))
             ∙ ap (λ a. a.reply) formed
 
 pub returns-in_default-clause-reply : goal.returns-in_default-clause-reply

@@ -6,5 +6,5 @@ pub returns : goal.returns
 returns c = record {
   taken = line_class_taken;
   digit = class_byte;
-  other = λ a b c d j k p e. reply_other_class a b c d e j k p;
+  other = λ s letters. reply_other_class letters;
 }

@@ -10,4 +10,4 @@ overflow_sub-self c = sound_from (state_of c.args.self.now) c.args.self.now.soun
 pub gained_if-requires : goal.gained_if-requires
 gained_if-requires c =
     let s = state_of c.args.self.now in
-    λ lit. burnt_fits s c.args.self.now.sound (sym c.is_lit.ensures ∙ lit) s.time (omega arith) (omega arith)
+    λ lit. burnt_fits s c.args.self.now.sound (sym c.is_burning_in.ensures ∙ lit) s.time (omega arith) (omega arith)

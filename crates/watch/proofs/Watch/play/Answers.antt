@@ -22,17 +22,17 @@ gained_if-burnt-requires c =
     let timed : c.in-Some.time ≡ c.args.self.now.time + c.seconds_of-seconds.result = omega arith in
     λ dark.
     can_gain l c.mark_says-mark.ensures (state_of c.args.self.now) c.end_line.ensures c.args.self.now.sound
-    c.seconds_of-seconds.result timed (omega arith) c.is_lit-is.result c.is_lit-was.ensures
+    c.seconds_of-seconds.result timed (omega arith) c.is_burning_in-is.result c.is_burning_in-was.ensures
     c.light_after-next.ensures dark
 
-pub invariant_of-self : goal.invariant_of-self
-invariant_of-self c =
+pub invariant_of-self-2 : goal.invariant_of-self-2
+invariant_of-self-2 c =
     let l = take c.args.held c.args.line.now in
     let timed : c.in-Some.time ≡ c.args.self.now.time + c.seconds_of-seconds.result = omega arith in
     let seconds = seconds_is l c.mark_says-mark.ensures c.line_says-says.ensures c.seconds_of-seconds.ensures in
     record {
       sound = stays_sound l c.mark_says-mark.ensures (state_of c.args.self.now) c.end_line.ensures seconds timed
-          c.is_lit-was.ensures c.is_lit-is.ensures c.light_after-next.ensures c.gained_if-burnt.ensures
+          c.is_burning_in-was.ensures c.is_burning_in-is.ensures c.light_after-next.ensures c.gained_if-burnt.ensures
           c.args.self.now.sound;
     }
 
@@ -42,7 +42,7 @@ returns-clause-watched c =
     let timed : c.in-Some.time ≡ c.args.self.now.time + c.seconds_of-seconds.result = omega arith in
     let seconds = seconds_is l c.mark_says-mark.ensures c.line_says-says.ensures c.seconds_of-seconds.ensures in
     line_watched l c.mark_says-mark.ensures (state_of c.args.self.now) c.end_line.ensures seconds timed
-    c.is_lit-was.ensures c.is_lit-is.ensures c.light_after-next.ensures c.gained_if-burnt.ensures
+    c.is_burning_in-was.ensures c.is_burning_in-is.ensures c.light_after-next.ensures c.gained_if-burnt.ensures
 
 pub returns-clause-places : goal.returns-clause-places
 returns-clause-places c =

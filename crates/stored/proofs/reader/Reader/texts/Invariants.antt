@@ -1,4 +1,4 @@
-use Rattle.stored.proofs.Taken.{TextsRead}
+use Rattle.stored.proofs.TextsRead.{TextsRead}
 use Rattle.stored.proofs.reader.Reader.texts.Given as goal
 
 abbrev pub invariant-loop : goal.invariant-loop

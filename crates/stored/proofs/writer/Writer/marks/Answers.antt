@@ -1,6 +1,7 @@
-use Rattle.stored.proofs.Writing.{one_mark}
+use Rattle.std.proofs.Common.{arith}
+use Rattle.stored.proofs.Writing.{puts_as, map-take}
 use Rattle.stored.proofs.writer.Writer.marks.Goals as goal
 
 pub loop-mark-preserved : goal.loop-mark-preserved
 loop-mark-preserved c =
-    one_mark _ _ c.loop-mark-test.true c.loop-mark.invariant c.mark_byte.ensures c.byte-in-loop-mark.ensures
+    puts_as (grind (arith, map-take, c.mark_byte.ensures)) c.loop-mark.invariant c.byte-in-loop-mark.ensures

@@ -1,0 +1,79 @@
+-- Texts one after the other, each after its count (RULES, Class 2), as the code reads them in a row.
+--   TextsRead s i rest    i texts have been read from s
+-- Assumes nothing.
+use Rattle.std.proofs.Common.{ℕ, zero, suc, ◌+◌, ◌-◌, ◌<◌, ◌≡◌, List, [], ◌∷◌, ◌++◌, length, take, Some, None, sym, ap}
+use Rattle.std.proofs.Common.{◌∙◌, arith, append_assoc, append-nil, length-append}
+use Rattle.std.proofs.Math.Seq.{take-append_seam}
+use Rattle.text.proofs.InTurn.{turns_snoc}
+use Rattle.record.specs.Wanted.{counted_in}
+use Rattle.record.proofs.CountedNames.{counted_none, counted_first, counted_many}
+use Rattle.stored.specs.Form.{text_section, texts_bytes}
+use Rattle.stored.specs.Reading.{text, texts}
+use Rattle.stored.proofs.Fields.{text_form, texts_form, text_spelled}
+
+counted_back : (ts : List (List ℕ)) (rest : List ℕ) → counted_in (length ts) (texts_bytes ts ++ rest) ≡ ts
+unfolding texts_bytes
+counted_back [] rest = counted_none rest
+counted_back (t ∷ ts) rest =
+    grind (
+      arith,
+      append_assoc (text_section t) (texts_bytes ts) rest,
+      counted_first (length ts) t (texts_bytes ts ++ rest),
+      counted_back ts rest,
+    )
+
+-- a text that is cut short cuts the texts short
+texts_cut : (n : ℕ) (ts : List (List ℕ)) (rest : List ℕ) → length ts < n → text rest ≡ None
+    → texts n (texts_bytes ts ++ rest) ≡ None
+unfolding texts texts_bytes
+texts_cut zero ts rest l e = grind arith
+texts_cut (suc n) [] rest l e = grind (arith, e)
+texts_cut (suc n) (t ∷ ts) rest l e =
+    let left = texts_bytes ts ++ rest in
+    grind (
+      arith,
+      append_assoc (text_section t) (texts_bytes ts) rest,
+      (text_form t).again left,
+      texts_cut n ts rest,
+      e,
+    )
+
+pub record TextsRead (s : List ℕ) (i : ℕ) (rest : List ℕ) : Type 0 where
+  pub passed : s ≡ texts_bytes (counted_in i s) ++ rest
+
+pub none_read : (s : List ℕ) → TextsRead s 0 s
+unfolding texts_bytes
+none_read s = record { passed = ap (λ (ts : List (List ℕ)). texts_bytes ts ++ s) (sym (counted_none s)) }
+
+module _ {s : List ℕ} {i : ℕ} {rest : List ℕ} (r : TextsRead s i rest) where
+  abbrev ts : List (List ℕ)
+  ts = counted_in i s
+
+  pub one_read : {t left : List ℕ} → text rest ≡ Some (t, left) → TextsRead s (i + 1) left
+  unfolding texts_bytes
+  one_read {t} {left} e =
+      let all : s ≡ texts_bytes (ts ++ (t ∷ [])) ++ left
+      = r.passed ∙ ap (λ (l : List ℕ). texts_bytes ts ++ l) (text_spelled e)
+      ∙ sym (append_assoc (texts_bytes ts) (text_section t) left)
+      ∙ ap (λ (l : List ℕ). l ++ left) (sym (turns_snoc text_section ts t)) in
+      let many : length (ts ++ (t ∷ [])) ≡ i + 1 = omega (arith, length-append ts (t ∷ []), counted_many i s) in
+      let back : counted_in (i + 1) s ≡ ts ++ (t ∷ [])
+      = (λ j. counted_in (sym many j) (all j)) ∙ counted_back (ts ++ (t ∷ [])) left in
+      record { passed = all ∙ ap (λ (l : List (List ℕ)). texts_bytes l ++ left) (sym back) }
+
+  pub all_read : {n k : ℕ} → i ≡ n → k ≡ length s - length rest
+      → texts n s ≡ Some (counted_in n (take k s), rest)
+  all_read {n} {k} e f =
+      let long : k ≡ length (texts_bytes ts)
+      = omega (arith, ap length r.passed, length-append (texts_bytes ts) rest) in
+      let front : take k s ≡ texts_bytes ts
+      = (λ j. take (long j) (r.passed j)) ∙ take-append_seam (texts_bytes ts) rest in
+      let many : n ≡ length ts = omega (arith, counted_many i s) in
+      let back : counted_in n (take k s) ≡ ts
+      = (λ j. counted_in (many j) ((front ∙ sym (append-nil (texts_bytes ts))) j)) ∙ counted_back ts [] in
+      (λ j. texts (many j) (r.passed j)) ∙ (texts_form ts).again rest ∙ (λ j. Some (sym back j, rest))
+
+  pub none_left : {n : ℕ} → i < n → text rest ≡ None → texts n s ≡ None
+  none_left {n} l e = ap (texts n) r.passed ∙ texts_cut n ts rest (omega (arith, counted_many i s)) e
+
+pub ruleset texts_read = (one_read, none_left)
