@@ -12,7 +12,7 @@ use Rattle.stored.specs.Told.{load_error_number, loading_told}
 use Rattle.stored.specs.declared.error.LoadError.{LoadError}
 use Rattle.stored.specs.declared.error.LoadError.TheVariants.{OtherVersion, CutShort, LeftOver, NotLegal}
 use Rattle.stored.proofs.Results.{accepted_legal}
-use Rattle.stored.proofs.BytesAgain.{Bytes}
+use Rattle.stored.proofs.Fields.{Bytes}
 use Rattle.stored.proofs.FormWithin.{loaded-take}
 use Rattle.formfile.specs.Begun.{form_room, IsBegunBy}
 use Rattle.formfile.specs.declared.NotBegun.{NotBegun}

@@ -5,7 +5,8 @@
 -- Assumes nothing.
 use Rattle.std.proofs.Common.{◌≡◌, ℕ, zero, suc, ◌+◌, ◌*◌, ◌/◌, ◌<◌, ◌≤◌, Bool, true, false, List, [], ◌∷◌, ◌++◌}
 use Rattle.std.proofs.Common.{length, take, drop, Option, Some, refl, ap, ◌∙◌, sym, arith, if◌then◌else◌, nat_lt, ◌==◌}
-use Rattle.std.proofs.Common.{length-append, length-drop, length-take-le, le-ltb, ltb-true, ltb-false, take-append-drop, not, map}
+use Rattle.std.proofs.Common.{length-append, length-drop, length-take-le, le-ltb, ltb-true, ltb-false}
+use Rattle.std.proofs.Common.{take-append-drop, not, map}
 use Rattle.std.proofs.lemmas.Grind.{common_steps}
 use Rattle.std.proofs.lemmas.List.{take_all, take-append-le, drop-append-le}
 use Rattle.std.proofs.lemmas.Bool.Decides.{nat_tests}
@@ -55,7 +56,15 @@ within_more k l h weaker w = record {
 
 within_given : {A : Type 0} {P : A → Type 0} (k : ℕ) (x : A) → P x → Within k P (given x)
 within_given k x p = record {
-  reads = λ s b long. record { value = x; rest = s; read = refl; more = λ t. refl; few = omega arith; bytes = b; such = p };
+  reads = λ s b long. record {
+    value = x;
+    rest = s;
+    read = refl;
+    more = λ t. refl;
+    few = omega arith;
+    bytes = b;
+    such = p;
+  };
 }
 
 within_then : {A B : Type 0} {P : A → Type 0} {Q : B → Type 0} {r : Field A} {f : A → Field B} (k l : ℕ)
