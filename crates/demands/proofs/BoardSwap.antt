@@ -35,9 +35,6 @@ lamp_goes_on m n start = omega arith
 
 -- of the settings, a history's clock knows W and C alone
 module _ (v w : Wanted) (warm : v.warm ≡ w.warm) (cool : v.cool ≡ w.cool) where
-  next_alike : (g : Stage) (e : Event) → next v g e ≡ next w g e
-  next_alike g e = grind arith
-
   burning_alike : (g : Stage) (ms : List Bool) (k : ℕ) (es : List Event) → burning_from v g ms k es
       ≡ burning_from w g ms k es
   burning_alike g ms k [] = refl

@@ -21,9 +21,6 @@ use Rattle.demands.specs.Unheard.{SameElsewhere, phase_at, is_at_place, is_openi
 use Rattle.demands.proofs.CallsDo.{gives, own_then, connection_left, calls_by, connection_at-served, settings_stay}
 
 module _ (d e : Device) (legal-d : is_legal d ≡ true) (legal-e : is_legal e ≡ true) where
-  legal_same : is_legal d ≡ is_legal e
-  legal_same = legal-d ∙ sym legal-e
-
   module _ (same : SameDevicePart ours d e) where
     host_rows : (c : Call) → is_hosts c ≡ true → rows_of d c ≡ rows_of e c
     host_rows c h = grind arith

@@ -1,11 +1,9 @@
 -- What a lamp is told to have burnt is what its stretches add up to, and so what it burnt by demand 3.
 -- Assumes nothing.
-use Rattle.std.proofs.Common.{ℕ, ◌+◌, ◌-◌, ◌≤◌, ◌<◌, ◌≡◌, refl, sym, ap, ◌∙◌, Bool, true, false, not, ◌&&◌, List, []}
-use Rattle.std.proofs.Common.{◌∷◌, ⊎_elim, zero-add, arith, length, slice_index_or, replicate, get_or-take, nat_lt}
-use Rattle.std.proofs.Common.{lt-ltb, le-ltb}
+use Rattle.std.proofs.Common.{ℕ, ◌+◌, ◌-◌, ◌<◌, ◌≡◌, sym, ap, ◌∙◌, Bool, true, false, not, ◌&&◌, List, []}
+use Rattle.std.proofs.Common.{◌∷◌, zero-add, arith, length, slice_index_or, replicate, get_or-take, nat_lt}
 use Rattle.std.proofs.lemmas.List.{length-replicate, get_or-replicate}
 use Rattle.std.specs.Prelude.{if◌then◌else◌}
-use Rattle.text.proofs.Orders.{le_or_lt}
 use Rattle.record.specs.Limits.{lamps_most}
 use Rattle.record.specs.Wanted.{Wanted}
 use Rattle.record.specs.declared.types.Device.{Device}
@@ -17,7 +15,7 @@ use Rattle.demands.specs.History.{burning}
 use Rattle.watch.specs.Marking.{FloorEvent, done_by, seconds_by}
 use Rattle.watch.specs.Watching.{Watching, watching_from, is_burning_in, gained_by, watched_on, burnt_by}
 use Rattle.watch.proofs.LineLeaves.{done_settings}
-use Rattle.stretches.specs.Stretches.{Stretch, stretch_if, lengths_of}
+use Rattle.stretches.specs.Stretches.{stretch_if, lengths_of}
 use Rattle.stretches.specs.LogTold.{calls_of, is_marked_in, told_of, burnt_of}
 use Rattle.watch.proofs.TellingsSpelt.{after_none, after_more}
 use Rattle.stretches.proofs.ToldSpelt.{told_none, told_more}
@@ -26,40 +24,16 @@ use Rattle.stretches.proofs.LogTells.{log_stretches_tell}
 
 -- a stretch's length, also where it is none
 lengths_of-stretch_if : (t : Bool) (f u : ℕ) → lengths_of (stretch_if (t && nat_lt f u) f u) ≡ (if t then u - f else 0)
-lengths_of-stretch_if false f u = refl
-lengths_of-stretch_if true f u =
-    ⊎_elim
-    (λ (h : u ≤ f). ap (λ (b : Bool). lengths_of (stretch_if b f u)) (le-ltb f u h) ∙ omega arith)
-    (λ (h : f < u). ap (λ (b : Bool). lengths_of (stretch_if b f u)) (lt-ltb f u h) ∙ omega arith) (le_or_lt u f)
+lengths_of-stretch_if t f u = grind arith
 
 module _ (k : ℕ) where
   gained_at : (d : Device) (n : ℕ) (burnt : List ℕ) → k < d.settings.lamp_count → k < length burnt
       → slice_index_or (gained_by d n burnt) k 0 ≡ slice_index_or burnt k 0 + (if is_marked_in d k then n else 0)
-  gained_at d n burnt counted inside =
-      where_at (λ (b : ℕ). b + n) (marks_in d.settings d.own) burnt 0 k inside
-      ∙ ap (λ (m : Bool). if m then slice_index_or burnt k 0 + n else slice_index_or burnt k 0)
-      (get_or-take d.settings.lamp_count d.own.enabled k false counted)
-      ∙ by (is_marked_in d k)
-    where
-      by : (m : Bool) → (if m then slice_index_or burnt k 0 + n else slice_index_or burnt k 0)
-          ≡ slice_index_or burnt k 0 + (if m then n else 0)
-      by true = refl
-      by false = omega arith
+  gained_at d n burnt counted inside = grind (arith, where_at, get_or-take)
 
   adds : (es : List FloorEvent) (s : Watching) → k < s.device.settings.lamp_count → k < length s.burnt
       → burnt_of k s es ≡ slice_index_or s.burnt k 0 + lengths_of (told_of k s es)
-  adds [] s counted inside =
-      ap (λ (t : Watching). slice_index_or (burnt_by t) k 0) (after_none s) ∙ by (is_burning_in s.device)
-      ∙ ap (λ (l : List Stretch). slice_index_or s.burnt k 0 + lengths_of l) (sym (told_none k s))
-    where
-      by : (b : Bool) → slice_index_or (if b then gained_by s.device (s.time - s.from) s.burnt else s.burnt) k 0
-          ≡ slice_index_or s.burnt k 0
-          + lengths_of (stretch_if (b && is_marked_in s.device k && nat_lt s.from s.time) s.from s.time)
-      by true =
-          gained_at s.device (s.time - s.from) s.burnt counted inside
-          ∙ ap (λ (n : ℕ). slice_index_or s.burnt k 0 + n)
-          (sym (lengths_of-stretch_if (is_marked_in s.device k) s.from s.time))
-      by false = omega arith
+  adds [] s counted inside = grind (arith, after_none, told_none, gained_at, lengths_of-stretch_if)
   adds (e ∷ es) s counted inside =
       let d = done_by s.device e in
       let t = watched_on s e in

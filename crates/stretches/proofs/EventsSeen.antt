@@ -26,7 +26,7 @@ use Rattle.ours.specs.Board.{ours}
 use Rattle.demands.specs.Calls.{Call, after, run}
 use Rattle.demands.specs.Calls.{opens as opens_at, receives as receivesAt, passes as passesBy, closes as closes_at}
 use Rattle.demands.specs.Calls.{enables}
-use Rattle.demands.specs.History.{Event, switched, a_second, mark_switched, Streams, seen, Stage, steady, towards}
+use Rattle.demands.specs.History.{Event, switched, a_second, mark_switched, Streams, seen, Stage, steady}
 use Rattle.demands.specs.History.{history, streams_after}
 use Rattle.demands.proofs.Agrees.{Then, agrees_none, power_of, Agrees}
 use Rattle.demands.proofs.HistoryTold.{noted, one_or_none}
@@ -42,10 +42,7 @@ pub data Seen (g : Stage) (n : ℕ) : List Event → Type 0 where
   mark : (lamp : ℕ) (to : Bool) → g ≡ steady false → n ≡ 0 → Seen g n (mark_switched lamp to ∷ [])
 
 is_off : (g : Stage) → power_of g ≡ off → g ≡ steady false
-is_off (steady true) e = absurd (omega arith)
-is_off (steady false) e = refl
-is_off (towards true n) e = absurd (omega arith)
-is_off (towards false n) e = absurd (omega arith)
+is_off g h = grind arith
 
 lent_long : length room_lent ≡ reply_room
 lent_long = length-replicate {A = ℕ} reply_room 0

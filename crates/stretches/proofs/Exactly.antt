@@ -12,28 +12,12 @@ lit_at lit f t ls i = if nat_lt i t then lit && nat_le f i else slice_index_or l
 
 is_in-append : (xs ys : List Stretch) (i : ℕ) → is_in (xs ++ ys) i ≡ (is_in xs i || is_in ys i)
 is_in-append [] ys i = refl
-is_in-append (s ∷ xs) ys i = ap (λ (b : Bool). nat_le s.from i && nat_lt i s.to || b) (is_in-append xs ys i)
-    ∙ split (nat_le s.from i && nat_lt i s.to) (is_in xs i) (is_in ys i)
-  where
-    split : (a b c : Bool) → (a || (b || c)) ≡ ((a || b) || c)
-    split true b c = refl
-    split false b c = refl
+is_in-append (s ∷ xs) ys i = grind (arith, is_in-append xs ys i)
 
 -- the stretch that has begun, if any, has the seconds before t
 is_in-stretch_if : (lit : Bool) (f t i : ℕ) →
     is_in (stretch_if lit f t) i ≡ (if nat_lt i t then lit && nat_le f i else false)
-is_in-stretch_if false f t i = by (nat_lt i t)
-  where
-    by : (b : Bool) → false ≡ (if b then false else false)
-    by true = refl
-    by false = refl
-is_in-stretch_if true f t i = by (nat_le f i) (nat_lt i t)
-  where
-    by : (a b : Bool) → (a && b || false) ≡ (if b then a else false)
-    by true true = refl
-    by true false = refl
-    by false true = refl
-    by false false = refl
+is_in-stretch_if lit f t i = grind arith
 
 data Side (i t : ℕ) : Type 0 where
   earlier : i < t → Side i t
@@ -44,12 +28,7 @@ side : (i t : ℕ) → Side i t
 side zero zero = now refl
 side zero (suc t) = earlier (omega arith)
 side (suc i) zero = later (omega arith)
-side (suc i) (suc t) = up (side i t)
-  where
-    up : Side i t → Side (suc i) (suc t)
-    up (earlier h) = earlier (omega arith)
-    up (now h) = now (ap suc h)
-    up (later h) = later (omega arith)
+side (suc i) (suc t) = grind (arith, side i t)
 
 shifted : (b : Bool) (ls : List Bool) (i t : ℕ) → t < i →
     slice_index_or (b ∷ ls) (i - t) false ≡ slice_index_or ls (i - suc t) false
@@ -96,7 +75,4 @@ is_in-stretches_from (false ∷ ls) lit f t i h =
     by (later e) = rw (le-ltb i (suc t) (omega arith), le-ltb i t (omega arith), shifted false ls i t e)
 
 pub exactly_lit : (ls : List Bool) (i : ℕ) → is_in (stretches_of ls) i ≡ slice_index_or ls i false
-exactly_lit ls i = is_in-stretches_from ls false 0 0 i (omega arith) ∙ rw (le-ltb i 0 (omega arith), same)
-  where
-    same : i - 0 ≡ i
-    same = omega arith
+exactly_lit ls i = grind (arith, is_in-stretches_from, le-ltb)

@@ -2,14 +2,12 @@
 --   joined lit f t ls    the stretches from the second t on, where the lamp is lit since f if `lit`
 --   Dim ls               the first of the seconds ls is not lit
 -- Assumes nothing.
-use Rattle.std.proofs.Common.{ℕ, zero, suc, ◌+◌, ◌≤◌, ◌<◌, ◌≡◌, refl, sym, ap, ◌∙◌, Bool, true, false, ◌&&◌, List, []}
-use Rattle.std.proofs.Common.{◌∷◌, ◌++◌, append-nil, ⊎_elim, add-zero, arith, slice_index_or, replicate, nat_le, nat_lt}
-use Rattle.std.proofs.Common.{◌==◌, lt-ltb, le-ltb}
+use Rattle.std.proofs.Common.{ℕ, zero, suc, ◌+◌, ◌≤◌, ◌≡◌, refl, sym, ap, Bool, true, false, ◌&&◌, List, []}
+use Rattle.std.proofs.Common.{◌∷◌, ◌++◌, add-zero, arith, slice_index_or, replicate, nat_lt}
+use Rattle.std.proofs.Common.{◌==◌}
 use Rattle.std.specs.Prelude.{if◌then◌else◌}
-use Rattle.text.proofs.Choices.{if_all}
-use Rattle.text.proofs.Orders.{le_or_lt}
 use Rattle.record.specs.Wanted.{Wanted}
-use Rattle.demands.specs.History.{Event, switched, a_second, mark_switched, Stage, steady, towards, next, marks_next}
+use Rattle.demands.specs.History.{Event, switched, a_second, mark_switched, Stage, towards, next, marks_next}
 use Rattle.demands.specs.History.{stage_is_burning, reached}
 use Rattle.stretches.specs.Stretches.{Stretch, stretch_if, stretches_from, is_lit_then, seconds_lit_from}
 
@@ -24,20 +22,12 @@ since_none (false ∷ ls) f g t = since_none ls f g (suc t)
 
 -- one second
 pub joined-cons : (lit : Bool) (f t : ℕ) (ls : List Bool) → f ≤ t → joined lit f t (lit ∷ ls) ≡ joined lit f (suc t) ls
-joined-cons false f t ls h = refl
-joined-cons true f t ls h =
-    ap (λ (g : ℕ). stretches_from true g (suc t) ls) (⊎_elim
-    (λ (k : t ≤ f). let same : t ≡ f = omega arith in ap (λ (b : Bool). if b then f else t) (le-ltb f t k) ∙ same)
-    (λ (k : f < t). ap (λ (b : Bool). if b then f else t) (lt-ltb f t k)) (le_or_lt t f))
-    ∙ ap (λ (b : Bool). stretches_from b f (suc t) ls) (sym (lt-ltb f (suc t) (omega arith)))
+joined-cons lit f t ls h = grind arith
 
 pub joined-append : (n : ℕ) (lit : Bool) (f t : ℕ) (ls : List Bool) → f ≤ t
     → joined lit f t (replicate n lit ++ ls) ≡ joined lit f (t + n) ls
 joined-append zero lit f t ls h = ap (λ (u : ℕ). joined lit f u ls) (sym (add-zero t))
-joined-append (suc n) lit f t ls h =
-    joined-cons lit f t (replicate n lit ++ ls) h
-    ∙ joined-append n lit f (suc t) ls (omega arith)
-    ∙ ap (λ (u : ℕ). joined lit f u ls) (omega arith)
+joined-append (suc n) lit f t ls h = grind (arith, joined-append n lit f (suc t) ls (omega arith))
 
 abbrev pub Dim : List Bool → Type 0
 Dim [] = Unit {0}
@@ -46,9 +36,7 @@ Dim (b ∷ ls) = b ≡ false
 -- a stretch that ends here
 pub ends_here : (lit : Bool) (f t : ℕ) (ls : List Bool) → Dim ls
     → stretches_from lit f t ls ≡ stretch_if lit f t ++ stretches_from false f t ls
-ends_here lit f t [] d = sym (append-nil (stretch_if lit f t))
-ends_here lit f t (true ∷ ls) d = cc
-ends_here lit f t (false ∷ ls) d = refl
+ends_here lit f t ls h = grind arith
 
 -- ---- the outsider's seconds
 
@@ -61,14 +49,12 @@ cooling_dim w ms k n (switched wanted ∷ es) = cooling_dim w ms k n es
 cooling_dim w ms k n (mark_switched lamp mark ∷ es) = cooling_dim w (marks_next ms (mark_switched lamp mark)) k n es
 
 pub stage_is_burning-next : (w : Wanted) (g : Stage) → stage_is_burning (next w g a_second) ≡ stage_is_burning g
-stage_is_burning-next w (steady on) = refl
-stage_is_burning-next w (towards on n) = if_all (λ (h : Stage). stage_is_burning h ≡ on) (nat_le n 1) refl refl
+stage_is_burning-next w g = grind arith
 
 pub stage_is_burning-reached : (n : ℕ) (w : Wanted) (g : Stage) →
     stage_is_burning (reached w g (replicate n a_second)) ≡ stage_is_burning g
 stage_is_burning-reached zero w g = refl
-stage_is_burning-reached (suc n) w g =
-    stage_is_burning-reached n w (next w g a_second) ∙ stage_is_burning-next w g
+stage_is_burning-reached (suc n) w g = grind (arith, stage_is_burning-reached n w (next w g a_second))
 
 pub lit_by : (ms : List Bool) (k : ℕ) (g h : Stage) → stage_is_burning g ≡ stage_is_burning h →
     is_lit_then g ms k ≡ is_lit_then h ms k
@@ -78,8 +64,4 @@ pub seconds_lit_from-append : (n : ℕ) (w : Wanted) (g : Stage) (ms : List Bool
     → seconds_lit_from w g ms k (replicate n a_second ++ es)
     ≡ replicate n (is_lit_then g ms k) ++ seconds_lit_from w (reached w g (replicate n a_second)) ms k es
 seconds_lit_from-append zero w g ms k es = refl
-seconds_lit_from-append (suc n) w g ms k es =
-    ap (λ (ls : List Bool). is_lit_then g ms k ∷ ls)
-    (seconds_lit_from-append n w (next w g a_second) ms k es
-    ∙ (λ i. replicate n (lit_by ms k (next w g a_second) g (stage_is_burning-next w g) i)
-    ++ seconds_lit_from w (reached w (next w g a_second) (replicate n a_second)) ms k es))
+seconds_lit_from-append (suc n) w g ms k es = grind (arith, seconds_lit_from-append n w (next w g a_second) ms k es)

@@ -31,8 +31,7 @@ lengths_lit ls = lengths_of-stretches_from ls false 0 0 (omega arith) ∙ omega 
 
 -- a second counts for one exactly if it is lit
 one_lit : (b : Bool) → ◌≡◌ {A = ℕ} (if (if b then 1 else 0) == 1 then 1 else 0) (if b then 1 else 0)
-one_lit true = refl
-one_lit false = refl
+one_lit b = grind arith
 
 pub lit_burns : (w : Wanted) (g : Stage) (ms : List Bool) (k : ℕ) (es : List Event)
     → count_set (seconds_lit_from w g ms k es) ≡ burning_from w g ms k es

@@ -1,21 +1,19 @@
 -- What a watched log tells of a lamp is its stretches of demand 3's history of the same log.
 -- Assumes nothing.
-use Rattle.std.proofs.Common.{ℕ, ◌+◌, ◌≤◌, ◌<◌, ◌≡◌, sym, ap, subst, ◌∙◌, Bool, true, false, not, ◌&&◌, List, [], ◌∷◌}
-use Rattle.std.proofs.Common.{◌++◌, arith, length, slice_index_or, nat_lt}
-use Rattle.std.specs.Prelude.{if◌then◌else◌}
+use Rattle.std.proofs.Common.{ℕ, ◌≤◌, ◌<◌, ◌≡◌, sym, ap, subst, ◌∙◌, Bool, true, not, ◌&&◌, List, [], ◌∷◌}
+use Rattle.std.proofs.Common.{◌++◌, arith, length, nat_lt}
 use Rattle.record.specs.Limits.{is_lit}
 use Rattle.record.specs.Legal.{is_legal}
 use Rattle.record.specs.Wanted.{Wanted}
 use Rattle.record.specs.declared.types.Device.{Device}
 use Rattle.record.proofs.Calls.{set_up_in_range}
 use Rattle.record.proofs.Started.{started_legal, set_up_started}
-use Rattle.stored.specs.Form.{form_of, marked_form_of, old_form_of}
 use Rattle.stored.proofs.Results.{accepted_legal}
 use Rattle.ours.specs.Board.{ours}
-use Rattle.demands.specs.History.{Event, Streams, seen}
+use Rattle.demands.specs.History.{Event, Streams}
 use Rattle.demands.specs.History.{history}
 use Rattle.demands.specs.History.{Stage, stage_is_burning, reached, marks_after}
-use Rattle.demands.specs.CountsSeconds.{Beginning, sets_up, loads, loads_marked, loads_old, start_marks, begun_by}
+use Rattle.demands.specs.CountsSeconds.{Beginning, start_marks, begun_by}
 use Rattle.demands.specs.CountsSeconds.{IsAccepted}
 use Rattle.demands.specs.CountsSeconds.{history_of}
 use Rattle.demands.proofs.Agrees.{Agrees, lit_shown, Then}
@@ -50,34 +48,18 @@ module _ (w : Wanted) (k : ℕ) (inside : k < length w.lamps) where
       ++ joined (is_lit_then (reached w g xs) (marks_after ms xs) k) t.from t.time
       (seconds_lit_from w (reached w g xs) (marks_after ms xs) k ys)
       ≡ joined (is_lit_then g ms k) s.from s.time (seconds_lit_from w g ms k (xs ++ ys))
-  event_told s e {g} {ms} xs ys before past sort le =
-      (λ i. let b = burning_known before i in
-      let c = burning_known past i in
-      let t = s.time + seconds_by e in
-      let from = if not b && c then t else s.from in
-      stretch_if (b && not c && past.marks k inside i && nat_lt from t) from t
-      ++ joined (is_lit_then (reached w g xs) (marks_after ms xs) k) from t
-      (seconds_lit_from w (reached w g xs) (marks_after ms xs) k ys))
-      ∙ by_seen w k g ms (seconds_by e) s.from s.time xs ys le sort
+  event_told s e {g} {ms} xs ys before past sort le = grind (arith, burning_known, joined, by_seen)
 
   from_before : (s : Watching) (e : FloorEvent) → s.from ≤ s.time
       → let t = watched_on s e in t.from ≤ t.time
-  from_before s e le =
-      by (not (is_burning_in s.device) && is_burning_in (done_by s.device e))
-    where
-      by : (b : Bool) → (if b then s.time + seconds_by e else s.from) ≤ s.time + seconds_by e
-      by true = omega arith
-      by false = omega arith
+  from_before s e le = grind arith
 
   tells : (es : List FloorEvent) (s : Watching) {g : Stage} {ms : List Bool} {n : ℕ → ℕ} {stream : Streams}
       → Agrees w g ms n stream s.device → is_legal s.device ≡ true → s.from ≤ s.time
       → told_of k s es
       ≡ joined (is_lit_then g ms k) s.from s.time
       (seconds_lit_from w g ms k (history ours s.device stream (calls_of s.device es)))
-  tells [] s {g} {ms} {n} {stream} a legal le =
-      told_none k s
-      ∙ ap (λ (b : Bool). stretch_if (b && nat_lt s.from s.time) s.from s.time)
-      ((λ i. burning_known a i && a.marks k inside i) ∙ sym (one_is (stage_is_burning g && slice_index_or ms k false)))
+  tells [] s {g} {ms} {n} {stream} a legal le = grind (arith, told_none, burning_known, one_is)
   tells (e ∷ es) s {g} {ms} {n} {stream} a legal le =
       let t = watched_on s e in
       let o = event_seen w g ms n stream s.device a legal e in
@@ -93,10 +75,7 @@ module _ (w : Wanted) (k : ℕ) (inside : k < length w.lamps) where
 -- ---- a log from its beginning
 
 pub is_legal-begun_by : (w : Wanted) (b : Beginning) → IsAccepted ours b w → is_legal (begun_by ours b w).device ≡ true
-is_legal-begun_by w sets_up h = ap is_legal (set_up_started w h) ∙ started_legal w (set_up_in_range w h)
-is_legal-begun_by w (loads ms) h = accepted_legal (form_of w ms) h.1
-is_legal-begun_by w (loads_marked ms) h = accepted_legal (marked_form_of w ms) h.1
-is_legal-begun_by w loads_old h = accepted_legal (old_form_of w) h.1
+is_legal-begun_by w b h = grind (arith, set_up_started, started_legal, set_up_in_range, accepted_legal)
 
 module _ (b : Beginning) (w : Wanted) (h : IsAccepted ours b w) (k : ℕ) (inside : k < length w.lamps)
     (es : List FloorEvent) where

@@ -11,10 +11,7 @@ sooner {m} h (and_then {s = s} a b c) = let first : m ≤ s.from = omega arith i
 mutual_apart : (ls : List Bool) (f t : ℕ)
     → ((n : ℕ) → n ≤ f → f < t → InOrder n (stretches_from true f t ls)) × InOrder t (stretches_from false f t ls)
 mutual_apart [] f t = ((λ n h k. and_then h k no_more), no_more)
-mutual_apart (true ∷ ls) f t = (
-  (λ n h k. (mutual_apart ls f (suc t)).0 n h (omega arith)),
-  (mutual_apart ls t (suc t)).0 t (omega arith) (omega arith),
-)
+mutual_apart (true ∷ ls) f t = grind (arith, mutual_apart ls f (suc t), mutual_apart ls t (suc t))
 mutual_apart (false ∷ ls) f t = (
   (λ n h k. and_then h k (mutual_apart ls f (suc t)).1),
   sooner (omega arith) (mutual_apart ls f (suc t)).1,

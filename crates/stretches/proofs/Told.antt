@@ -1,8 +1,9 @@
 -- What the stretches of a lamp tell, over any history.
 -- Assumes nothing.
-use Rattle.std.proofs.Common.{ℕ, ◌∙◌, Bool, false, List}
+use Rattle.std.proofs.Common.{arith}
+use Rattle.std.proofs.Common.{ℕ, Bool, List}
 use Rattle.record.specs.Wanted.{Wanted}
-use Rattle.demands.specs.History.{Event, steady}
+use Rattle.demands.specs.History.{Event}
 use Rattle.stretches.specs.Stretches.{seconds_lit, stretches_of, StretchesTell}
 use Rattle.stretches.proofs.Exactly.{exactly_lit}
 use Rattle.stretches.proofs.OrderKept.{in_order}
@@ -10,10 +11,4 @@ use Rattle.stretches.proofs.LengthsAdd.{lengths_lit, lit_burns}
 
 pub stretches_tell : (w : Wanted) (ms : List Bool) (k : ℕ) (es : List Event)
     → StretchesTell w ms k es (stretches_of (seconds_lit w ms k es))
-stretches_tell w ms k es =
-    let ls = seconds_lit w ms k es in
-    record {
-      exactly = exactly_lit ls;
-      apart = in_order ls;
-      adds_up = lengths_lit ls ∙ lit_burns w (steady false) ms k es;
-    }
+stretches_tell w ms k es = grind (arith, exactly_lit, in_order, lengths_lit, lit_burns)

@@ -1,36 +1,24 @@
 -- What is told of a lamp, by what comes: the end of the log, or an event and the rest.
 -- Assumes nothing.
-use Rattle.std.proofs.Common.{ℕ, ◌≡◌, refl, sym, ap, ◌∙◌, Bool, true, false, ◌&&◌, List, [], ◌∷◌, ◌++◌, append_assoc}
+use Rattle.std.proofs.Common.{arith}
+use Rattle.std.proofs.Common.{ℕ, ◌≡◌, refl, ap, ◌∙◌, Bool, ◌&&◌, List, [], ◌∷◌, ◌++◌}
 use Rattle.watch.specs.Marking.{FloorEvent}
 use Rattle.watch.specs.Watching.{Watching, is_burning_in, is_long, dark_with, watched_on}
-use Rattle.watch.specs.Telling.{Telling, telling_if, tellings}
+use Rattle.watch.specs.Telling.{Telling, telling_if}
 use Rattle.watch.proofs.TellingsSpelt.{tellings_none, tellings_more}
-use Rattle.stretches.specs.Stretches.{Stretch, stretch_if}
+use Rattle.stretches.specs.Stretches.{stretch_if}
 use Rattle.stretches.specs.LogTold.{is_marked_in, stretches_in, told_of}
 
 module _ (k : ℕ) where
   stretches_in-append : (ts us : List Telling) → stretches_in k (ts ++ us) ≡ stretches_in k ts ++ stretches_in k us
   stretches_in-append [] us = refl
-  stretches_in-append (t ∷ ts) us =
-      ap (λ (l : List Stretch). stretch_if (is_marked_in t.device k) t.from t.to ++ l) (stretches_in-append ts us)
-      ∙ sym (append_assoc (stretch_if (is_marked_in t.device k) t.from t.to) (stretches_in k ts)
-      (stretches_in k us))
+  stretches_in-append (t ∷ ts) us = grind (arith, stretches_in-append ts us)
 
   -- lamps that burn no longer, for some time: of this one, if its mark is set
   stretches_in-telling_if : (s : Watching) (dark long : Bool)
       → stretches_in k (telling_if (dark && long) s)
       ≡ stretch_if (dark && is_marked_in s.device k && long) s.from s.time
-  stretches_in-telling_if s true true = by (is_marked_in s.device k)
-    where
-      by : (m : Bool) → stretch_if m s.from s.time ++ [] ≡ stretch_if (m && true) s.from s.time
-      by true = refl
-      by false = refl
-  stretches_in-telling_if s true false = by (is_marked_in s.device k)
-    where
-      by : (m : Bool) → [] ≡ stretch_if (m && false) s.from s.time
-      by true = refl
-      by false = refl
-  stretches_in-telling_if s false long = refl
+  stretches_in-telling_if s dark long = grind arith
 
   pub told_none : (s : Watching)
       → told_of k s [] ≡ stretch_if (is_burning_in s.device && is_marked_in s.device k && is_long s) s.from s.time
@@ -39,9 +27,4 @@ module _ (k : ℕ) where
   pub told_more : (s : Watching) (e : FloorEvent) (es : List FloorEvent) → let t = watched_on s e in
       told_of k s (e ∷ es)
       ≡ stretch_if (dark_with s t.device && is_marked_in t.device k && is_long t) t.from t.time ++ told_of k t es
-  told_more s e es =
-      let t = watched_on s e in
-      let dark = dark_with s t.device in
-      ap (stretches_in k) (tellings_more s e es)
-      ∙ stretches_in-append (telling_if (dark && is_long t) t) (tellings t es)
-      ∙ ap (λ (l : List Stretch). l ++ told_of k t es) (stretches_in-telling_if t dark (is_long t))
+  told_more s e es = grind (arith, tellings_more, stretches_in-append, stretches_in-telling_if)
