@@ -1,9 +1,8 @@
 -- The panel's calls, case by case: what holds of a refusal and of what is done holds of the call, and the equation of
 -- what is done.
 -- Assumes nothing.
-use Rattle.std.proofs.Common.{ℕ, ◌≤◌, ◌<◌, ◌≡◌, refl, true, false, List, arith, leb-false, ltb-false}
+use Rattle.std.proofs.Common.{ℕ, ◌≤◌, ◌<◌, ◌≡◌, true, false, List, arith, leb-false, is_some}
 use Rattle.std.proofs.lemmas.Bool.{not-false}
-use Rattle.std.specs.Prelude.{is_some}
 use Rattle.text.specs.Rows.{by_rows}
 use Rattle.text.proofs.ByRows.{by_rows_lem}
 use Rattle.words.specs.Texts.{is_password}
@@ -14,7 +13,7 @@ use Rattle.panel.specs.Entries.{fresh_entry}
 use Rattle.panel.specs.Stepping.{heard_line, lost_entry, is_unready}
 use Rattle.panel.specs.LegalPanels.{panel_most, is_panel}
 use Rattle.panel.specs.PanelCalls.{PanelAs, panel_kept, panel_made, entry_at, with_entry, grown_by}
-use Rattle.panel.specs.PanelCalls.{commanding_rows, projector_rows, added_to, sent_at, commanded, stepped_at, lost_at}
+use Rattle.panel.specs.PanelCalls.{projector_rows, added_to, sent_at, commanded, stepped_at, lost_at}
 use Rattle.panel.specs.declared.types.Panel.{Panel}
 
 -- a refusal keeps the panel; its number is not 0
@@ -44,15 +43,7 @@ module _ (p : Panel) (i : ℕ) (k : Coded) (room : ℕ) where
   pub commanded_by : (P : PanelAs → Type 0) → Refusals p P → (Commands → P (sent_at p i k room))
       → P (commanded p i k room)
   unfolding commanded
-  commanded_by P refused done =
-      by_rows_lem (panel_kept p) _ P refused (commanding_rows p i k room) refl
-      (λ none. done (record {
-        legal = not-false _ none.0;
-        enough = ltb-false room command_room none.1.0;
-        there = leb-false p.count i none.1.1.0;
-        named = not-false _ none.1.1.1.0;
-        ready = none.1.1.1.1.0;
-      }))
+  commanded_by P refused done = grind arith
 
   pub commanded_done : Commands → commanded p i k room ≡ sent_at p i k room
   unfolding commanded

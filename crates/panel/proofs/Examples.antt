@@ -1,31 +1,27 @@
 -- Lines that the rules leave to be read (docs/DECISIONS.md), each a stray: the ERRA line before a greeting, the
 -- ERRA line and a second greeting with no command under way, and a second greeting with one.
 -- Assumes nothing.
-use Rattle.std.proofs.Common.{ℕ, ◌-◌, ◌≡◌, refl, ap, Bool, true, false, ◌&&◌, List, length, nat_le, ◌==◌}
-use Rattle.text.specs.Words.{◌is◌}
+use Rattle.std.proofs.Common.{arith, ℕ, ◌≡◌, refl, ap, Bool, false, ◌&&◌, List}
 use Rattle.text.specs.Scans.{same_by, itself}
 use Rattle.pjlink.specs.Computing.{computing as pjlink}
-use Rattle.words.specs.Bytes.{◌at◌, no_cr}
-use Rattle.pjlink.specs.Commands.{command_class, class_digit}
-use Rattle.pjlink.specs.Forms.{erra_line, greeting_open, greeting_secured, reply_most, is_reply_form, reply_parameter}
+use Rattle.pjlink.specs.Commands.{command_class}
+use Rattle.pjlink.specs.Forms.{erra_line, greeting_open, greeting_secured, is_reply_form}
 use Rattle.pjlink.specs.declared.command.Command.{Command}
 use Rattle.controller.specs.Reading.{ReadAs, reading_outcome_number}
 use Rattle.controller.proofs.Cases.{reply_unformed, greeting_refused}
 use Rattle.panel.specs.Entries.{ungreeted}
 use Rattle.panel.specs.Stepping.{strayed, heard_line}
-use Rattle.panel.specs.StepTable.{is_greeting, IsUnderWay, ungreeted_malformed, malformed}
+use Rattle.panel.specs.StepTable.{IsUnderWay, malformed}
 use Rattle.panel.specs.declared.types.Entry.{Entry}
 use Rattle.panel.proofs.StepsByTable.{stray_steps, step_late}
 
 -- a line that is not headed is no reply, whatever its length, its class and its end
 unheaded : (long class ends plain : Bool) → (long && false && class && ends && plain) ≡ false
-unheaded true class ends plain = refl
-unheaded false class ends plain = refl
+unheaded long class ends plain = grind arith
 
 module _ (e : Entry) where
   pub erra_before_greeting : e.greeting ≡ ungreeted → heard_line e erra_line ≡ strayed e
-  erra_before_greeting g =
-      stray_steps e erra_line (ungreeted_malformed g (ap is_greeting (greeting_refused erra_line refl refl)))
+  erra_before_greeting g = grind (arith, stray_steps, greeting_refused)
 
   module _ (greeted : e.greeting ≡ ungreeted → ⊥) (rests : e.under_way ≡ false) where
     pub erra_late : heard_line e erra_line ≡ strayed e
@@ -49,8 +45,4 @@ module _ (e : Entry) where
     -- whatever its random number
     pub secured_greeting_malformed : (digits : List ℕ) → heard_line e (greeting_secured digits) ≡ strayed e
     unfolding pjlink
-    secured_greeting_malformed digits =
-        let l = greeting_secured digits in
-        unformed_strays l refl
-        (unheaded (nat_le 8 (length l) && nat_le (length l) reply_most) ((l at 1) == class_digit (command_class c))
-        (l at (length l - 1) is "\r") (no_cr (reply_parameter l)))
+    secured_greeting_malformed digits = grind (arith, unformed_strays)

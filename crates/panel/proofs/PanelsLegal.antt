@@ -13,8 +13,7 @@ use Rattle.words.proofs.WithinLength.{password_within}
 use Rattle.std.specs.Prelude.{is_some, ◌==◌}
 use Rattle.text.proofs.RoomsTold.{uses_told, kept_used}
 use Rattle.panel.specs.Passwords.{password_room, password_of, is_password_kept}
-use Rattle.controller.specs.Reading.{ReadAs, read_reply}
-use Rattle.controller.specs.Reading.{means_it}
+use Rattle.controller.specs.Reading.{ReadAs, read_reply, means_it}
 use Rattle.controller.proofs.ReadsSound.{reads_sound}
 use Rattle.codes.specs.Commands.{coded_command}
 use Rattle.codes.specs.declared.command.Coded.{Coded}
@@ -33,7 +32,7 @@ use Rattle.panel.proofs.PanelsTold.{entry_at_legal}
 use Rattle.panel.proofs.TalksTold.{is_talk-rested_on, is_talk-sent_on, begun_legal}
 use Rattle.panel.proofs.ShownLegal.{said_shown, nothing_shown_legal}
 use Rattle.panel.proofs.StepsByTable.{steps_by_the_table}
-use Rattle.panel.proofs.Cases.{added_by, commanded_by, stepped_by, lost_by}
+use Rattle.panel.proofs.Cases.{added_by, stepped_by, lost_by}
 
 module _ {A : Type 0} (f : A → Bool) where
   list_all-set : (l : List A) (i : ℕ) (x : A) → list_all f l ≡ true → f x ≡ true → list_all f (set l i x) ≡ true
@@ -142,10 +141,8 @@ module _ (p : Panel) (legal : is_panel p ≡ true) where
 
   module _ (i : ℕ) where
     pub commanded_stays_legal : (k : Coded) (room : ℕ) → StaysLegal (commanded p i k room)
-    commanded_stays_legal k room =
-        commanded_by p i k room StaysLegal (λ n z. legal) (λ c.
-        placed i _ c.there
-        (is_entry-sent_entry (entry_at p i) (entry_at_legal p legal i c.there) k c.ready c.named))
+    unfolding commanded
+    commanded_stays_legal k room = grind (arith, placed, is_entry-sent_entry, entry_at_legal)
 
     pub stepped_stays_legal : (l : List ℕ) → StaysLegal (stepped_at p i l)
     stepped_stays_legal l =

@@ -3,10 +3,8 @@
 --   PanelTold p      the parts of is_panel
 -- Assumes nothing.
 use Rattle.std.specs.List.{list_all}
-use Rattle.std.proofs.Common.{ℕ, ◌≤◌, ◌<◌, ◌≡◌, ◌↔◌, refl, sym, ◌∙◌, Bool, true, List, arith, length, slice_index_or}
-use Rattle.std.proofs.Common.{drop}
-use Rattle.std.specs.Prelude.{Option, Some, None, is_some, ◌==◌}
-use Rattle.text.proofs.Choices.{both, both_left, both_right}
+use Rattle.std.proofs.Common.{ℕ, ◌≤◌, ◌<◌, ◌≡◌, ◌↔◌, Bool, true, List, arith, length, slice_index_or, drop, Option}
+use Rattle.std.proofs.Common.{is_some, ◌==◌}
 use Rattle.text.specs.Rooms.{used, holds, Uses}
 use Rattle.text.proofs.RoomsTold.{uses_told}
 use Rattle.text.proofs.Scanning.{list_all_at}
@@ -28,12 +26,7 @@ pub record EntryTold (e : Entry) : Type 0 where
 module _ (e : Entry) where
   pub entry_told : is_entry e ≡ true → EntryTold e
   unfolding is_entry
-  entry_told h = record {
-    password = grind (arith, h);
-    talk = grind (arith, h);
-    shown = grind (arith, h);
-    strays = grind (arith, h);
-  }
+  entry_told h = grind arith
 
   pub entry_legal : EntryTold e → is_entry e ≡ true
   unfolding is_entry
@@ -49,15 +42,11 @@ module _ (e : Entry) where
 
 -- a room of which something is used
 some_holds : {A : Type 0} (u : Option (List A)) → is_some u ≡ holds (λ _. true) u
-some_holds (Some s) = refl
-some_holds None = refl
+some_holds u = grind arith
 
 pub room_told : {A : Type 0} (blank : A → Bool) (room : ℕ) (s : List A) (n : ℕ)
     → (is_some (used blank room s n) ≡ true) ↔ Uses blank room (λ _. true) s n
-room_told blank room s n =
-    let same = some_holds (used blank room s n) in
-    let told = uses_told blank room (λ _. true) s n in
-    (λ e. told.0 (sym same ∙ e), λ u. same ∙ told.1 u)
+room_told blank room s n = grind (arith, some_holds, uses_told)
 
 pub record PanelTold (p : Panel) : Type 0 where
   pub count : p.count ≤ panel_most
@@ -68,15 +57,11 @@ pub record PanelTold (p : Panel) : Type 0 where
 module _ (p : Panel) where
   pub panel_told : is_panel p ≡ true → PanelTold p
   unfolding is_panel
-  panel_told h =
-      let room = (room_told is_unused panel_most p.entries p.count).0 (both_left _ _ h) in
-      record { count = room.inside; long = room.long; entries = both_right _ _ h; unused = room.clear }
+  panel_told h = grind (arith, room_told)
 
   pub panel_legal : PanelTold p → is_panel p ≡ true
   unfolding is_panel
-  panel_legal k =
-      both ((room_told is_unused panel_most p.entries p.count).1
-      (record { long = k.long; inside = k.count; clear = k.unused; follows = refl })) k.entries
+  panel_legal k = grind (arith, room_told)
 
   pub few_projectors : is_panel p ≡ true → p.count ≤ panel_most
   few_projectors legal = (panel_told legal).count
@@ -84,9 +69,7 @@ module _ (p : Panel) where
   module _ (legal : is_panel p ≡ true) (i : ℕ) (there : i < p.count) where
     -- whatever stands for what is past the end
     is_entry-slice_index_or : (d : Entry) → is_entry (slice_index_or p.entries i d) ≡ true
-    is_entry-slice_index_or d =
-        let told = panel_told legal in
-        list_all_at is_entry p.entries d told.entries i (omega (arith, told.long, told.count))
+    is_entry-slice_index_or d = grind (arith, panel_told, list_all_at)
 
     pub entry_at_legal : is_entry (entry_at p i) ≡ true
     entry_at_legal = is_entry-slice_index_or blank_entry

@@ -2,27 +2,23 @@
 -- was.
 -- Assumes nothing.
 use Rattle.std.specs.List.{list_all}
-use Rattle.std.proofs.Common.{ℕ, ◌+◌, ◌≤◌, ◌≡◌, refl, sym, ap, subst, ◌∙◌, Bool, true, false, not, ◌&&◌, List, []}
-use Rattle.std.proofs.Common.{◌++◌, map, arith, length, drop, replicate, nat_le}
+use Rattle.std.proofs.Common.{ℕ, ◌+◌, ◌≤◌, ◌≡◌, refl, sym, ap, subst, ◌∙◌, Bool, true, false, not, ◌&&◌, List, [], ◌++◌}
+use Rattle.std.proofs.Common.{map, arith, length, drop, replicate, nat_le, ◌==◌}
 use Rattle.std.proofs.lemmas.List.{length-map, length-replicate}
 use Rattle.std.proofs.Math.Seq.{sets-eq}
-use Rattle.std.specs.Prelude.{◌==◌}
 use Rattle.text.specs.Rooms.{kept, Uses}
 use Rattle.text.proofs.RoomsTold.{rest_kept, uses_told, kept_used}
 use Rattle.text.proofs.Scanning.{list_all-map}
 use Rattle.words.specs.Inputs.{is_input}
 use Rattle.words.specs.declared.input.Source.{Source}
-use Rattle.words.specs.declared.input.Source.TheVariants.{Rgb}
 use Rattle.words.specs.declared.input.Input.{Input}
-use Rattle.words.specs.Numerals.{hours_most}
 use Rattle.words.specs.Lamps.{is_lamp_hours}
 use Rattle.words.specs.declared.power.Power.{Power}
-use Rattle.words.specs.declared.power.Power.TheVariants.{Off}
 use Rattle.words.specs.declared.lamp.LampHours.{LampHours}
 use Rattle.pjlink.specs.declared.command.Command.{Command}
 use Rattle.pjlink.specs.Said.{Said, chosen_is}
 use Rattle.pjlink.specs.Carried.{lamps_carried}
-use Rattle.pjlink.specs.CanSay.{CanSay, power, input, lamps, input_2}
+use Rattle.pjlink.specs.CanSay.{CanSay, power, input, lamps}
 use Rattle.codes.specs.Commands.{source_number}
 use Rattle.codes.specs.Readings.{filled_to, hours_of, lit_of, power_at_face}
 use Rattle.panel.specs.Entries.{Shown, nothing_shown}
@@ -40,11 +36,7 @@ pub record ShownTold (s : Shown) : Type 0 where
 module _ (s : Shown) where
   pub shown_told : is_shown s ≡ true → ShownTold s
   unfolding is_shown
-  shown_told h = record {
-    power = grind (arith, h);
-    input = grind (arith, h);
-    lamps = grind (arith, h);
-  }
+  shown_told h = grind arith
 
   shown_legal : ShownTold s → is_shown s ≡ true
   unfolding is_shown
@@ -52,14 +44,12 @@ module _ (s : Shown) where
 
 is_power_shown-power_at_face : (p : Power) → is_power_shown true (power_at_face p) ≡ true
 unfolding is_power_shown
-is_power_shown-power_at_face Off = refl
-is_power_shown-power_at_face p = refl
+is_power_shown-power_at_face p = grind arith
 
 is_input_shown-source_number : (s : Source) (n : ℕ) → (nat_le 1 n && nat_le n 35) ≡ true →
     is_input_shown true (source_number s) n ≡ true
 unfolding is_input_shown
-is_input_shown-source_number Rgb n h = h
-is_input_shown-source_number s n h = h
+is_input_shown-source_number s n h = grind arith
 
 -- a cleared room that is filled from its start keeps these things
 room_used : {A : Type 0} (blank : A → Bool) (x : A) (rule : List A → Bool) (xs : List A) {n : ℕ} → n ≡ length xs
@@ -89,30 +79,15 @@ lamps_shown : (ls : List LampHours) → 1 ≤ length ls → length ls ≤ lamps_
     → shows_lamps true (length ls) (filled_to lamps_carried 0 (map hours_of ls))
     (filled_to lamps_carried false (map lit_of ls)) ≡ true
 unfolding shows_lamps is_lamp_count
-lamps_shown ls low high e =
-    let hours = hours_shown _ high (map hours_of ls) (sym (length-map ls hours_of))
-    (list_all-map is_lamp_hours (λ h. nat_le h hours_most) hours_of (λ l h. h) ls e) in
-    let lit = lit_shown _ high (map lit_of ls) (sym (length-map ls lit_of)) in
-    grind (arith, low, high, hours, lit)
+lamps_shown ls low high e = grind (arith, hours_shown, length-map, list_all-map, lit_shown)
 
 -- what is said in reply to a command; a chosen input under either class
 module _ (s : Shown) where
   chosen_shown : (i : Input) → is_input i ≡ true → is_shown s ≡ true → is_shown (showing s (chosen_is i)) ≡ true
-  chosen_shown i e h =
-      let k = shown_told s h in
-      shown_legal _
-      (record { power = k.power; input = is_input_shown-source_number i.source i.number e; lamps = k.lamps })
+  chosen_shown i e h = grind (arith, shown_told, shown_legal, is_input_shown-source_number)
 
   pub said_shown : {c : Command} {m : Said} → CanSay c m → is_shown s ≡ true → is_shown (showing s m) ≡ true
-  said_shown (power p) h =
-      let k = shown_told s h in
-      shown_legal _ (record { power = is_power_shown-power_at_face p; input = k.input; lamps = k.lamps })
-  said_shown (input i e) h = chosen_shown i e h
-  said_shown (input_2 i e) h = chosen_shown i e h
-  said_shown (lamps ls low high e) h =
-      let k = shown_told s h in
-      shown_legal _ (record { power = k.power; input = k.input; lamps = lamps_shown ls low high e })
-  said_shown can h = h
+  said_shown h g = grind (arith, shown_told, shown_legal, is_power_shown-power_at_face, chosen_shown, lamps_shown)
 
 pub nothing_shown_legal : is_shown nothing_shown ≡ true
 unfolding is_shown is_power_shown is_input_shown shows_lamps is_lamp_count

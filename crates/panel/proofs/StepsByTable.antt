@@ -8,11 +8,10 @@ use Rattle.text.proofs.Choices.{if_yes, if_no, if_by}
 use Rattle.pjlink.specs.declared.command.Command.{Command}
 use Rattle.pjlink.specs.Said.{Said}
 use Rattle.controller.specs.Greetings.{read_greeting}
-use Rattle.controller.specs.Reading.{ReadAs, read_reply, reading_outcome_number}
+use Rattle.controller.specs.Reading.{ReadAs, read_reply, reading_outcome_number, Outcome, means_it, erra_said}
+use Rattle.controller.specs.Reading.{not_a_line, other_command, disallowed}
 use Rattle.controller.specs.declared.greeting.Greeting.{Greeting}
 use Rattle.controller.specs.declared.greeting.Greeting.TheVariants.{Open, Secured}
-use Rattle.controller.specs.Reading.{Outcome}
-use Rattle.controller.specs.Reading.{means_it, erra_said, not_a_line, other_command, disallowed}
 use Rattle.controller.proofs.Refusals.{erra_read}
 use Rattle.controller.proofs.ReadsSound.{erra_exactly}
 use Rattle.codes.specs.Commands.{coded_command}
@@ -48,31 +47,18 @@ module _ (e : Entry) (l : List ℕ) where
 
   -- each row is the step
   not_greeting : (g : Option Greeting) → is_greeting g ≡ false → greeted_as e g ≡ strayed e
-  not_greeting (Some Open) n = cc
-  not_greeting (Some (Secured r)) n = cc
-  not_greeting g n = refl
+  not_greeting g h = grind arith
 
   numbered : (r : ReadAs) {n : ℕ} → (n ≡ 0 → ⊥) → reading_outcome_number r.outcome ≡ n → heard_by e r ≡ strayed e
-  numbered r {n} some h = by r.outcome r.said h
-    where
-      by : (o : Outcome) (m : Said) → reading_outcome_number o ≡ n → heard_as e o m ≡ strayed e
-      by means_it m h = absurd (some (sym h))
-      by erra_said m h = absurd (some (sym h))
-      by o m h = refl
+  numbered r {n} some h = grind arith
 
   pub stray_steps : IsStray e l → heard_line e l ≡ strayed e
-  stray_steps (ungreeted_malformed g n) = step_greets g ∙ not_greeting (read_greeting l) n
-  stray_steps (late g w) = step_late g w
-  stray_steps (malformed c u n) = step_replied c u ∙ numbered (read_reply c l) (λ z. omega arith) n
-  stray_steps (foreign c u n) = step_replied c u ∙ numbered (read_reply c l) (λ z. omega arith) n
-  stray_steps (not_allowed c u n) = step_replied c u ∙ numbered (read_reply c l) (λ z. omega arith) n
+  unfolding heard_line
+  stray_steps h = grind (arith, step_greets, not_greeting, step_late, step_replied, numbered)
 
   pub row_steps : {f : Entry} → StepTo e l f → heard_line e l ≡ f
-  row_steps (greets_open g r) = step_greets g ∙ ap (greeted_as e) r
-  row_steps (greets_secured random g r) = step_greets g ∙ ap (greeted_as e) r
-  row_steps (strays s) = stray_steps s
-  row_steps (answers c m u r) = step_replied c u ∙ ap (heard_by e) r
-  row_steps (refuses c u r) = step_replied c u ∙ ap (heard_by e) (ap (read_reply c) r ∙ erra_read c)
+  unfolding heard_line
+  row_steps h = grind (arith, step_greets, stray_steps, step_replied, erra_read)
 
   pub one_step : {f g : Entry} → StepTo e l f → StepTo e l g → f ≡ g
   one_step p q = sym (row_steps p) ∙ row_steps q

@@ -1,15 +1,13 @@
 -- What a legal talk tells, and how one is shown.
 --   TalkTold t      the parts of is_talk
 -- Assumes nothing.
-use Rattle.std.proofs.Common.{◌≡◌, refl, true, false, not, ◌&&◌, ◌||◌, arith, nat_le, ◌==◌}
-use Rattle.std.specs.Prelude.{is_some}
+use Rattle.std.proofs.Common.{◌≡◌, true, false, not, ◌&&◌, ◌||◌, arith, nat_le, ◌==◌, is_some}
 use Rattle.codes.specs.Commands.{coded_command}
 use Rattle.codes.specs.declared.command.Coded.{Coded}
 use Rattle.panel.specs.Entries.{Talk, talk_of, ungreeted, greeted_secured, is_secured_talk, sent_on, rested_on}
 use Rattle.panel.specs.Awaited.{talk_begun}
 use Rattle.panel.specs.LegalPanels.{is_command_kept, is_talk, is_entry}
 use Rattle.panel.specs.declared.talk.Greeted.{Greeted}
-use Rattle.panel.specs.declared.talk.Greeted.TheVariants.{Secured}
 use Rattle.panel.specs.declared.types.Entry.{Entry}
 use Rattle.panel.proofs.PanelsTold.{entry_told}
 
@@ -21,11 +19,7 @@ pub record TalkTold (t : Talk) : Type 0 where
 module _ (t : Talk) where
   pub talk_told : is_talk t ≡ true → TalkTold t
   unfolding is_talk
-  talk_told h = record {
-    greeting = grind (arith, h);
-    secrets = grind (arith, h);
-    command = grind (arith, h);
-  }
+  talk_told h = grind arith
 
   -- ending a command, and sending one
   pub is_talk-rested_on : is_talk t ≡ true → is_talk (rested_on t) ≡ true
@@ -35,14 +29,11 @@ module _ (t : Talk) where
   pub is_talk-sent_on : is_talk t ≡ true → (k : Coded) → (t.greeting == ungreeted) ≡ false
       → is_some (coded_command k) ≡ true → is_talk (sent_on t k) ≡ true
   unfolding is_talk is_command_kept
-  is_talk-sent_on h k greeted named =
-      let told = talk_told h in
-      grind (arith, told.greeting, told.secrets, greeted, named)
+  is_talk-sent_on h k greeted named = grind arith
 
 pub begun_legal : (g : Greeted) → is_talk (talk_begun g) ≡ true
 unfolding is_talk is_command_kept
-begun_legal (Secured random) = refl
-begun_legal g = refl
+begun_legal g = grind arith
 
 -- what is under way in a legal entry is a command
 pub is_some-coded_command : (e : Entry) → is_entry e ≡ true → e.under_way ≡ true

@@ -2,12 +2,11 @@
 --   NoneKept e      nothing but zero is kept in e, part by part
 -- Assumes nothing.
 use Rattle.std.specs.List.{list_all}
-use Rattle.std.proofs.Common.{ℕ, ◌<◌, ◌≤◌, ◌+◌, ◌-◌, ◌≡◌, refl, sym, ap, ◌∙◌, Bool, true, false, not, List, []}
-use Rattle.std.proofs.Common.{◌∷◌, arith, length, slice_index_or, drop, replicate, length-drop, get_or-drop, eqb-true}
+use Rattle.std.proofs.Common.{ℕ, ◌<◌, ◌≤◌, ◌+◌, ◌-◌, ◌≡◌, refl, sym, ap, ◌∙◌, Bool, true, false, not, List, [], ◌∷◌}
+use Rattle.std.proofs.Common.{arith, length, slice_index_or, drop, replicate, length-drop, get_or-drop, eqb-true, ◌==◌}
 use Rattle.std.proofs.lemmas.Bool.{not-true}
-use Rattle.std.specs.Prelude.{◌==◌}
 use Rattle.text.proofs.RoomsTold.{uses_told}
-use Rattle.text.proofs.Choices.{both_left, both_right}
+use Rattle.text.proofs.Choices.{both_right}
 use Rattle.text.proofs.Scanning.{list_all_at}
 use Rattle.pjlink.specs.Carried.{lamps_carried}
 use Rattle.panel.specs.Entries.{talk_of, shown_of, ungreeted, blank_entry}
@@ -24,10 +23,7 @@ use Rattle.panel.proofs.ShownLegal.{shown_told}
 module _ {A : Type 0} (blank : A → Bool) (x : A) (only : (y : A) → blank y ≡ true → y ≡ x) where
   all_blank : (l : List A) → list_all blank l ≡ true → l ≡ replicate (length l) x
   all_blank [] h = refl
-  all_blank (y ∷ l) h =
-      let first = only y (both_left (blank y) (list_all blank l) h) in
-      let rest = all_blank l (both_right (blank y) (list_all blank l) h) in
-      (λ i. first i ∷ rest i)
+  all_blank (y ∷ l) h = grind (arith, all_blank l (both_right (blank y) (list_all blank l) h))
 
   unused_room : {room : ℕ} (s : List A) {n : ℕ} → length s ≡ room → list_all blank (drop n s) ≡ true → n ≡ 0
       → s ≡ replicate room x

@@ -52,7 +52,7 @@ impl Panel {
 
     /// A projector more, numbered by how many there were. Refused: `NotLegal`, then `OutOfRange` for a password that is
     /// not 0 to 32 letters and digits and for a ninth projector.
-    #[tactic(auto, unfolding(crate::specs::PanelCalls::added_to))]
+    #[tactic(auto, unfolding(crate::specs::PanelCalls::added_to), using(words::proofs::TextsTold::password_long))]
     pub fn add(&mut self, password: &[u8]) -> Result<(), Refusal>
         ensures number { panel_outcome_number result ≡ (added_to self.old password.now).number }
         ensures panel { self.new ≡ (added_to self.old password.now).panel }

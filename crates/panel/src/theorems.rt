@@ -95,6 +95,7 @@ pub fn a_panel_grows_by_one()
 {}
 
 /// Two results that meet the promise of a call are equal: what it says, the panel and the lent memory.
+#[tactic(auto, using(text::proofs::OneResult::one_result))]
 pub fn one_result()
     ensures added { (p : Panel) (password : List ℕ) (r s : ℕ) (x y : Panel)
         → let a = added_to p password in
