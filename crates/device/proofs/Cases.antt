@@ -1,12 +1,12 @@
 -- The calls, case by case: one law a call, and the equation of what it does.
 -- Assumes nothing.
+use Rattle.std.proofs.Common.{arith}
 use Rattle.std.specs.List.{list_all}
-use Rattle.std.proofs.Common.{ℕ, ◌≤◌, ◌<◌, ◌≡◌, refl, ap, Bool, true, false, not, List, [], ◌∷◌, ltb-false, le-ltb}
-use Rattle.std.proofs.Common.{leb-false}
-use Rattle.std.proofs.lemmas.Bool.{lt-leb, eqb-false, not-true, not-false}
+use Rattle.std.proofs.Common.{ℕ, ◌≤◌, ◌<◌, ◌≡◌, refl, ap, Bool, true, false, not, List, [], ◌∷◌, le-ltb}
+use Rattle.std.proofs.lemmas.Bool.{lt-leb, eqb-false, not-true}
 use Rattle.std.specs.Prelude.{if◌then◌else◌}
 use Rattle.text.specs.Rows.{Row, by_rows, NoneOf, is_numbered}
-use Rattle.text.proofs.ByRows.{by_rows_lem, rows_done}
+use Rattle.text.proofs.ByRows.{rows_done}
 use Rattle.text.proofs.Choices.{if_yes, if_no, both_left, both_right}
 use Rattle.digest.specs.Hex.{hex_digits}
 use Rattle.pjlink.specs.Forms.{greeting_open, greeting_secured}
@@ -18,8 +18,8 @@ use Rattle.record.specs.declared.types.Settings.{Settings}
 use Rattle.record.specs.declared.types.Connection.{Connection}
 use Rattle.record.specs.declared.types.Device.{Device}
 use Rattle.device.specs.Receiving.{Taken, begun_in, taken_in}
-use Rattle.device.specs.Calls.{Result, refused_by, made, reply_room, accepted_taken, receiving_rows, opening_rows}
-use Rattle.device.specs.Calls.{closing_rows, received, has_password, greeting, greeted, accepted_opening, opened_by}
+use Rattle.device.specs.Calls.{Result, refused_by, made, reply_room, accepted_taken, opening_rows}
+use Rattle.device.specs.Calls.{received, has_password, greeting, greeted, accepted_opening, opened_by}
 use Rattle.device.specs.Calls.{place_taken, closed_by}
 
 abbrev pub takes : Device → ℕ → List ℕ → Taken
@@ -32,17 +32,12 @@ module _ (d : Device) (p : ℕ) (bs : List ℕ) (room : ℕ) where
       → P (accepted_taken d p (takes d p bs)))
       → P (received d p bs room)
   unfolding received
-  received_by P refused taken =
-      by_rows_lem (λ n. refused_by n d) _ P refused (receiving_rows d p room) refl
-      (λ none. taken (not-false (is_legal d) none.0) (ltb-false room reply_room none.1.0)
-      (leb-false places_count p none.1.1.0) none.1.1.1.0)
+  received_by P refused taken = grind arith
 
   pub received_taken : is_legal d ≡ true → reply_room ≤ room → p < places_count → is_shut (connection_at d p) ≡ false
       → received d p bs room ≡ accepted_taken d p (takes d p bs)
   unfolding received
-  received_taken legal enough there live =
-      rows_done (λ n. refused_by n d) _ (receiving_rows d p room)
-      (ap not legal, (le-ltb room reply_room enough, (lt-leb places_count p there, (live, tt))))
+  received_taken legal enough there live = grind arith
 
 -- two results by one table: refused both, or done both
 rows_both : {R S : Type 0} (P : R → S → Type 0) {refuse : ℕ → R} {decline : ℕ → S} {done : R} {made : S}
@@ -72,10 +67,7 @@ module _ (d : Device) (r room : ℕ) where
       → (is_legal d ≡ true → reply_room ≤ room → lowest < places_count → P lowest (accepted_opening d r))
       → P (place_taken d room) (opened_by d r room)
   unfolding opened_by place_taken
-  opened_placed_by P refused greets =
-      rows_both P refused (opening_rows d room) refl
-      (λ none. greets (not-false (is_legal d) none.0) (ltb-false room reply_room none.1.0)
-      (leb-false places_count lowest none.1.1.0))
+  opened_placed_by P refused greets = grind arith
 
   pub opened_by_lem : (P : Result Device → Type 0) → ((n : ℕ) → (n ≡ 0 → ⊥) → P (refused_by n d))
       → (is_legal d ≡ true → reply_room ≤ room → lowest < places_count → P (accepted_opening d r))
@@ -100,12 +92,7 @@ pub greeted_by_lem : (s : Settings) (r : ℕ) (P : List ℕ → Connection → T
     → P greeting_open (begun_in opened r)
     → P (greeting s r) (greeted s r)
 unfolding greeting greeted
-greeted_by_lem s r P secured plain = by (has_password s)
-  where
-    by : (t : Bool) → P (if t then greeting_secured (hex_digits 8 r) else greeting_open)
-        (begun_in (if t then awaiting else opened) r)
-    by true = secured
-    by false = plain
+greeted_by_lem s r P secured plain = grind arith
 
 -- a password of length 0 means no security, and any other that the digest is awaited
 module _ (s : Settings) (r : ℕ) where
@@ -134,14 +121,11 @@ module _ (d : Device) (p : ℕ) where
       → P (made (with_place d d.own p closed)))
       → P (closed_by d p)
   unfolding closed_by
-  closed_by_lem P refused closes =
-      by_rows_lem (λ n. refused_by n d) _ P refused (closing_rows d p) refl
-      (λ none. closes (not-false (is_legal d) none.0) (leb-false places_count p none.1.0) none.1.1.0)
+  closed_by_lem P refused closes = grind arith
 
   pub closed-made : is_legal d ≡ true → p < places_count → is_shut (connection_at d p) ≡ false
       → closed_by d p ≡ made (with_place d d.own p closed)
   unfolding closed_by
-  closed-made legal there live =
-      rows_done (λ n. refused_by n d) _ (closing_rows d p) (ap not legal, (lt-leb places_count p there, (live, tt)))
+  closed-made legal there live = grind arith
 
 pub ruleset greetings = (secured_greeting, secured_greeted, open_greeting, open_greeted)

@@ -17,7 +17,7 @@ use Rattle.pjlink.specs.declared.command.Command.{Command}
 use Rattle.pjlink.proofs.CommandLines.{command_length, command_no_cr}
 use Rattle.pjlink.specs.Said.{Said, said_bytes}
 use Rattle.record.specs.Limits.{places_count, awaiting, opened}
-use Rattle.record.specs.Legal.{is_timed, is_legal}
+use Rattle.record.specs.Legal.{is_legal}
 use Rattle.record.specs.Places.{connection_at, with_place}
 use Rattle.record.specs.declared.types.Connection.{Connection}
 use Rattle.record.specs.declared.types.Device.{Device}
@@ -56,10 +56,7 @@ swallowed_at d p n = record {
 pub open_again : (d : Device) (p : ℕ) → p < places_count → is_legal d ≡ true → (connection_at d p).phase ≡ opened
     → (connection_at d p).line ≡ empty_line → turned (connection_at d p) opened ≡ connection_at d p
 open_again d p there legal phase empty =
-    let c = connection_at d p in
-    let young : c.age ≡ 0 =
-    age_untimed c.phase c.age (ap is_timed phase) ((connection_is c).0 (legal_connection d legal p there)).age in
-    (λ i. record { phase = sym phase i; age = sym young i; random = c.random; line = sym empty i })
+    search (arith, age_untimed, connection_is, legal_connection, legal_connection d legal p there)
 
 module _ (d : Device) (p : ℕ) (there : p < places_count) (room : ℕ) (legal : is_legal d ≡ true)
     (enough : reply_room ≤ room) (unmarked : (connection_at d p).line.overlong ≡ false)

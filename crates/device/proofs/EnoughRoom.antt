@@ -3,7 +3,7 @@
 use Rattle.std.proofs.Common.{ℕ, ◌≤◌, ◌≡◌, refl, not, List, [], ◌∷◌, arith, nat_lt, le-ltb}
 use Rattle.text.specs.Rows.{Row, ◌when◌, by_rows}
 use Rattle.record.specs.Legal.{is_legal}
-use Rattle.record.specs.Places.{connection_at, is_shut, lowest_shut}
+use Rattle.record.specs.Places.{lowest_shut}
 use Rattle.record.specs.declared.types.Device.{Device}
 use Rattle.device.specs.Calls.{Result, refused_by, reply_room, is_no_place, received, opened_by, place_taken, closed_by}
 use Rattle.device.proofs.Cases.{closed_by_lem}
@@ -25,8 +25,7 @@ module _ (d : Device) (room : ℕ) (enough : reply_room ≤ room) where
 
   pub received_room : (p : ℕ) (bs : List ℕ) → received d p bs reply_room ≡ received d p bs room
   unfolding received
-  received_room p bs =
-      by_rows-cons (λ n. refused_by n d) ((3 when is_no_place p) ∷ (4 when is_shut (connection_at d p)) ∷ []) _
+  received_room p bs = grind arith
 
 pub closing_quiet : (d : Device) (p : ℕ) → (closed_by d p).reply ≡ []
 closing_quiet d p = closed_by_lem d p (λ (x : Result Device). x.reply ≡ []) (λ n z. refl) (λ h t c. refl)

@@ -1,13 +1,12 @@
 -- The first line on an awaiting connection between lines, as the bytes before its CR (RULES, Connection: "the first 32
 -- bytes are compared exactly with the lowercase hex digest .., and the line at most 167 bytes before CR").
 -- Assumes nothing.
-use Rattle.std.proofs.Common.{ℕ, ◌≤◌, ◌<◌, ◌≡◌, sym, ap, ◌∙◌, Bool, true, false, not, ◌&&◌, List, ◌∷◌, ◌++◌, ⊎_elim}
-use Rattle.std.proofs.Common.{length, take, nat_le, leb-true, le-leb}
-use Rattle.std.proofs.lemmas.Bool.{false≢true}
+use Rattle.std.proofs.Common.{arith}
+use Rattle.std.proofs.Common.{ℕ, ◌≤◌, ◌≡◌, sym, ap, ◌∙◌, Bool, true, false, List, ◌∷◌, ◌++◌, ⊎_elim}
+use Rattle.std.proofs.Common.{length, nat_le, leb-true, le-leb}
 use Prim.Native.Char.{code}
 use Rattle.text.specs.Scans.{same_by, itself}
-use Rattle.text.proofs.Choices.{both, both_left, both_right, alike}
-use Rattle.text.proofs.Orders.{le_or_lt}
+use Rattle.text.proofs.Choices.{both, both_left, both_right}
 use Rattle.digest.specs.Hex.{leading_digest}
 use Rattle.words.specs.Bytes.{no_cr}
 use Rattle.words.proofs.Characters.{no_cr_each}
@@ -34,9 +33,7 @@ module _ (s : Settings) (c : Connection) where
 
   overlong_unmatched : is_match s c overlong_line ≡ false
   unfolding is_match
-  overlong_unmatched =
-      ap (λ (mark : Bool). not mark && nat_le digest_long overlong_line.held
-      && same_by itself (take digest_long overlong_line.bytes) digest) overlong_marked
+  overlong_unmatched = grind (arith, overlong_marked)
 
   match_led : (l : List ℕ) → length l ≤ line_room → is_match s c (line_of l) ≡ true → led_here l ≡ true
   unfolding is_match
@@ -48,30 +45,23 @@ module _ (s : Settings) (c : Connection) where
       ∙ both_right (nat_le digest_long (length l)) _ e)
 
   unled_short : (l : List ℕ) → length l ≤ line_room → led_here l ≡ false → is_match s c (line_of l) ≡ false
-  unled_short l short unled =
-      alike (is_match s c (line_of l)) false (λ e. sym unled ∙ match_led l short e) (λ e. absurd (false≢true e))
+  unled_short l short unled = grind (arith, match_led)
 
   -- without the matching digest, or overlong, what is collected of it does not match
   pub is_match-collected_all : (l : List ℕ) → led_here l ≡ false
       → is_match s c (collected_all line_room empty_line l) ≡ false
   is_match-collected_all l unled =
-      ⊎_elim
-      (λ (short : length l ≤ line_room). ap (is_match s c) (collected_whole l short) ∙ unled_short l short unled)
-      (λ (long : line_room < length l). ap (is_match s c) (collected_overlong l long) ∙ overlong_unmatched)
-      (le_or_lt (length l) line_room)
+      grind (arith, ⊎_elim, collected_whole, unled_short, collected_overlong, overlong_unmatched)
 
   module _ (empty : c.line ≡ empty_line) (phase : c.phase ≡ awaiting) (l more : List ℕ) (plain : no_cr l ≡ true) where
     abbrev first : Gathered
     first = gathered (held_most c.phase) c.line (l ++ (code "\r" ∷ more))
 
     whole : first ≡ record { line = collected_all line_room empty_line l; before = length l; ended = true }
-    whole =
-        (λ i. gathered ((ap held_most phase ∙ held_most_awaiting) i) (empty i) (l ++ (code "\r" ∷ more)))
-        ∙ gathered-append line_room empty_line l more (no_cr_each l plain)
+    whole = grind (arith, held_most_awaiting, gathered-append, no_cr_each)
 
     pub first-line_ends : first.ended ≡ true
     first-line_ends = ap (λ (g : Gathered). g.ended) whole
 
     pub unled_unmatched : led_here l ≡ false → IsUnmatched s c (l ++ (code "\r" ∷ more))
-    unled_unmatched unled ended =
-        ap (λ (g : Gathered). is_match s c g.line) whole ∙ is_match-collected_all l unled
+    unled_unmatched unled ended = grind (arith, whole, is_match-collected_all)

@@ -5,19 +5,18 @@
 --   StreamEffect s o w r k     the stream w, replied to by r, leaves the own part k of o
 --   Tells s o w r k e          that, the lamps and their marks kept, and what the connection e holds then
 -- Assumes nothing.
-use Rattle.std.proofs.Common.{ℕ, ◌+◌, ◌≡◌, refl, sym, ap, subst, ◌∙◌, Bool, true, false, ◌||◌, List, [], ◌∷◌, ◌++◌}
-use Rattle.std.proofs.Common.{append_assoc, append-nil, arith, take, drop, take-append-drop, ◌==◌, eqb-true, ne_eqb}
+use Rattle.std.proofs.Common.{ℕ, ◌+◌, ◌≡◌, refl, sym, ap, subst, ◌∙◌, Bool, true, false, List, [], ◌∷◌, ◌++◌}
+use Rattle.std.proofs.Common.{append_assoc, append-nil, arith, take, drop, take-append-drop, eqb-true}
 use Rattle.std.proofs.Common.{codes}
 use Rattle.std.proofs.lemmas.Bool.{eqb-false}
 use Prim.Native.Char.{code}
 use Rattle.std.specs.Prelude.{Ok}
-use Rattle.text.proofs.Choices.{if_by}
 use Rattle.pjlink.specs.Forms.{reply_line}
 use Rattle.pjlink.specs.declared.body.Body.TheVariants.{Powr}
 use Rattle.pjlink.specs.declared.command.Command.TheVariants.{PowerSet}
 use Rattle.pjlink.specs.Bodies.{is_body}
 use Rattle.pjlink.specs.Said.{okay}
-use Rattle.record.specs.Limits.{shut, awaiting, opened, failed}
+use Rattle.record.specs.Limits.{shut, awaiting, opened}
 use Rattle.record.specs.Legal.{is_collecting, held_most, is_connection}
 use Rattle.record.specs.Record.{closed}
 use Rattle.record.specs.Places.{connection_at}
@@ -72,22 +71,12 @@ module _ (s : Settings) (o : Own) {w h : List ℕ} (known : Ends w h) (x : List 
       turns a b c d wanted powr (ends_trans (ends_with x known) line) said meant own
 
   pub tells_on : {e : Connection} → Tells s o (h ++ x) reply k e → Tells s o (w ++ x) reply k e
-  tells_on t = record {
-    effect = effect_on t.effect;
-    lamps = t.lamps;
-    marks = t.marks;
-    last = ends_trans (ends_with x known) t.last;
-  }
+  tells_on t = search (arith, effect_on, ends_trans, ends_with)
 
 -- a legal connection that is neither awaiting nor open holds nothing
 unheld : (c : Connection) → is_connection c ≡ true → (c.phase ≡ opened → ⊥) → (c.phase ≡ awaiting → ⊥)
     → c.line.held ≡ 0
-unheld c legal n m =
-    let p = ne_eqb c.phase awaiting m in
-    let q = ne_eqb c.phase opened n in
-    let none : held_most c.phase ≡ 0 = held_most_none c.phase (λ i. p i || q i) in
-    let within = held_within c.phase c.line.held c.line.overlong ((connection_is c).0 legal).held in
-    omega arith
+unheld c legal n m = grind (arith, held_most_none, held_within, connection_is)
 
 module _ (s : Settings) (o : Own) (c : Connection) (bs : List ℕ) (legal : is_connection c ≡ true) where
   abbrev gathers : Gathered
@@ -99,13 +88,7 @@ module _ (s : Settings) (o : Own) (c : Connection) (bs : List ℕ) (legal : is_c
 
   part_last : (c.phase ≡ shut → ⊥) → Ends (sent gathers.before) (line_text (keeping_line c gathers.line).line)
   unfolding keeping_line
-  part_last live =
-      if_by (λ (k : Connection). Ends (sent gathers.before) (line_text k.line)) (c.phase == failed)
-      (λ f. let is_failed = eqb-true c.phase failed f in
-      ends_unheld _ c.line (unheld c legal (λ p. omega arith) (λ p. omega arith)))
-      (λ f. gathered_ends c.phase c.line bs
-      (collecting c.phase ((connection_is c).0 legal).phase live (eqb-false c.phase failed f))
-      (line_legal c legal))
+  part_last live = grind (arith, eqb-true, ends_unheld, unheld, gathered_ends, collecting, connection_is)
 
   module _ (cr : gathers.ended ≡ true) where
     abbrev stream : List ℕ
@@ -136,11 +119,8 @@ module _ (s : Settings) (o : Own) (c : Connection) (bs : List ℕ) (legal : is_c
         (λ p m. stays refl refl refl) (λ p q. stays refl refl refl)
 
     line_last : Ends stream (line_text (line_ended s o c gathers.line).connection.line)
-    line_last =
-        let none = ends_unheld stream empty_line empty_held in
-        ended_by s o c gathers.line (λ e. Ends stream (line_text e.connection.line)) (λ p m. none) (λ p m. none)
-        (λ p m. none) (λ p m. none)
-        (λ p q. ends_unheld stream c.line (unheld c legal p q))
+    unfolding line_ended
+    line_last = grind (arith, ends_unheld, empty_held, unheld)
 
   abbrev TellsOf : Taken → Type 0
   TellsOf t = Tells s o (sent t.taken) t.ended.reply t.ended.own t.ended.connection

@@ -1,7 +1,8 @@
 -- A record that is not legal is the first row of each call's table: it is refused with 1 and comes back as it was. So
 -- no call changes whether a record is legal.
 -- Assumes nothing.
-use Rattle.std.proofs.Common.{ℕ, ◌≡◌, refl, sym, ap, ◌∙◌, Bool, true, false, not, List}
+use Rattle.std.proofs.Common.{arith}
+use Rattle.std.proofs.Common.{ℕ, ◌≡◌, ap, true, false, not, List}
 use Rattle.text.proofs.Choices.{if_yes}
 use Rattle.record.specs.Legal.{is_legal}
 use Rattle.record.specs.declared.types.Device.{Device}
@@ -23,19 +24,13 @@ module _ (d : Device) where
 
   same_legality : (r : Result Device) → (is_legal d ≡ true → is_legal r.device ≡ true)
       → (is_legal d ≡ false → r ≡ refused_by 1 d) → is_legal r.device ≡ is_legal d
-  same_legality r stays same = by (is_legal d) refl
-    where
-      by : (t : Bool) → is_legal d ≡ t → is_legal r.device ≡ is_legal d
-      by true h = stays h ∙ sym h
-      by false h = ap (λ (x : Result Device). is_legal x.device) (same h)
+  same_legality r stays same = grind arith
 
   pub received_legality : (p : ℕ) (bs : List ℕ) (room : ℕ) → is_legal (received d p bs room).device ≡ is_legal d
-  received_legality p bs room =
-      same_legality (received d p bs room) (λ h. receiving_legal d h p bs room) (received_illegal p bs room)
+  received_legality p bs room = grind (arith, receiving_legal, received_illegal)
 
   pub opened_legality : (r room : ℕ) → is_legal (opened_by d r room).device ≡ is_legal d
-  opened_legality r room =
-      same_legality (opened_by d r room) (λ h. opening_legal d h r room) (opened_illegal r room)
+  opened_legality r room = grind (arith, opening_legal, opened_illegal)
 
   pub closed_legality : (p : ℕ) → is_legal (closed_by d p).device ≡ is_legal d
   closed_legality p = same_legality (closed_by d p) (λ h. closing_legal d h p) (closed_illegal p)

@@ -1,6 +1,6 @@
 -- Opening, closing and receiving keep a record legal, a law a part.
 -- Assumes nothing.
-use Rattle.std.proofs.Common.{ℕ, zero, suc, ◌≤◌, ◌≡◌, refl, true, List, arith, ◌==◌}
+use Rattle.std.proofs.Common.{ℕ, ◌≤◌, ◌≡◌, true, List, arith, ◌==◌}
 use Rattle.std.proofs.lemmas.Bool.{eqb-false}
 use Rattle.text.proofs.Choices.{if_all, if_by}
 use Rattle.record.specs.Limits.{shut, awaiting, opened, failed}
@@ -28,18 +28,12 @@ use Rattle.device.proofs.LineCases.{ended_by, taken_by}
 
 -- a phase is shut, failed or collects
 pub collecting : (p : ℕ) → p ≤ failed → (p ≡ shut → ⊥) → (p ≡ failed → ⊥) → is_collecting p ≡ true
-collecting zero h n m = absurd (n refl)
-collecting (suc zero) h n m = refl
-collecting (suc (suc zero)) h n m = refl
-collecting (suc (suc (suc p))) h n m = absurd (m (omega arith))
+collecting p h g e = grind arith
 
 -- connections
 module _ (c : Connection) where
   pub is_connection-turned : (phase : ℕ) → phase ≤ failed → (phase ≡ shut → ⊥) → is_connection (turned c phase) ≡ true
-  is_connection-turned phase h n =
-      let e = empty_legal phase in
-      (connection_is (turned c phase)).1
-      (record { line = e.kept; phase = h; age = zero_age phase; random = λ z. absurd (n z); held = e.held })
+  is_connection-turned phase h n = grind (arith, empty_legal, connection_is, zero_age)
 
   module _ (legal : is_connection c ≡ true) where
     abbrev known : IsConnection c
@@ -49,15 +43,7 @@ module _ (c : Connection) where
     line_legal = record { kept = known.line; held = known.held }
 
     is_connection-with_line : (l : Line) → LegalLine c.phase l → is_connection (with_line c l) ≡ true
-    is_connection-with_line l p =
-        (connection_is (with_line c l)).1
-        (record {
-          line = p.kept;
-          phase = known.phase;
-          age = known.age;
-          random = known.random;
-          held = p.held;
-        })
+    is_connection-with_line l p = grind (arith, connection_is)
 
     -- what is kept of a line that is legal where lines are collected
     pub is_connection-keeping_line : (l : Line) → (c.phase ≡ shut → ⊥) →
@@ -89,10 +75,8 @@ module _ (s : Settings) (o : Own) (settings : is_settings s ≡ true) (own : is_
 
 module _ (s : Settings) (o : Own) (c : Connection) (legal : is_connection c ≡ true) where
   pub is_connection-line_ended : (l : Line) → is_connection (line_ended s o c l).connection ≡ true
-  is_connection-line_ended l =
-      let open_legal = is_connection-turned c opened (omega arith) (λ z. omega arith) in
-      ended_by s o c l (λ e. is_connection e.connection ≡ true) (λ p m. open_legal) (λ p m. open_legal)
-      (λ p m. open_legal) (λ p m. is_connection-turned c failed (omega arith) (λ z. omega arith)) (λ p q. legal)
+  unfolding line_ended
+  is_connection-line_ended l = grind (arith, is_connection-turned)
 
   pub is_connection-taken_in : (bs : List ℕ) → (c.phase ≡ shut → ⊥)
       → is_connection (taken_in s o c bs).ended.connection ≡ true

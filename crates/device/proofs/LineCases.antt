@@ -1,11 +1,8 @@
 -- The parts of receiving, case by case: a line's answer, what CR does, what is kept, and what a call takes in.
 -- Assumes nothing.
-use Rattle.std.proofs.Common.{ℕ, ◌+◌, ◌≤◌, ◌≡◌, ap, ◌∙◌, true, false, not, List, drop, ◌==◌, eqb-true, eq-eqb, ne_eqb}
-use Rattle.std.proofs.Common.{◌&&◌, take, nat_le, leb-true}
-use Rattle.std.proofs.lemmas.Bool.{eqb-false}
-use Rattle.text.proofs.Choices.{if_yes, if_no, if_by, both_left, both_right}
-use Rattle.text.specs.Scans.{same_by, itself}
-use Rattle.digest.specs.Hex.{leading_digest}
+use Rattle.std.proofs.Common.{arith}
+use Rattle.std.proofs.Common.{ℕ, ◌+◌, ◌≤◌, ◌≡◌, ap, ◌∙◌, true, false, List, drop, ◌==◌, eq-eqb, ne_eqb}
+use Rattle.text.proofs.Choices.{if_yes, if_no, if_by}
 use Rattle.pjlink.specs.Forms.{is_command_form}
 use Rattle.record.specs.Limits.{awaiting, opened, failed}
 use Rattle.record.specs.Updates.{with_line}
@@ -17,7 +14,7 @@ use Rattle.record.specs.declared.types.Connection.{Connection}
 use Rattle.stream.specs.declared.Gathered.{Gathered}
 use Rattle.stream.specs.Collecting.{line_text, gathered}
 use Rattle.device.specs.Answering.{Answered, line_answer, replied, swallowed}
-use Rattle.device.specs.Receiving.{Ended, Taken, is_match, digest_long, set_up_password, no_reply, spoken}
+use Rattle.device.specs.Receiving.{Ended, Taken, is_match, digest_long, no_reply, spoken}
 use Rattle.device.specs.Receiving.{refused_digest, line_ended, keeping_line, taken_in}
 
 -- a line's answer, by its form
@@ -64,21 +61,12 @@ module _ (s : Settings) (o : Own) (c : Connection) (l : Line) where
       → ((c.phase ≡ opened → ⊥) → (c.phase ≡ awaiting → ⊥) → P (no_reply o c))
       → P (line_ended s o c l)
   unfolding line_ended
-  ended_by P overlong line match erra other =
-      if_by P (c.phase == opened)
-      (λ p. if_by (λ (a : Answered). P (spoken c a)) l.overlong (overlong (eqb-true c.phase opened p))
-      (line (eqb-true c.phase opened p)))
-      (λ p. if_by P (c.phase == awaiting)
-      (λ q. if_by P (is_match s c l) (match (eqb-true c.phase awaiting q)) (erra (eqb-true c.phase awaiting q)))
-      (λ q. other (eqb-false c.phase opened p) (eqb-false c.phase awaiting q)))
+  ended_by P overlong line match erra other = grind arith
 
 -- the digest is all there
 pub match_long : (s : Settings) (c : Connection) (l : Line) → is_match s c l ≡ true → digest_long ≤ l.held
 unfolding is_match
-match_long s c l e =
-    let led = same_by itself (take digest_long l.bytes) (leading_digest c.random (set_up_password s)) in
-    leb-true digest_long l.held
-    (both_right (not l.overlong) _ (both_left (not l.overlong && nat_le digest_long l.held) led e))
+match_long s c l e = grind arith
 
 -- a failed connection keeps no byte
 module _ (c : Connection) (l : Line) where

@@ -2,7 +2,7 @@
 -- bytes are cut: until the connection closes he gets the refusal line once his first line ends, and nothing else
 -- (demand 2: "a first line without the matching digest yields the refusal line only").
 -- Assumes nothing.
-use Rattle.std.proofs.Common.{ℕ, ◌≤◌, ◌<◌, ◌≡◌, refl, sym, ap, ◌∙◌, ◌+◌, Bool, true, false, List, [], ◌∷◌, arith, drop}
+use Rattle.std.proofs.Common.{ℕ, ◌≤◌, ◌<◌, ◌≡◌, refl, sym, ap, ◌∙◌, ◌+◌, Bool, true, List, [], ◌∷◌, arith, drop}
 use Rattle.std.proofs.Common.{drop_of_length-le}
 use Prim.Native.Char.{code}
 use Rattle.std.specs.Prelude.{if◌then◌else◌}
@@ -54,9 +54,7 @@ module _ (s : Settings) where
 
   -- a failed connection ignores whatever comes
   failed_step : (m : State) (b : ℕ) (cr : Bool) → m.connection.phase ≡ failed → stepped m b cr ≡ unanswered m
-  failed_step m b true f = ap leaves (failed_ignores_line s m.own m.connection f _)
-  failed_step m b false f =
-      ap {B = Out State} (λ (k : Connection). unanswered (state_of m.own k)) (keeping_none m.connection _ f)
+  failed_step m b cr h = grind (arith, failed_ignores_line, keeping_none)
 
   pub failed_run : (m : State) (bs : List ℕ) → m.connection.phase ≡ failed → ran m bs ≡ unanswered m
   failed_run m [] f = run_none (code "\r") State collects (ends s) m
@@ -114,12 +112,10 @@ module _ (room : ℕ) (enough : reply_room ≤ room) (p : ℕ) (there : p < plac
   -- every other place is as it was
   pub connection_at-handed_parts : (q : ℕ) → (q ≡ p → ⊥)
       → connection_at (handed_parts (receives room p) d ps).state q ≡ connection_at d q
-  connection_at-handed_parts q other =
-      ap (λ (o : Out Device). connection_at o.state q) as_run ∙ placed_elsewhere d d.own p after q other
+  connection_at-handed_parts q other = simp (as_run, placed_elsewhere)
 
   here : connection_at all.state p ≡ after
-  here =
-      ap (λ (o : Out Device). connection_at o.state p) as_run ∙ placed_here d (legal_places d legal) p there d.own after
+  here = simp (as_run, placed_here, legal_places)
 
   -- once his first line ended, the connection has failed
   module _ (cr : (first_line (connection_at d p) (uncut ps)).ended ≡ true) where

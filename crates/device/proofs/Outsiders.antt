@@ -11,7 +11,7 @@ use Rattle.record.specs.declared.types.Own.{Own}
 use Rattle.record.specs.declared.types.Line.{Line}
 use Rattle.record.specs.declared.types.Connection.{Connection}
 use Rattle.record.specs.declared.types.Device.{Device}
-use Rattle.record.specs.Places.{connection_at, with_place}
+use Rattle.record.specs.Places.{connection_at}
 use Rattle.record.proofs.ConnectionsTold.{with_place-connection_at}
 use Rattle.stream.specs.Collecting.{empty_line, gathered}
 use Rattle.device.specs.Receiving.{Ended, is_match, no_reply, line_ended, taken_in}
@@ -36,8 +36,7 @@ IsUnmatched s c bs =
 module _ (s : Settings) (o : Own) (c : Connection) where
   module _ (phase : c.phase ≡ awaiting) where
     pub mismatch_refused : (l : Line) → is_match s c l ≡ false → Outside o c (line_ended s o c l)
-    mismatch_refused l m = rw (ended_erra s o c l phase m)
-        (record { reply = refl; own = refl; phase = refl; age = refl; random = refl; line = refl })
+    mismatch_refused l m = grind (arith, ended_erra)
 
     pub unmatched_line_refused : (bs : List ℕ) → IsUnmatched s c bs
         → (gathered (held_most c.phase) c.line bs).ended ≡ true → Outside o c (taken_in s o c bs).ended
@@ -60,10 +59,8 @@ module _ (d : Device) (p : ℕ) (bs : List ℕ) (room : ℕ) where
 
   module _ (phase : here.phase ≡ failed) where
     pub failed_keeps_record : (received d p bs room).device ≡ d
-    failed_keeps_record =
-        received_by d p bs room (λ r. r.device ≡ d) (λ n z. refl)
-        (λ h s t c. ap {B = Device} (λ (e : Ended). with_place d e.own p e.connection)
-        (failed_ignores d.settings d.own here phase bs) ∙ with_place-connection_at d p)
+    unfolding received
+    failed_keeps_record = grind (arith, failed_ignores, with_place-connection_at)
 
     pub failed_never_replies : (received d p bs room).reply ≡ []
     failed_never_replies =

@@ -7,10 +7,10 @@
 --   Outcome s o r m k      the request r, a POWR answered m, leaves the own part k of o: only a set that is answered OK
 --                          is carried out
 -- Assumes nothing.
-use Rattle.std.proofs.Common.{ℕ, ◌≡◌, refl, sym, ap, ◌∙◌, Bool, true, false, not, ◌&&◌, List, [], ◌∷◌, ◌++◌, ◌==◌}
+use Rattle.std.proofs.Common.{arith}
+use Rattle.std.proofs.Common.{ℕ, ◌≡◌, refl, sym, ap, ◌∙◌, Bool, true, false, not, ◌&&◌, List, [], ◌∷◌, ◌++◌}
 use Rattle.std.proofs.Common.{codes}
 use Rattle.std.proofs.lemmas.Bool.{false≢true}
-use Rattle.std.proofs.Math.Bool.{and-false}
 use Prim.Native.Char.{code}
 use Rattle.std.specs.Prelude.{Ok, Err}
 use Rattle.text.specs.Scans.{same_by}
@@ -59,35 +59,24 @@ abbrev pub is_power_okay : List ℕ → Bool
 is_power_okay r = same_by upper_of r (codes "%1POWR=OK\r")
 
 four_and : (x y z w t : Bool) → (x && (y && (z && (w && t)))) ≡ ((x && (y && (z && (w && true)))) && t)
-four_and true true true true t = refl
-four_and true true true false t = refl
-four_and true true false w t = refl
-four_and true false z w t = refl
-four_and false y z w t = refl
+four_and x y z w t = grind arith
 
 module _ (a b c d : ℕ) (p : List ℕ) where
   okay_by_parts : is_power_okay (reply_line (code "1") (a ∷ b ∷ c ∷ d ∷ []) p)
       ≡ (is_body 1 (a ∷ b ∷ c ∷ d ∷ []) Powr && same_by upper_of (p ++ (code "\r" ∷ [])) (codes "OK\r"))
-  okay_by_parts =
-      four_and (upper_of a == code "P") (upper_of b == code "O") (upper_of c == code "W")
-      (upper_of d == code "R")
-      (same_by upper_of (p ++ (code "\r" ∷ [])) (codes "OK\r"))
+  okay_by_parts = grind arith
 
   other_reply : is_body 1 (a ∷ b ∷ c ∷ d ∷ []) Powr ≡ false
       → is_power_okay (reply_line (code "1") (a ∷ b ∷ c ∷ d ∷ []) p) ≡ false
-  other_reply e =
-      okay_by_parts ∙ ap (λ (t : Bool). t && same_by upper_of (p ++ (code "\r" ∷ [])) (codes "OK\r")) e
+  other_reply e = grind arith
 
   other_said : same_by upper_of (p ++ (code "\r" ∷ [])) (codes "OK\r") ≡ false
       → is_power_okay (reply_line (code "1") (a ∷ b ∷ c ∷ d ∷ []) p) ≡ false
-  other_said e =
-      okay_by_parts ∙ ap (λ (t : Bool). is_body 1 (a ∷ b ∷ c ∷ d ∷ []) Powr && t) e
-      ∙ and-false (is_body 1 (a ∷ b ∷ c ∷ d ∷ []) Powr)
+  other_said e = grind arith
 
 reply_line-said_bytes : (h : ℕ) (s : List ℕ) (m : Said) → m ≡ okay
     → reply_line h s (said_bytes m) ≡ reply_line h s (codes "OK")
-reply_line-said_bytes h s m e =
-    ap (λ (x : Said). reply_line h s (said_bytes x)) e ∙ ap (reply_line h s) (said_row okay)
+reply_line-said_bytes h s m e = grind (arith, said_row)
 
 pub okay_reply : (a b c d : ℕ) → is_body 1 (a ∷ b ∷ c ∷ d ∷ []) Powr ≡ true
     → is_power_okay (reply_line (code "1") (a ∷ b ∷ c ∷ d ∷ []) (codes "OK")) ≡ true
@@ -107,26 +96,17 @@ is_same false v = not v
 
 switch_read : (w v : Bool)
     → same_by upper_of (switch_code w ∷ codes "\r") (switch_code v ∷ codes "\r") ≡ is_same w v
-switch_read true true = refl
-switch_read true false = refl
-switch_read false true = refl
-switch_read false false = refl
+switch_read w v = grind arith
 
 same_itself : (w : Bool) → is_same w w ≡ true
-same_itself true = refl
-same_itself false = refl
+same_itself w = grind arith
 
 not_other : (w : Bool) → is_same w (not w) ≡ false
-not_other true = refl
-not_other false = refl
+not_other w = grind arith
 
 module _ (a b c d : ℕ) (powr : is_body 1 (a ∷ b ∷ c ∷ d ∷ []) Powr ≡ true) (wanted : Bool) where
   line_by_parts : (v : Bool) → is_power_line v (power_line a b c d wanted ++ codes "\r") ≡ is_same wanted v
-  line_by_parts v =
-      four_and (upper_of a == code "P") (upper_of b == code "O") (upper_of c == code "W")
-      (upper_of d == code "R")
-      (same_by upper_of (switch_code wanted ∷ codes "\r") (switch_code v ∷ codes "\r"))
-      ∙ (λ i. powr i && switch_read wanted v i)
+  line_by_parts v = grind arith
 
   pub power_line_read : is_power_line wanted (power_line a b c d wanted ++ codes "\r") ≡ true
   power_line_read = line_by_parts wanted ∙ same_itself wanted
@@ -173,9 +153,7 @@ module _ (s : Settings) (o : Own) (l : List ℕ) where
       is_asked = powr_asked (command_parameter l) (line_class l) (head_body l) (ap is_powr first ∙ powr)
 
       by_outcome : Comes s o (line_asks l) → EffectOf (replied s o l)
-      by_outcome (unchanged n p q) =
-          quiet (ap (λ (h : ℕ). is_power_okay (reply_under h said)) first
-          ∙ other_said (l at 2) (l at 3) (l at 4) (l at 5) said n) p q
+      by_outcome (unchanged n p q) = grind arith
       by_outcome (carried wanted r m) =
           sets (l at 2) (l at 3) (l at 4) (l at 5) wanted powr
           (form_spelt s.class_number l form
@@ -190,10 +168,7 @@ module _ (s : Settings) (o : Own) (l : List ℕ) where
 
     by_body : (t : Bool) → is_powr (code "1") ≡ t → EffectOf (replied s o l)
     by_body true e = powr_effect e
-    by_body false e =
-        no_power_set (ap is_powr first ∙ e)
-        (ap (λ (h : ℕ). is_power_okay (reply_under h said)) first
-        ∙ other_reply (l at 2) (l at 3) (l at 4) (l at 5) said e)
+    by_body false e = grind (arith, no_power_set)
 
   by_class : is_command_form s.class_number l ≡ true → EffectOf (replied s o l)
   by_class form =

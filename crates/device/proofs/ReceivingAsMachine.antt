@@ -3,10 +3,10 @@
 --   takes_in s m bs        what receiving takes in, as a machine's call
 --   collects, ends         what the projector does with a byte that is no CR; with CR
 -- Assumes nothing.
-use Rattle.std.proofs.Common.{ℕ, ◌≤◌, ◌≡◌, refl, sym, ap, ◌∙◌, Bool, true, false, List, arith, ◌==◌, eqb-true}
+use Rattle.std.proofs.Common.{ℕ, ◌≤◌, ◌≡◌, refl, sym, ap, ◌∙◌, Bool, false, List, arith, ◌==◌}
 use Rattle.std.proofs.lemmas.Bool.{eqb-false}
 use Prim.Native.Char.{code}
-use Rattle.text.proofs.Choices.{if_yes, if_no}
+use Rattle.text.proofs.Choices.{if_no}
 use Rattle.record.specs.Limits.{shut, awaiting, opened, failed}
 use Rattle.record.specs.Updates.{with_line}
 use Rattle.record.specs.Legal.{held_most}
@@ -16,10 +16,10 @@ use Rattle.record.specs.declared.types.Line.{Line}
 use Rattle.record.specs.declared.types.Connection.{Connection}
 use Rattle.stream.specs.declared.Gathered.{Gathered}
 use Rattle.stream.specs.Collecting.{collected, gathered}
-use Rattle.stream.specs.Machine.{Out, Took, unanswered, took_bytes, one_call}
+use Rattle.stream.specs.Machine.{Out, Took, took_bytes, one_call}
 use Rattle.stream.proofs.OneCallGathers.{finished, call_finishes}
 use Rattle.device.specs.Receiving.{Ended, Taken, is_match, line_ended, keeping_line, taken_in}
-use Rattle.device.proofs.LineCases.{ended_other, taken_by, keeping_none, keeping_line_lem}
+use Rattle.device.proofs.LineCases.{ended_other, keeping_none, keeping_line_lem}
 
 pub record State : Type 0 where
   pub own : Own
@@ -51,9 +51,7 @@ module _ (s : Settings) (o : Own) (c : Connection) (l : Line) where
       (t ≡ false → u ≡ false → ⊥)
       → line_ended s o (with_line c l) l ≡ line_ended s o c l
   unfolding line_ended is_match
-  line_ended-with_line true u p q n = if_yes _ _ p ∙ sym (if_yes _ _ p)
-  line_ended-with_line false true p q n = if_no _ _ p ∙ if_yes _ _ q ∙ sym (if_no _ _ p ∙ if_yes _ _ q)
-  line_ended-with_line false false p q n = absurd (n refl refl)
+  line_ended-with_line t u h g e = grind arith
 
 module _ (s : Settings) (o : Own) (c : Connection) (bs : List ℕ) where
   abbrev gathers : Gathered
@@ -68,10 +66,8 @@ module _ (s : Settings) (o : Own) (c : Connection) (bs : List ℕ) where
   -- `keep` says what is kept of a line
   takes_finishes : (keep : Line → State) → ((l : Line) → state_of o (keeping_line c l) ≡ keep l)
       → as_call (taken_in s o c bs) ≡ finished keep ended gathers
-  takes_finishes keep kept =
-      taken_by s o c bs (λ t. as_call t ≡ finished keep ended gathers) (λ e. sym (if_yes _ _ e))
-      (λ e. ap {B = Took State} (λ (k : State). took_bytes gathers.before (unanswered k)) (kept gathers.line)
-      ∙ sym (if_no _ _ e))
+  unfolding keeping_line taken_in
+  takes_finishes keep kept = grind (arith, if_no)
 
   -- failed: no byte is kept
   failed_call : c.phase ≡ failed → as_call (taken_in s o c bs) ≡ called
@@ -103,8 +99,7 @@ module _ (s : Settings) (o : Own) (c : Connection) (bs : List ℕ) where
 
   by_phase : (t : Bool) → (c.phase == failed) ≡ t → c.phase ≤ failed → (c.phase ≡ shut → ⊥)
       → as_call (taken_in s o c bs) ≡ called
-  by_phase true e known live = failed_call (eqb-true c.phase failed e)
-  by_phase false e known live = collecting_call known live (eqb-false c.phase failed e)
+  by_phase t h g e = grind (arith, failed_call, collecting_call)
 
   pub takes_in-state_of : c.phase ≤ failed → (c.phase ≡ shut → ⊥)
       → takes_in s (state_of o c) bs ≡ one_call (code "\r") State collects (ends s) (state_of o c) bs

@@ -5,7 +5,6 @@
 --   receives room p d bs   what the call leaves of the whole record
 -- Assumes nothing.
 use Rattle.std.proofs.Common.{ℕ, ◌≤◌, ◌<◌, ◌≡◌, refl, sym, ap, ◌∙◌, true, false, List, arith, ◌==◌, ne_eqb}
-use Rattle.std.proofs.lemmas.Bool.{eqb-false}
 use Prim.Native.Char.{code}
 use Rattle.text.proofs.Choices.{if_all}
 use Rattle.record.specs.Limits.{places_count, shut, failed}
@@ -49,25 +48,10 @@ ended_live s o c l n =
 
 module _ (s : Settings) where
   ready_collect : (m : State) (b : ℕ) → (b ≡ code "\r" → ⊥) → Live s m → Live s (collects m b)
-  ready_collect m b n r =
-      let c = m.connection in
-      record {
-        settings = r.settings;
-        own = r.own;
-        connection = is_connection-keeping_line c r.connection _ r.live
-            (λ k. collected_legal c.phase c.line b k n (line_legal c r.connection));
-        live = λ z. r.live (sym (keeping_phase c _) ∙ z);
-      }
+  ready_collect m b n r = grind (arith, is_connection-keeping_line, collected_legal, line_legal, keeping_phase)
 
   ready_ends : (m : State) → Live s m → Live s (ends s m).state
-  ready_ends m r =
-      let c = m.connection in
-      record {
-        settings = r.settings;
-        own = is_own-line_ended s m.own r.settings r.own c c.line;
-        connection = is_connection-line_ended s m.own c r.connection c.line;
-        live = ended_live s m.own c c.line r.live;
-      }
+  ready_ends m r = grind (arith, is_own-line_ended, is_connection-line_ended, ended_live)
 
 -- on the whole record
 abbrev pub as_device_call : Result Device → Took Device
@@ -93,9 +77,7 @@ module _ (room : ℕ) (enough : reply_room ≤ room) (p : ℕ) (there : p < plac
     e = device_at d p m
 
     still_legal : is_legal e ≡ true
-    still_legal =
-        legal_by_parts e r.settings r.own
-        (placed_legal d.connections (legal_connections d legal) p m.connection r.connection)
+    still_legal = grind (arith, legal_by_parts, placed_legal, legal_connections)
 
     here : connection_at e p ≡ m.connection
     here = placed_here d (legal_places d legal) p there m.own m.connection
@@ -121,12 +103,7 @@ module _ (room : ℕ) (enough : reply_room ≤ room) (p : ℕ) (there : p < plac
 
   module _ (live : is_shut (connection_at d p) ≡ false) where
     ready_parts : Live s (parts_at d p)
-    ready_parts = record {
-      settings = legal_settings d legal;
-      own = legal_own d legal;
-      connection = legal_connection d legal p there;
-      live = eqb-false (connection_at d p).phase shut live;
-    }
+    ready_parts = grind (arith, legal_settings, legal_own, legal_connection)
 
     pub received_as_run : (ps : List (List ℕ))
         → handed_parts (receives room p) d ps

@@ -1,9 +1,9 @@
 -- Receiving changes nothing of the settings, the lamps and their marks, the fault mark and the error digits; opening
 -- and closing change nothing but the connection; and each leaves every other place's connection as it was.
 -- Assumes nothing.
+use Rattle.std.proofs.Common.{arith}
+use Rattle.std.proofs.lemmas.Grind.{common_steps}
 use Rattle.std.proofs.Common.{ℕ, ◌≡◌, refl, List}
-use Rattle.text.proofs.Choices.{if_all}
-use Rattle.pjlink.specs.Forms.{is_command_form}
 use Rattle.record.specs.declared.types.Settings.{Settings}
 use Rattle.record.specs.declared.types.Own.{Own}
 use Rattle.record.specs.declared.types.Line.{Line}
@@ -12,10 +12,10 @@ use Rattle.record.specs.declared.types.Device.{Device}
 use Rattle.record.specs.Places.{connection_at}
 use Rattle.record.proofs.ConnectionsTold.{placed_elsewhere}
 use Rattle.meaning.proofs.Done.{Keeps, done_keeps}
-use Rattle.device.specs.Answering.{Answered, line_asks, line_answer}
+use Rattle.device.specs.Answering.{line_answer}
 use Rattle.device.specs.Receiving.{line_ended, taken_in}
 use Rattle.device.specs.Calls.{received, opened_by, place_taken, closed_by}
-use Rattle.device.proofs.Cases.{received_by, opened_by_lem, opened_placed_by, closed_by_lem}
+use Rattle.device.proofs.Cases.{received_by, opened_by_lem, closed_by_lem}
 use Rattle.device.proofs.LineCases.{ended_by, taken_by}
 
 itself_kept : (o : Own) → Keeps o o
@@ -24,9 +24,7 @@ itself_kept o = record { lamps = refl; marks = refl; fault = refl; errors = refl
 module _ (s : Settings) (o : Own) where
   pub answered_keeps : (l : List ℕ) → Keeps o (line_answer s o l).own
   unfolding line_answer
-  answered_keeps l =
-      if_all (λ (a : Answered). Keeps o a.own) (is_command_form s.class_number l) (done_keeps s o (line_asks l))
-      (itself_kept o)
+  answered_keeps l = grind (arith, done_keeps)
 
   pub ended_keeps : (c : Connection) (l : Line) → Keeps o (line_ended s o c l).own
   ended_keeps c l =
@@ -69,10 +67,8 @@ module _ (d : Device) where
     -- nor does opening, but at the place that it takes
     pub opening_keeps_others : (q : ℕ) → (q ≡ place_taken d room → ⊥)
         → connection_at (opened_by d r room).device q ≡ connection_at d q
-    opening_keeps_others q =
-        opened_placed_by d r room
-        (λ p k. (q ≡ p → ⊥) → connection_at k.device q ≡ connection_at d q) (λ n z e. refl)
-        (λ h s c other. placed_elsewhere d d.own _ _ q other)
+    unfolding place_taken opened_by
+    opening_keeps_others q = grind (arith, common_steps, placed_elsewhere)
 
   module _ (p : ℕ) where
     pub closing_keeps_settings : (closed_by d p).device.settings ≡ d.settings

@@ -6,7 +6,7 @@ use Rattle.words.specs.declared.refusal.Refusal.{Refusal}
 use Rattle.std.specs.Prelude.{Result}
 use Rattle.pjlink.specs.declared.answer.Answer.{Answer}
 use Rattle.pjlink.specs.Carried.{said_by}
-use Rattle.pjlink.specs.Forms.{is_command_form, line_class, reply_line, IsCommandOf}
+use Rattle.pjlink.specs.Forms.{is_command_form, reply_line, IsCommandOf}
 use Rattle.pjlink.specs.Requests.{Request, request_of}
 use Rattle.pjlink.specs.Said.{said_bytes}
 use Rattle.record.specs.Legal.{is_settings}
@@ -29,10 +29,7 @@ module _
     (e : k ≡ class_seen s)
   where
     at_class : {t : Bool} → is_command_form (class_as_number k) l ≡ t → is_command_form s.class_number l ≡ t
-    at_class f =
-        ap (λ n. is_command_form n l)
-        (sym (ap class_as_number e ∙ class_as_number-class_seen s ((settings_is s).0 legal)))
-        ∙ f
+    at_class f = grind (arith, class_as_number-class_seen, settings_is)
 
     unformed : is_command_form (class_as_number k) l ≡ false → swallowed o ≡ line_answer s o l
     unfolding line_answer
@@ -48,34 +45,21 @@ module _
         formed = sym (if_yes (replied s o l) (swallowed o) (at_class taken.form))
 
         asks : {r : Request} → r ≡ request_of (class_as_number j) letters p → r ≡ line_asks l
-        asks f =
-            let class : class_as_number j ≡ line_class l = omega (arith, taken.class) in
-            f ∙ (λ i. request_of (class i) (taken.body i) (taken.parameter i))
+        asks f = grind arith
 
         answers : {r : Request} (reply : Result Answer Refusal) → r ≡ request_of (class_as_number j) letters p
             → said_by reply ≡ meant s o r
             → reply_line (class_code j) letters (said_bytes (said_by reply)) ≡ (line_answer s o l).reply
-        answers reply f g =
-            let said = g ∙ ap (meant s o) (asks f) in
-            (λ i. reply_line (sym taken.class i) (taken.body i) (said_bytes (said i)))
-            ∙ ap (λ a. a.reply) formed
+        answers reply f g = grind (arith, formed)
 
 pub returns-in_default-clause-reply : goal.returns-in_default-clause-reply
-returns-in_default-clause-reply c =
-    c.new.ensures
-    ∙ ap (λ a. a.reply)
-    (unformed c.args.s.now c.args.o.now c.args.l.now c.requires.settings c.class.ensures c.in_default.ensures.other)
+returns-in_default-clause-reply c = grind (arith, unformed)
 
 pub returns-in_default-clause-own : goal.returns-in_default-clause-own
-returns-in_default-clause-own c =
-    ap (λ a. a.own)
-    (unformed c.args.s.now c.args.o.now c.args.l.now c.requires.settings c.class.ensures c.in_default.ensures.other)
+returns-in_default-clause-own c = grind (arith, unformed)
 
 pub returns-clause-reply : goal.returns-clause-reply
-returns-clause-reply c =
-    c.reply_line.ensures
-    ∙ answers c.args.s.now c.args.o.now c.args.l.now c.requires.settings c.class.ensures _ c.in-Some.ensures.taken
-    c.decide-reply.result c.request-asked.ensures c.decide-reply.ensures.said
+returns-clause-reply c = grind (arith, answers)
 
 pub returns-clause-own : goal.returns-clause-own
 returns-clause-own c =

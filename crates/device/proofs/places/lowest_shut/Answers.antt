@@ -1,4 +1,4 @@
-use Rattle.std.proofs.Common.{◌≡◌, sym, ◌∙◌, length, arith, rules}
+use Rattle.std.proofs.Common.{sym, ◌∙◌, arith}
 use Rattle.record.proofs.LowestShut.{lowest_here, one_unshut, all_unshut}
 use Rattle.device.proofs.places.lowest_shut.Goals as goal
 
@@ -9,6 +9,4 @@ pub loop-place-preserved : goal.loop-place-preserved
 loop-place-preserved c = one_unshut _ c.loop-place.invariant (omega arith) (sym c.is_shut.ensures ∙ c.if-is_shut.false)
 
 pub returns : goal.returns
-returns c =
-    let size : length c.args.connections.now ≡ 4 = search rules in
-    omega (arith, c.loop-place.invariant.inside, all_unshut _ c.loop-place.invariant (omega arith))
+returns c = grind (arith, all_unshut)
