@@ -3,9 +3,7 @@
 --   Dim ls               the first of the seconds ls is not lit
 -- Assumes nothing.
 use Rattle.std.proofs.Common.{ℕ, zero, suc, ◌+◌, ◌≤◌, ◌≡◌, refl, sym, ap, Bool, true, false, ◌&&◌, List, []}
-use Rattle.std.proofs.Common.{◌∷◌, ◌++◌, add-zero, arith, slice_index_or, replicate, nat_lt}
-use Rattle.std.proofs.Common.{◌==◌}
-use Rattle.std.specs.Prelude.{if◌then◌else◌}
+use Rattle.std.proofs.Common.{◌∷◌, ◌++◌, add-zero, arith, replicate, nat_lt}
 use Rattle.record.specs.Wanted.{Wanted}
 use Rattle.demands.specs.History.{Event, switched, a_second, mark_switched, Stage, towards, next, marks_next}
 use Rattle.demands.specs.History.{stage_is_burning, reached}
@@ -55,10 +53,6 @@ pub stage_is_burning-reached : (n : ℕ) (w : Wanted) (g : Stage) →
     stage_is_burning (reached w g (replicate n a_second)) ≡ stage_is_burning g
 stage_is_burning-reached zero w g = refl
 stage_is_burning-reached (suc n) w g = grind (arith, stage_is_burning-reached n w (next w g a_second))
-
-pub lit_by : (ms : List Bool) (k : ℕ) (g h : Stage) → stage_is_burning g ≡ stage_is_burning h →
-    is_lit_then g ms k ≡ is_lit_then h ms k
-lit_by ms k g h e = (λ i. (if e i && slice_index_or ms k false then 1 else 0) == 1)
 
 pub seconds_lit_from-append : (n : ℕ) (w : Wanted) (g : Stage) (ms : List Bool) (k : ℕ) (es : List Event)
     → seconds_lit_from w g ms k (replicate n a_second ++ es)
