@@ -86,9 +86,9 @@ struct Teller {
 impl Observer for Teller {
     ghost output = { λ t ls. told_from t.starts t.report (state_of t.watch) (map floor_event ls) };
 
-    ghost Leaves = { λ _ _ _. ⊤ };
+    ghost leaves = { λ _ _ _. ⊤ };
 
-    ghost Overflows = { λ t ls. 2 ^ 64 ≤ t.watch.time + seconds_together (map floor_event ls) };
+    ghost overflows = { λ t ls. 2 ^ 64 ≤ t.watch.time + seconds_together (map floor_event ls) };
 
     // A line, and the stretches that ended with it.
     fn line<W: ByteSink>(&mut self, line: &mut KeptLine, to: &mut W) -> Result<(), Failure> {

@@ -21,30 +21,30 @@ pub trait Observer {
     ghost output: { Self → List (List ℕ) → List ℕ };
 
     /// It is left so by these lines.
-    ghost Leaves: { Self → List (List ℕ) → Self → Type 0 };
+    ghost leaves: { Self → List (List ℕ) → Self → Type 0 };
 
     /// It cannot count all that is to be counted in these lines.
-    ghost Overflows: { Self → List (List ℕ) → Type 0 };
+    ghost overflows: { Self → List (List ℕ) → Type 0 };
 
     /// A line comes.
     fn line<W: ByteSink>(&mut self, line: &mut KeptLine, to: &mut W) -> Result<(), Failure>
-        ensures ok { OnOk result (Observes output Leaves Overflows self.old self.new (kept_text line.old)
+        ensures ok { OnOk result (Observes output leaves overflows self.old self.new (kept_text line.old)
             (W.contents to.old) (W.contents to.new)) }
         ensures front { OnErr result ((ls : List (List ℕ)) → WritesFront (W.contents to.old) (W.contents to.new)
             (output self.old (kept_text line.old ∷ ls))) }
         ensures err { IfErr result
-            (FailsOn W.fails_with ((ls : List (List ℕ)) → Overflows self.old (kept_text line.old ∷ ls))) };
+            (FailsOn W.fails_with ((ls : List (List ℕ)) → overflows self.old (kept_text line.old ∷ ls))) };
 
     /// No line comes any more.
     fn end<W: ByteSink>(&mut self, to: &mut W) -> io::Result<()>
         ensures text { WritesText W.fails_with (W.contents to.old) (W.contents to.new) result (output self.old []) }
-        ensures leaves { OnOk result (Leaves self.old [] self.new) };
+        ensures left { OnOk result (leaves self.old [] self.new) };
 }
 
 // The end of a log; and all that waits is handed on.
 fn end<W: ByteSink, O: Observer>(observer: &mut O, to: &mut W) -> io::Result<()>
     ensures text { WritesText W.fails_with (W.contents to.old) (W.contents to.new) result (O.output observer.old []) }
-    ensures leaves { OnOk result (O.Leaves observer.old [] observer.new) }
+    ensures left { OnOk result (O.leaves observer.old [] observer.new) }
     ensures none_waits { OnOk result (W.waiting to.new ≡ []) }
 {
     observer.end(to)?;
@@ -60,14 +60,14 @@ pub fn follow<R: ByteSource, W: ByteSink, O: Observer>(
 ) -> Result<(), Failure>
     ensures whole { OnOk result (IfSome (left_in R.remaining from.old) (λ log. Appends (W.contents to.old)
         (W.contents to.new) (O.output observer.old (kept_lines log)))) }
-    ensures leaves { OnOk result (IfSome (left_in R.remaining from.old) (λ log.
-        O.Leaves observer.old (kept_lines log) observer.new)) }
+    ensures left { OnOk result (IfSome (left_in R.remaining from.old) (λ log.
+        O.leaves observer.old (kept_lines log) observer.new)) }
     ensures front { IfSome (left_in R.remaining from.old) (λ log. WritesFront (W.contents to.old)
         (W.contents to.new) (O.output observer.old (kept_lines log))) }
     ensures none_waits { OnOk result (W.waiting to.new ≡ []) }
     ensures read { IfErr result (OnFailedRead (W.waiting to.new ≡ [])) }
     ensures err { IfErr result (FailureComesOf R.fails_with W.fails_with
-        (λ log. CannotFollow O.Overflows observer.old log) (left_in R.remaining from.old)) }
+        (λ log. CannotFollow O.overflows observer.old log) (left_in R.remaining from.old)) }
 {
     let mut line = KeptLine::new();
     for _ in 0..u64::MAX {

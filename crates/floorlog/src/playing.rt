@@ -54,9 +54,9 @@ impl Observer for Player {
     ghost output = { λ p ls. lines_printed p.played p.tested.device (map event ls)
         ++ last_device_line (state_after p.tested.device (map event ls)) };
 
-    ghost Leaves = { λ p ls last. last.tested.device ≡ state_after p.tested.device (map event ls) };
+    ghost leaves = { λ p ls last. last.tested.device ≡ state_after p.tested.device (map event ls) };
 
-    ghost Overflows = { λ p ls. 2 ^ 64 ≤ p.played + length ls };
+    ghost overflows = { λ p ls. 2 ^ 64 ≤ p.played + length ls };
 
     fn line<W: ByteSink>(&mut self, line: &mut KeptLine, to: &mut W) -> Result<(), Failure> {
         let Some(number) = self.played.checked_add(1) else {

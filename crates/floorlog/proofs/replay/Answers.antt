@@ -15,7 +15,7 @@ pub returns-clause-whole : goal.returns-clause-whole
 returns-clause-whole g c =
     let new = c.new-player.ensures in
     all_played new.played new.device (left_in g.R.ByteSource.remaining c.args.from.now) _ _ _
-    c.in_ok-follow.ensures.whole c.in_ok-follow.ensures.leaves
+    c.in_ok-follow.ensures.whole c.in_ok-follow.ensures.left
 
 pub returns-clause-front : goal.returns-clause-front
 returns-clause-front g c =

@@ -27,11 +27,11 @@ returns-in-Ok-clause-whole g c =
     IfSome_then (left_in g.R.ByteSource.remaining c.args.from.now) c.loop.invariant
     (λ log u. (ended (flushed u c.read.ensures.keeps) none c.in-Ok.ensures.text).whole)
 
-pub returns-in-Ok-clause-leaves : goal.returns-in-Ok-clause-leaves
-returns-in-Ok-clause-leaves g c =
+pub returns-in-Ok-clause-left : goal.returns-in-Ok-clause-left
+returns-in-Ok-clause-left g c =
     let none = c.in_ok-read.ensures.end c.if-not-branch.true in
     IfSome_then (left_in g.R.ByteSource.remaining c.args.from.now) c.loop.invariant
-    (λ log u. left_so u none _ c.in-Ok.ensures.leaves)
+    (λ log u. left_so u none _ c.in-Ok.ensures.left)
 
 pub returns-in-Ok-clause-front : goal.returns-in-Ok-clause-front
 returns-in-Ok-clause-front g c =

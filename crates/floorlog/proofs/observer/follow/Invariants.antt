@@ -8,5 +8,5 @@ abbrev pub invariant-loop : goal.invariant-loop
 invariant-loop g l =
     let o = g.O.Observer in
     IfSome (left_in g.R.ByteSource.remaining l.initial.from) (λ log.
-    Underway o.output o.Leaves o.Overflows l.initial.observer log (g.W.ByteSink.contents l.initial.to)
+    Underway o.output o.leaves o.overflows l.initial.observer log (g.W.ByteSink.contents l.initial.to)
     (g.W.ByteSink.contents l.to) (left_in g.R.ByteSource.remaining l.from) l.counter l.observer)

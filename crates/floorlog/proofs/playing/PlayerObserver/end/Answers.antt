@@ -10,6 +10,6 @@ returns-clause-text g c =
     subst (WritesText _ _ _ _)
     (c.deref.ensures.0 ∙ c.put_last.ensures ∙ sym (printed_none p.tested.device p.played)) c.put.ensures
 
-pub returns-clause-leaves : goal.returns-clause-leaves
-returns-clause-leaves g c =
+pub returns-clause-left : goal.returns-clause-left
+returns-clause-left g c =
     on_ok_weaker _ (λ w. sym (state_none c.args.self.now.tested.device)) c.put.ensures.whole
