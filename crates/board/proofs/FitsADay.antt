@@ -1,19 +1,13 @@
 -- Lists that hand over a day are no longer than a day's.
 -- Assumes nothing.
-use Rattle.std.proofs.Common.{ℕ, List, length, arith}
+use Rattle.std.proofs.Common.{ℕ, List, arith}
 use Rattle.std.proofs.lemmas.List.FromFn.{length-map-range_with_len}
 use Rattle.day.specs.Days.{IsDay}
 use Rattle.day.specs.Verdicts.{InRange}
-use Rattle.board.specs.Lists.{Lists, FitADay, job_at, rig_at, placement_at, jobs_in, rigs_in, plan_in}
+use Rattle.board.specs.Lists.{Lists, FitADay, jobs_in, rigs_in, plan_in}
 
 pub in_range_fits : (l : Lists) (a : List ℕ) → InRange (rigs_in l) (plan_in l a) → FitADay l
-in_range_fits l a w = record {
-  few_jobs = omega (arith, w.few_jobs, length-map-range_with_len (placement_at l a) 0 (length l.starts));
-  few_rigs = omega (arith, w.few_rigs, length-map-range_with_len (rig_at l) 0 (length l.warm));
-}
+in_range_fits l a w = grind (arith, length-map-range_with_len)
 
 pub day_fits : (l : Lists) → IsDay (jobs_in l) (rigs_in l) → FitADay l
-day_fits l w = record {
-  few_jobs = omega (arith, w.few_jobs, length-map-range_with_len (job_at l) 0 (length l.starts));
-  few_rigs = omega (arith, w.few_rigs, length-map-range_with_len (rig_at l) 0 (length l.warm));
-}
+day_fits l w = grind (arith, length-map-range_with_len)

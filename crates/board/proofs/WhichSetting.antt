@@ -1,8 +1,8 @@
 -- The number of a setting: it tells one setting or none, 0 exactly where set-up gives 0, and the password's where
 -- set-up gives 8.
 -- Assumes nothing.
-use Rattle.std.proofs.Common.{ℕ, ◌≡◌, refl, ap, arith}
-use Rattle.std.specs.Prelude.{Option, Some, None, Result, Ok, Err}
+use Rattle.std.proofs.Common.{ℕ, ◌≡◌, ap, arith}
+use Rattle.std.specs.Prelude.{Option, None, Result}
 use Rattle.record.specs.declared.types.Device.{Device}
 use Rattle.record.specs.declared.set_up_error.SetUpError.{SetUpError}
 use Rattle.record.specs.Wanted.{Wanted}
@@ -12,15 +12,11 @@ use Rattle.record.specs.SetUpErrors.{setting_told, check_of}
 use Rattle.record.specs.Given.{set_up_given}
 use Rattle.record.specs.declared.types.Setting.{Setting}
 use Rattle.record.specs.declared.types.Setting.TheVariants.{Password}
-use Rattle.record.proofs.OutOfRange.{one_setting_place, setting_place_within}
 use Rattle.record.proofs.Results.{none_gives_0, gives_0_none, gives_3_first, gives_8_password}
 use Rattle.board.specs.Which.{setting_number}
 
 pub setting_number_back : (m n : Option Setting) → setting_number m ≡ setting_number n → m ≡ n
-setting_number_back None None e = refl
-setting_number_back None (Some t) e = absurd (omega (arith, setting_place_within t))
-setting_number_back (Some s) None e = absurd (omega (arith, setting_place_within s))
-setting_number_back (Some s) (Some t) e = ap Some (one_setting_place s t e)
+setting_number_back m n h = grind arith
 
 module _ (w : Wanted) where
   abbrev which : ℕ
@@ -40,5 +36,4 @@ module _ (w : Wanted) where
 
 -- what the check tells is what set-up tells
 pub checked : (r : Result Device SetUpError) → setting_told (check_of r) ≡ setting_told r
-checked (Ok d) = refl
-checked (Err e) = refl
+checked r = grind arith

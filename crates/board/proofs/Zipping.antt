@@ -1,7 +1,8 @@
 -- A list that is filled with what a function gives of each place.
 --   IsPut f ys xs i    the first i places of xs have what f gives of each, and the others what ys has there
 -- Assumes nothing.
-use Rattle.std.proofs.Common.{ℕ, ◌≡◌, ◌+◌, ◌<◌, List, [], ◌∷◌, ◌++◌, length, take, drop, sym, ap, subst, ◌∙◌, arith}
+use Rattle.std.proofs.lemmas.Grind.{common_steps}
+use Rattle.std.proofs.Common.{ℕ, ◌≡◌, ◌+◌, ◌<◌, List, length, take, drop, subst, arith}
 use Rattle.std.specs.Prelude.{map}
 use Rattle.std.specs.List.{range_with_len}
 use Rattle.std.proofs.Math.ListN.{set}
@@ -14,13 +15,8 @@ module _ {X : Type 0} (f : ℕ → X) (ys : List X) where
     pub rest : drop i xs ≡ drop i ys
 
   pub put_more : {xs : List X} {i : ℕ} {x : X} → IsPut xs i → x ≡ f i → i < length xs → IsPut (set xs i x) (i + 1)
-  put_more {xs} {i} {x} put made inside = record {
-    filled =
-        ap (λ (y : X). take (i + 1) (set xs i y)) made ∙ take_more_set xs i (f i) inside
-        ∙ ap (λ (s : List X). s ++ f i ∷ []) put.filled ∙ sym (map-range_with_len_more f 0 i i (omega arith));
-    rest =
-        drop-set-lt (i + 1) xs i x (omega arith) ∙ sym (drop-drop 1 i xs) ∙ ap (drop 1) put.rest ∙ drop-drop 1 i ys;
-  }
+  put_more {xs} {i} {x} put made inside =
+      grind (arith, common_steps, set, take_more_set, map-range_with_len_more, drop-set-lt, drop-drop)
 
   pub put_all : {xs : List X} {i n : ℕ} → IsPut xs i → i ≡ n → IsPut xs n
   put_all {xs} put end = subst (IsPut xs) end put

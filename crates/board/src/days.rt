@@ -88,6 +88,7 @@ impl FlatPlan {
 
 impl DayLists<'_> {
     // The verdict on the jobs, each on its rig of the list.
+    #[tactic(auto, using(crate::proofs::FitsADay::in_range_fits))]
     fn check(&self, rigs: &[u8]) -> Result<(), CheckError>
         ensures { Checks (day_lists self.now) rigs.now result }
     {

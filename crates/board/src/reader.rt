@@ -18,6 +18,7 @@ pub extern "C" fn pj_read_greeting(line: &[u8]) -> FlatGreeting
 }
 
 /// What a reply to the command says; what is no command is 3 at once.
+#[tactic(auto, using(controller::proofs::ReadShort::reading_short))]
 #[unsafe(no_mangle)]
 pub extern "C" fn pj_read_reply(k: Coded, line: &[u8]) -> FlatReading
     ensures { result ≡ read_by (coded_command k) line.now }

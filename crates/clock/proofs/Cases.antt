@@ -1,13 +1,12 @@
 -- Passing time by its cases: an illegal record comes back as it was, a legal one n seconds later.
 -- Assumes nothing.
+use Rattle.std.proofs.Common.{arith}
 use Rattle.std.proofs.Common.{ℕ, ◌≡◌, ap, true, false, not}
-use Rattle.std.proofs.lemmas.Bool.{not-true, not-false}
-use Rattle.std.specs.Prelude.{Result, Ok, Err}
-use Rattle.text.proofs.Choices.{if_yes, if_no, if_by}
+use Rattle.std.specs.Prelude.{Ok, Err}
+use Rattle.text.proofs.Choices.{if_yes, if_no}
 use Rattle.record.specs.Legal.{is_legal}
 use Rattle.record.specs.Given.{Given, accepted, refused, given_by}
 use Rattle.record.specs.declared.types.Device.{Device}
-use Rattle.record.specs.declared.refusal.Refusal.{Refusal}
 use Rattle.record.specs.declared.refusal.Refusal.TheVariants.{NotLegal}
 use Rattle.clock.specs.Second.{second, times}
 use Rattle.clock.specs.Passing.{passed}
@@ -17,9 +16,7 @@ pub passed_by : (P : Given Device → Type 0) (d : Device) (n : ℕ)
     → (is_legal d ≡ false → P (refused 1 d)) → (is_legal d ≡ true → P (accepted (times second n d)))
     → P (given_by d (passed d n))
 unfolding passed
-passed_by P d n refuse accept =
-    if_by (λ (r : Result Device Refusal). P (given_by d r)) (not (is_legal d))
-    (λ h. refuse (not-true (is_legal d) h)) (λ h. accept (not-false (is_legal d) h))
+passed_by P d n refuse accept = grind arith
 
 module _ (d : Device) (n : ℕ) where
   pub passed_illegal : is_legal d ≡ false → passed d n ≡ Err NotLegal

@@ -2,8 +2,8 @@
 -- after the other, and two changes as one.
 --   ChangedTo f l ms count after k      the loop over an array of lamps has changed the first k by so many marks
 -- Assumes nothing.
-use Rattle.std.proofs.Common.{ℕ, zero, suc, ◌+◌, ◌<◌, ◌≤◌, ◌≡◌, refl, sym, ap, ap₂, ◌∙◌, Bool, true, false, List, []}
-use Rattle.std.proofs.Common.{◌∷◌, add-one, arith, length, slice_index_or, set, take}
+use Rattle.std.proofs.Common.{ℕ, zero, suc, ◌+◌, ◌<◌, ◌≤◌, ◌≡◌, refl, sym, ap, ap₂, Bool, true, false, List, []}
+use Rattle.std.proofs.Common.{◌∷◌, arith, length, slice_index_or, set, take}
 use Rattle.std.specs.Prelude.{if◌then◌else◌}
 use Rattle.text.proofs.Choices.{if_no}
 use Rattle.record.specs.Limits.{lamps_most}
@@ -55,15 +55,13 @@ module _ {A : Type 0} (f : A → A) where
   one_more [] l d k h g = absurd (omega arith)
   one_more (m ∷ ms) [] d k h g = absurd (omega arith)
   one_more (m ∷ ms) (x ∷ l) d zero h g = refl
-  one_more (m ∷ ms) (x ∷ l) d (suc k) h g =
-      ap (λ (t : List A). (if m then f x else x) ∷ t) (one_more ms l d k (omega arith) (omega arith))
+  one_more (m ∷ ms) (x ∷ l) d (suc k) h g = grind (arith, one_more ms l d k (omega arith) (omega arith))
 
   one_more_where : (ms : List Bool) (l : List A) (d : A) (k : ℕ) → k < length ms → k < length l
       → set (changed_where f (take k ms) l) k
       (if slice_index_or ms k false then f (slice_index_or l k d) else slice_index_or l k d)
       ≡ changed_where f (take (k + 1) ms) l
-  one_more_where ms l d k h g =
-      one_more ms l d k h g ∙ ap (λ (j : ℕ). changed_where f (take j ms) l) (sym (add-one k))
+  one_more_where ms l d k h g = grind (arith, one_more)
 
   -- what changes nothing
   pub where_same : ((x : A) → f x ≡ x) → (ms : List Bool) (l : List A) → changed_where f ms l ≡ l
@@ -87,27 +85,18 @@ module _ (f : ℕ → ℕ) (l : List ℕ) (ms : List Bool) (count : ℕ) where
       pub one_changed : length l ≡ lamps_most → k < lamps_most → k < count → {v : ℕ}
           → v ≡ (if slice_index_or ms k false then f (slice_index_or l k 0) else slice_index_or l k 0)
           → ChangedTo (set after k v) (k + 1)
-      one_changed long h c e = record {
-        counted = omega arith;
-        first =
-            (λ i. set (done.first i) k (e i))
-            ∙ one_more_where f ms l 0 k (omega (arith, marks_long)) (omega (arith, long));
-      }
+      one_changed long h c e = grind (arith, one_more_where)
 
       -- changed where it lies: what is read there is what stood there
       pub one_changed_there : length l ≡ lamps_most → k < lamps_most → k < count → {v : ℕ}
           → v ≡ (if slice_index_or ms k false then f (slice_index_or after k 0) else slice_index_or after k 0)
           → ChangedTo (set after k v) (k + 1)
-      one_changed_there long h c e =
-          let at = ap (λ (m : List ℕ). slice_index_or m k 0) done.first ∙ where_next f ms l 0 k in
-          one_changed long h c (e ∙ (λ i. if slice_index_or ms k false then f (at i) else at i))
+      one_changed_there long h c e = grind (arith, where_next, one_changed)
 
 pub changed_where-changed_where : {A : Type 0} (f g : A → A) (ms : List Bool) (l : List A)
     → changed_where f ms (changed_where g ms l) ≡ changed_where (λ x. f (g x)) ms l
 unfolding changed_where
 changed_where-changed_where f g [] l = refl
 changed_where-changed_where f g (m ∷ ms) [] = refl
-changed_where-changed_where {A} f g (true ∷ ms) (x ∷ l) =
-    ap (λ (t : List A). f (g x) ∷ t) (changed_where-changed_where f g ms l)
-changed_where-changed_where {A} f g (false ∷ ms) (x ∷ l) =
-    ap (λ (t : List A). x ∷ t) (changed_where-changed_where f g ms l)
+changed_where-changed_where {A} f g (true ∷ ms) (x ∷ l) = grind (arith, changed_where-changed_where f g ms l)
+changed_where-changed_where {A} f g (false ∷ ms) (x ∷ l) = grind (arith, changed_where-changed_where f g ms l)

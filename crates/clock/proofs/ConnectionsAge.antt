@@ -1,8 +1,7 @@
 -- A connection after n seconds: one that does not age stays, one that does is n older, or closed from the age 30 on.
 -- Assumes nothing.
 use Rattle.std.proofs.Common.{ℕ, zero, suc, ◌+◌, ◌≤◌, ◌<◌, ◌≡◌, ap, true, false, ⊎_elim, add-zero, arith}
-use Rattle.std.proofs.Common.{nat_lt, lt-ltb, le-ltb}
-use Rattle.text.proofs.Choices.{if_all}
+use Rattle.std.proofs.Common.{lt-ltb, le-ltb}
 use Rattle.record.specs.Limits.{age_end}
 use Rattle.record.specs.Updates.{aged}
 use Rattle.record.specs.Legal.{is_timed}
@@ -51,8 +50,7 @@ closes (suc (suc n)) c e g h =
 module _ (P : Connection → Type 0) (none : P closed) (older : (c : Connection) (age : ℕ) → P c → P (aged c age)) where
   connection_second_lem : (c : Connection) → P c → P (connection_second c)
   unfolding connection_second
-  connection_second_lem c p =
-      if_all P (is_timed c.phase) (if_all P (nat_lt (c.age + 1) age_end) (older c (c.age + 1) p) none) p
+  connection_second_lem c p = grind arith
 
   pub connection_then : (n : ℕ) (c : Connection) → P c → P (times connection_second n c)
   connection_then n c p = times_keeps P connection_second connection_second_lem n c p

@@ -1,17 +1,16 @@
 -- n seconds in one go: the closed forms are n times one second, for the own part, each connection, and so the device.
 -- Assumes nothing.
-use Rattle.std.proofs.Common.{ℕ, zero, suc, ◌≤◌, arith, ◌≡◌, refl, sym, ap, ◌∙◌, Bool, true, false, List, [], ◌∷◌, map}
-use Rattle.std.proofs.Common.{slice_index_or}
+use Rattle.std.proofs.lemmas.Grind.{common_steps}
+use Rattle.std.proofs.Common.{ℕ, zero, suc, ◌≤◌, arith, ◌≡◌, refl, sym, ap, ◌∙◌, Bool, List, [], ◌∷◌, map}
 use mathlib.Core.List.{map-map}
 use Rattle.std.specs.Prelude.{if◌then◌else◌}
-use Rattle.text.proofs.Choices.{if_all}
 use Rattle.record.specs.Views.{power_seen, with_power, IsPowerOf, is_burning}
 use Rattle.record.specs.declared.views.Power.{Power}
 use Rattle.record.proofs.PowerSeen.{seen_again}
 use Rattle.record.specs.Updates.{with_seconds}
 use Rattle.record.specs.declared.types.Settings.{Settings}
 use Rattle.record.specs.declared.types.Own.{Own}
-use Rattle.record.specs.Places.{no_connection, connection_at}
+use Rattle.record.specs.Places.{connection_at}
 use Rattle.record.specs.declared.types.Connection.{Connection}
 use Rattle.record.specs.declared.types.Device.{Device}
 use Rattle.clock.specs.Second.{times, changed_where, one_more, power_second, lamps_second, marks_in, own_second}
@@ -23,8 +22,7 @@ use Rattle.clock.proofs.PowerTurns.{power_none, power_once, power_more, is_burni
 
 lamps_none : (p : Power) (ms : List Bool) (l : List ℕ) → lamps_after 0 p ms l ≡ l
 unfolding times
-lamps_none p ms l =
-    if_all (λ (x : List ℕ). x ≡ l) (is_burning p) (where_same (times one_more 0) (λ x. refl) ms l) refl
+lamps_none p ms l = grind (arith, where_same)
 
 lamps_once : (p : Power) (ms : List Bool) (l : List ℕ) → lamps_second p ms l ≡ lamps_after 1 p ms l
 unfolding times
@@ -36,8 +34,7 @@ module _ (ms : List Bool) (l : List ℕ) (n : ℕ) where
       else (if lit then changed_where (times one_more n) ms l else l))
       ≡ (if lit then changed_where (times one_more (suc n)) ms l else l)
   unfolding times
-  burnt_more true = changed_where-changed_where one_more (times one_more n) ms l
-  burnt_more false = refl
+  burnt_more lit = grind (arith, changed_where-changed_where)
 
   lamps_more : (p : Power) → lamps_second (power_after n p) ms (lamps_after n p ms l) ≡ lamps_after (suc n) p ms l
   lamps_more p = rw (is_burning-power_after n p) (burnt_more (is_burning p))
@@ -66,8 +63,7 @@ module _ (s : Settings) (o : Own) where
 pub own_in_one_go : (s : Settings) (o : Own) {w c : ℕ} → IsPowerOf w c o.power o.left → (n : ℕ)
     → times (own_second s) n o ≡ own_after s o n
 unfolding times
-own_in_one_go s o t zero = grind (arith, power_none, lamps_none)
-own_in_one_go s o t (suc n) = one_more_lem s o n
+own_in_one_go s o h n = grind (arith, power_none, lamps_none, one_more_lem)
 
 -- the parts pass their seconds each for itself
 pub parts_pass : (n : ℕ) (d : Device) → times second n d ≡ parts_after n d
@@ -89,12 +85,4 @@ parts_pass (suc n) d =
 -- so at each place the connection passes its own
 pub place_passes : (n : ℕ) (d : Device) (p : ℕ)
     → connection_at (times second n d) p ≡ times connection_second n (connection_at d p)
-place_passes n d p =
-    ap (λ (e : Device). connection_at e p) (parts_pass n d) ∙ mapped d.connections p
-  where
-    mapped : (cs : List Connection) (k : ℕ)
-        → slice_index_or (map (times connection_second n) cs) k no_connection
-        ≡ times connection_second n (slice_index_or cs k no_connection)
-    mapped [] k = sym (untimed_stays n no_connection refl)
-    mapped (c ∷ cs) zero = refl
-    mapped (c ∷ cs) (suc k) = mapped cs k
+place_passes n d p = grind (arith, common_steps, parts_pass, untimed_stays)

@@ -1,7 +1,7 @@
 -- A lamp's seconds after n, by its place: where the lamps burn each enabled one gains n, stopped at the limit (RULES,
 -- Lamps); else it stays, and so does the room past the lamps.
 -- Assumes nothing.
-use Rattle.std.proofs.Common.{ℕ, ◌≤◌, ◌<◌, ◌≡◌, refl, ap, ◌∙◌, Bool, true, false, ◌&&◌, List, arith, length}
+use Rattle.std.proofs.Common.{ℕ, ◌≤◌, ◌<◌, ◌≡◌, ap, ◌∙◌, Bool, true, false, ◌&&◌, List, arith, length}
 use Rattle.std.proofs.Common.{slice_index_or, get_or-take}
 use Rattle.std.specs.Prelude.{if◌then◌else◌}
 use Rattle.record.specs.Limits.{lamp_limit, is_lit}
@@ -26,8 +26,7 @@ module _ (ms : List Bool) (n : ℕ) (l : List ℕ) (k : ℕ) where
 
   used : (lit : Bool) → k < length l → slice_index_or l k 0 ≤ lamp_limit
       → slice_index_or (after lit) k 0 ≡ lamp_after n (lit && slice_index_or ms k false) (slice_index_or l k 0)
-  used true inside within = grind (arith, where_at, burns)
-  used false inside within = refl
+  used lit h g = grind (arith, where_at, burns)
 
 module _ (s : Settings) (o : Own) (n : ℕ) where
   pub own_lamp_after : IsOwn s o → (k : ℕ) → k < s.lamp_count

@@ -1,6 +1,7 @@
 -- Demand 1 for the call of this crate: the number by legality, and a refusal leaves the record that was given.
 -- Assumes nothing.
-use Rattle.std.proofs.Common.{ℕ, ◌≡◌, refl, sym, ap, Bool}
+use Rattle.std.proofs.Common.{arith}
+use Rattle.std.proofs.Common.{ℕ, ◌≡◌, sym, ap, Bool}
 use Rattle.std.specs.Prelude.{if◌then◌else◌}
 use Rattle.record.specs.Legal.{is_legal}
 use Rattle.record.specs.Given.{given_by}
@@ -17,5 +18,4 @@ module _ (d : Device) (n : ℕ) where
       passed_by (λ r. r.number ≡ number (is_legal d)) d n (λ h. sym (ap number h)) (λ h. sym (ap number h))
 
   pub passed_refusal : ((given_by d (passed d n)).number ≡ 0 → ⊥) → (given_by d (passed d n)).device ≡ d
-  passed_refusal =
-      passed_by (λ r. (r.number ≡ 0 → ⊥) → r.device ≡ d) d n (λ h e. refl) (λ h e. absurd (e refl))
+  passed_refusal = grind arith

@@ -2,15 +2,14 @@
 -- connection legal.
 -- Assumes nothing.
 use Rattle.std.proofs.Common.{ℕ, ◌+◌, ◌≤◌, ◌<◌, ◌≡◌, refl, sym, ◌∙◌, Bool, true, false, List, arith, length}
-use Rattle.std.proofs.Common.{slice_index_or, length-take, nat_lt, ltb-true}
+use Rattle.std.proofs.Common.{slice_index_or, length-take, ltb-true}
 use Rattle.std.proofs.lemmas.List.{length-map}
 use Rattle.std.proofs.Math.ListN.{get_or-eq_default}
 use Rattle.std.specs.Prelude.{if◌then◌else◌}
-use Rattle.text.proofs.Choices.{if_all, if_by}
+use Rattle.text.proofs.Choices.{if_all}
 use Rattle.record.specs.Limits.{lamps_most, lamp_limit, age_end}
 use Rattle.record.specs.Rules.{is_lamps}
 use Rattle.record.specs.Legal.{is_timed, is_legal}
-use Rattle.record.specs.Record.{closed}
 use Rattle.record.specs.declared.types.Settings.{Settings}
 use Rattle.record.specs.declared.types.Own.{Own}
 use Rattle.record.specs.declared.types.Connection.{Connection}
@@ -36,8 +35,7 @@ use Rattle.clock.proofs.Cases.{passed_by}
 -- the lamps, by their places
 one_within : (x : ℕ) → x ≤ lamp_limit → one_more x ≤ lamp_limit
 unfolding one_more
-one_within x h =
-    if_by (λ (y : ℕ). y ≤ lamp_limit) (nat_lt x lamp_limit) (λ l. omega (arith, ltb-true x lamp_limit l)) (λ l. h)
+one_within x h = grind arith
 
 module _ (s : Settings) (o : Own) (t : IsOwn s o) where
   abbrev count : ℕ
@@ -48,8 +46,7 @@ module _ (s : Settings) (o : Own) (t : IsOwn s o) where
 
   -- past the lamps there is no mark
   none_past : (k : ℕ) → count ≤ k → slice_index_or marks k false ≡ false
-  none_past k h =
-      get_or-eq_default marks false (omega (arith, length-take count o.enabled))
+  none_past k h = grind (arith, get_or-eq_default, length-take)
 
   burnt_kept : Fills lamps_most is_lamps (changed_where one_more marks o.lamps) count
   burnt_kept =
@@ -83,11 +80,7 @@ older_kept c t e l = assumption (t, timed_age c.phase (c.age + 1) e l)
 
 pub connection_second_kept : (c : Connection) → IsConnection c → IsConnection (connection_second c)
 unfolding connection_second
-connection_second_kept c t =
-    if_by IsConnection (is_timed c.phase)
-    (λ e. if_by IsConnection (nat_lt (c.age + 1) age_end)
-    (λ l. older_kept c t e (ltb-true (c.age + 1) age_end l)) (λ l. (connection_is closed).0 closed_legal))
-    (λ e. t)
+connection_second_kept c t = grind (arith, older_kept, ltb-true, connection_is, closed_legal)
 
 -- the record
 pub second_legal : (d : Device) → IsLegal d → IsLegal (second d)

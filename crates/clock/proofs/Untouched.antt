@@ -1,7 +1,8 @@
 -- Time changes nothing but power, seconds left, lamps, and an awaiting or failed connection.
 --   Untouched before after      all else is after as it was before
 -- Assumes nothing.
-use Rattle.std.proofs.Common.{ℕ, ◌≡◌, refl, ap, ◌∙◌, false}
+use Rattle.std.proofs.Common.{arith}
+use Rattle.std.proofs.Common.{ℕ, ◌≡◌, refl, ap, false}
 use Rattle.record.specs.Legal.{is_timed}
 use Rattle.record.specs.Updates.{with_power_left, with_seconds}
 use Rattle.record.specs.Places.{connection_at}
@@ -14,7 +15,6 @@ use Rattle.clock.specs.Passing.{passed}
 use Rattle.clock.proofs.ConnectionsAge.{untimed_stays}
 use Rattle.clock.proofs.InOneGo.{parts_pass, place_passes}
 use Rattle.clock.proofs.Repeated.{times_keeps}
-use Rattle.clock.proofs.Cases.{passed_by}
 
 pub record Untouched (before after : Device) : Type 0 where
   pub settings : after.settings ≡ before.settings
@@ -38,14 +38,8 @@ module _ (n : ℕ) (s : Settings) (o : Own) where
       n o refl
 
 pub time_leaves : (n : ℕ) (d : Device) → Untouched d (times second n d)
-time_leaves n d = record {
-  settings = ap (λ (e : Device). e.settings) (parts_pass n d);
-  own = rw (parts_pass n d) (own_else_stays n d.settings d.own);
-  connection = λ p untimed. place_passes n d p ∙ untimed_stays n (connection_at d p) untimed;
-}
+time_leaves n d = grind (arith, parts_pass, own_else_stays, place_passes, untimed_stays)
 
 pub passed_leaves : (d : Device) (n : ℕ) → Untouched d (left_by d (passed d n))
-passed_leaves d n =
-    passed_by (λ r. Untouched d r.device) d n
-    (λ h. record { settings = refl; own = refl; connection = λ p e. refl })
-    (λ h. time_leaves n d)
+unfolding passed
+passed_leaves d n = grind (arith, time_leaves)

@@ -8,6 +8,7 @@ use crate::{connections, own};
 use record::types::Device;
 
 /// So many seconds pass. No legal record is refused.
+#[tactic(auto, using(crate::proofs::InOneGo::parts_pass, crate::proofs::Cases::passed_accepted))]
 pub fn pass(device: &mut Device, seconds: u32)
     requires { is_legal device.old ≡ true }
     ensures { Ok device.new ≡ passed device.old seconds }

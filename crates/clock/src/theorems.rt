@@ -8,6 +8,7 @@ ghost use Rattle.record.specs.declared.refusal.Refusal.{Refusal};
 ghost use Rattle.clock.specs.Passing.{passed};
 
 /// Two results that meet the promise of the call are equal, the record that stands in its place included.
+#[tactic(auto, using(record::proofs::GivenTold::one_given))]
 pub fn one_result()
     ensures { (d : Device) (seconds : ℕ) (r s : Result (Unit {0}) Refusal) (x y : Device)
         → (gives r x ≡ passed d seconds) × OnErr r (x ≡ d) → (gives s y ≡ passed d seconds) × OnErr s (y ≡ d)
@@ -15,6 +16,7 @@ pub fn one_result()
 {}
 
 /// The fault mark changes nothing that time does: to set it and let n seconds pass is to let them pass and set it.
+#[tactic(auto, using(crate::proofs::FaultMark::fault_and_time))]
 pub fn the_fault_mark_leaves_time()
     ensures { (d : Device) (n : ℕ) (m : Bool)
         → passed (left_by d (fault_set d m)) n ≡ fault_set (left_by d (passed d n)) m }

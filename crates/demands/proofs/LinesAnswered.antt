@@ -4,7 +4,8 @@
 -- read of the lent memory is the reply, so our calls on it are the calls of `device`, and its laws of streams hold of
 -- them.
 -- Assumes nothing.
-use Rattle.std.proofs.Common.{ℕ, ◌+◌, ◌≤◌, ◌<◌, ◌≡◌, refl, sym, ap, true, List, ◌++◌, ⊎_elim, arith, length}
+use Rattle.std.proofs.lemmas.Grind.{common_steps}
+use Rattle.std.proofs.Common.{ℕ, ◌≤◌, ◌<◌, ◌≡◌, refl, sym, ap, true, List, ◌++◌, ⊎_elim, arith, length}
 use Rattle.std.proofs.Common.{length-append, le-leb, codes, false, append_assoc}
 use Rattle.std.proofs.lemmas.Bool.{lt-leb}
 use Rattle.text.proofs.Choices.{if_yes, if_no}
@@ -15,7 +16,7 @@ use Rattle.record.specs.Limits.{awaiting, opened, places_count}
 use Rattle.record.specs.Places.{connection_at, is_shut}
 use Rattle.record.specs.declared.types.Device.{Device}
 use Rattle.device.specs.Answering.{Answered, line_answer, swallowed}
-use Rattle.device.specs.Receiving.{digest_long, set_up_password, is_match}
+use Rattle.device.specs.Receiving.{is_match}
 use Rattle.device.specs.Calls.{Result, reply_room, received}
 use Rattle.device.proofs.LinesReceived.{line_result, line-received, overlong-line-received, led_line-received}
 use Rattle.ours.specs.Board.{lent_by, ours}
@@ -58,38 +59,31 @@ module _ (d : Device) (p : ℕ) (l m : List ℕ) (plain : no_cr l ≡ true) (eno
   pub line_answered : BetweenLines opened d p
       → let bs = l ++ codes "\r" in AnsweredAs ours d p bs (answer_to d l) (ours.receive d p bs m)
   line_answered between =
-      let bs = l ++ codes "\r" in
-      let legal = between.legal in
-      let unmarked = between.unmarked in
-      let none = between.none_held in
-      let count : length l + 1 ≡ length bs = sym (length-append l (codes "\r")) in
-      ⊎_elim (λ (short : length l ≤ command_most).
-      result_answers d p bs m tables (answer_to d l)
-      (line-received d p between.there (length m) legal enough unmarked none l plain between.in_phase short) count
-      (short_answered short))
-      (λ (long : command_most < length l).
-      result_answers d p bs m (swallowed d.own) (answer_to d l)
-      (overlong-line-received d p between.there (length m) legal enough unmarked none l plain
-      between.in_phase long) count
-      (long_swallowed long))
-      (le_or_lt (length l) command_most)
+      grind (
+        arith,
+        common_steps,
+        length-append,
+        ⊎_elim,
+        result_answers,
+        line-received,
+        short_answered,
+        overlong-line-received,
+        long_swallowed,
+        le_or_lt,
+      )
 
   pub led_line_answered : BetweenLines awaiting d p → length l ≤ command_most
       → let bs = digest_for d p ++ l ++ codes "\r" in AnsweredAs ours d p bs (answer_to d l) (ours.receive d p bs m)
   led_line_answered between short =
-      let bs = digest_for d p ++ l ++ codes "\r" in
-      let count : digest_long + length l + 1 ≡ length bs
-      = omega (
+      grind (
         arith,
-        length-append (digest_for d p ++ l) (codes "\r"),
-        length-append (digest_for d p) l,
-        length-leading_digest (connection_at d p).random (set_up_password d.settings),
-      ) in
-      result_answers d p bs m tables (answer_to d l)
-      (led_line-received d p between.there (length m) between.legal enough between.unmarked
-      between.none_held l plain
-      between.in_phase short)
-      count (short_answered short)
+        common_steps,
+        length-append,
+        length-leading_digest,
+        result_answers,
+        led_line-received,
+        short_answered,
+      )
 
 same_calls : (m : List ℕ) (p : ℕ) → call_on ours m p ≡ receives (length m) p
 same_calls m p = grind (arith, over_front)

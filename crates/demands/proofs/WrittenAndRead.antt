@@ -6,6 +6,7 @@
 --                              command leaves it on a connection open between lines with the random number kept, the
 --                              reply read as meant
 -- Assumes nothing.
+use Rattle.std.proofs.lemmas.Grind.{common_steps}
 use Rattle.std.proofs.Common.{ℕ, ◌≤◌, ◌<◌, ◌≡◌, refl, sym, ap, subst, ◌∙◌, true, false, List, ◌++◌, arith, length, ◌^◌}
 use Rattle.std.proofs.Common.{Bool}
 use Rattle.std.specs.Prelude.{Ok}
@@ -122,14 +123,7 @@ pub opening_greets_back : (d : Device) (r room : ℕ) → is_legal d ≡ true �
     → let o = opened_by d r room in
     (o.number ≡ 0) × (read_greeting o.reply ≡ greeted_on (connection_at o.device (place_taken d room)))
 opening_greets_back d r room legal free enough word =
-    let p = lowest_shut d.connections in
-    let here = placed_here d (legal_places d legal) p free d.own (greeted d.settings r) in
-    subst (λ (k : ℕ). ((opened_by d r room).number ≡ 0)
-    × (read_greeting (opened_by d r room).reply ≡ greeted_on (connection_at (opened_by d r room).device k)))
-    (sym (opened_lowest d r room legal enough free))
-    (subst (λ (o : Result Device). (o.number ≡ 0)
-    × (read_greeting o.reply ≡ greeted_on (connection_at o.device p))) (sym (opened_greeted d r room legal enough free))
-    (refl, read_greeting-greeting d.settings r word ∙ sym (ap greeted_on here)))
+    grind (arith, common_steps, placed_here, legal_places, opened_lowest, opened_greeted, read_greeting-greeting)
 
 pub writes : (c : Command) (secured : Bool) (random : ℕ) (password m : List ℕ)
     → let w = ours.write c secured random password m in

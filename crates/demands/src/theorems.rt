@@ -25,6 +25,7 @@ ghost use Rattle.demands.specs.WrongLamps.{two_lamps, one_rests};
 
 /// A controller whose first line ends without the matching digest reads the ERRA line, whatever it asked, and whatever
 /// part of that line came before (RULES, Connection and Controller).
+#[tactic(auto, using(crate::proofs::LinesAnswered::outsider_reads_erra))]
 pub fn outsiders_read_erra()
     ensures { (d : Device) (p : ℕ) (bytes : List ℕ) (room : ℕ) (c : Command) → is_legal d ≡ true → reply_room ≤ room
         → p < places_count → let k = connection_at d p in k.phase ≡ awaiting
@@ -33,6 +34,7 @@ pub fn outsiders_read_erra()
 {}
 
 /// The lines that settle the rules are answered so, and eleven of Class 2 (RULES, Commands and Class 2).
+#[tactic(auto, using(crate::proofs::Settled::settled, crate::proofs::Settled::settled_class_2))]
 pub fn ours_settles()
     ensures class_1 { Settles ours }
     ensures class_2 { SettlesClass2 ours }
@@ -40,6 +42,7 @@ pub fn ours_settles()
 
 /// The bounds on a reply's length are reached: in Class 1 by 32 inputs, in Class 2 by the longest name of an input
 /// (RULES, Commands).
+#[tactic(auto, using(crate::proofs::Samples::longest_before_reached, crate::proofs::Samples::longest_reply_reached))]
 pub fn the_longest_replies_are_reached()
     ensures class_1 { (ours.receive (opened_after sockets) 0 (codes "%1INST ?\r") memory).length ≡ longest_before }
     ensures class_2 { (ours.receive (opened_after long_named) 0 (codes "%2INNM ?11\r") memory).length ≡ longest_reply }

@@ -1,10 +1,10 @@
 -- What an event leaves of the places (RULES, Floor log): the one that a log drives may change, and every other is as
 -- much later as the event lets pass.
 -- Assumes nothing.
-use Rattle.std.proofs.Common.{ℕ, ◌≡◌, refl, sym, ap, subst, ◌∙◌, Bool, true, false, List, [], ◌∷◌, map, slice_index_or}
+use Rattle.std.proofs.Common.{arith}
+use Rattle.std.proofs.Common.{ℕ, ◌≡◌, refl, sym, ap, subst, ◌∙◌, Bool, List, [], ◌∷◌, map, slice_index_or}
 use Rattle.std.proofs.Common.{set}
 use Rattle.std.proofs.lemmas.List.{set-get_or}
-use Rattle.record.specs.Legal.{is_legal}
 use Rattle.record.specs.Places.{no_connection, connection_at}
 use Rattle.record.specs.Record.{blank}
 use Rattle.record.specs.declared.types.Connection.{Connection}
@@ -16,7 +16,6 @@ use Rattle.clock.proofs.Cases.{passed_by}
 use Rattle.device.specs.Calls.{reply_room, greeted}
 use Rattle.device.proofs.Cases.{received_by, opened_by_lem, closed_by_lem}
 use Rattle.floorlog.specs.declared.line.Says.{Says}
-use Rattle.floorlog.specs.declared.line.Says.TheVariants.{Opens, Receives, Passes, Closes, NoSuch}
 use Rattle.floorlog.specs.Events.{LogEvent, opens, receives, passes, closes, no_such, event_of}
 use Rattle.floorlog.specs.Doing.{log_place, did}
 use Rattle.floorlog.specs.Told.{seconds_of, places_after, Drives}
@@ -30,8 +29,7 @@ none_later cs =
     ap (λ (e : Device). e.connections) (sym (parts_pass 0 d) ∙ no_seconds d)
 
 same_places : (legal : Bool) (cs : List Connection) → places_after legal 0 cs ≡ cs
-same_places true cs = none_later cs
-same_places false cs = refl
+same_places legal cs = grind (arith, none_later)
 
 -- what was put in its place stands there
 put_there : (cs : List Connection) (c : Connection)
@@ -48,9 +46,7 @@ module _ (d : Device) where
   Kept after = set before log_place (connection_at after log_place) ≡ after.connections
 
   pub none_pass : (after : Device) → Kept after → Drives 0 d after
-  none_pass after kept =
-      ap (λ (cs : List Connection). set cs log_place (connection_at after log_place)) (same_places (is_legal d) before)
-      ∙ kept
+  none_pass after kept = grind (arith, same_places)
 
   pub itself_kept : Kept d
   itself_kept = set-get_or before log_place no_connection
@@ -90,11 +86,7 @@ module _ (d : Device) where
 
 -- the seconds are the line's, whatever it would have received
 seconds_said : (says : Says) (bs : List ℕ) → seconds_of (event_of says []) ≡ seconds_of (event_of says bs)
-seconds_said (Opens x) bs = refl
-seconds_said Receives bs = refl
-seconds_said (Passes n) bs = refl
-seconds_said Closes bs = refl
-seconds_said NoSuch bs = refl
+seconds_said says bs = grind arith
 
 pub driven : (d : Device) (says : Says) (bs : List ℕ) {after : Device} → after ≡ (did d (event_of says bs)).device
     → Drives (seconds_of (event_of says [])) d after

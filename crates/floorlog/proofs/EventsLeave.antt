@@ -2,10 +2,8 @@
 -- back as it was, with 1 where the line has a form.
 --   illegal_number e    the number of the event e on a record that is not legal
 -- Assumes nothing.
+use Rattle.std.proofs.Common.{arith}
 use Rattle.std.proofs.Common.{◌≡◌, refl, sym, ap, false, ℕ, List}
-use Rattle.std.specs.Prelude.{Result}
-use Rattle.record.specs.Given.{given_by}
-use Rattle.record.specs.declared.refusal.Refusal.{Refusal}
 use Rattle.text.specs.Words.{over}
 use Rattle.record.specs.Legal.{is_legal}
 use Rattle.record.specs.declared.types.Device.{Device}
@@ -18,11 +16,11 @@ use Rattle.device.proofs.Illegal.{received_illegal, closed_illegal}
 use Rattle.device.proofs.Illegal.{received_legality, opened_legality, closed_legality}
 use Rattle.record.specs.declared.refusal.Refusal.TheVariants.{NotLegal}
 use Rattle.floorlog.specs.declared.line.Says.{Says}
-use Rattle.floorlog.specs.declared.line.Says.TheVariants.{Opens, Receives, Passes, Closes, NoSuch}
+use Rattle.floorlog.specs.declared.line.Says.TheVariants.{NoSuch}
 use Rattle.floorlog.specs.declared.outcome.Outcome.TheVariants.{Refused}
 use Rattle.floorlog.specs.Outcomes.{outcome_text}
 use Rattle.floorlog.specs.Events.{LogEvent, opens, receives, passes, closes, no_such, event_of}
-use Rattle.floorlog.specs.Doing.{changed_to, log_place, did, outcome, shown}
+use Rattle.floorlog.specs.Doing.{log_place, did, shown}
 use Rattle.floorlog.proofs.LogOpenings.{log_opened_by, log_opened_illegal}
 
 abbrev pub illegal_number : LogEvent → ℕ
@@ -51,11 +49,7 @@ module _ (d : Device) where
 
   pub did_illegal : (e : LogEvent) → is_legal d ≡ false → did d e ≡ refused_by (illegal_number e) d
   unfolding did
-  did_illegal (opens r) h = log_opened_illegal d r h
-  did_illegal (receives bs) h = received_illegal d log_place bs reply_room h
-  did_illegal (passes n) h = ap (λ (r : Result Device Refusal). changed_to (given_by d r)) (passed_illegal d n h)
-  did_illegal closes h = closed_illegal d log_place h
-  did_illegal no_such h = refl
+  did_illegal e h = grind (arith, log_opened_illegal, received_illegal, passed_illegal, closed_illegal)
 
   pub illegal_kept : (e : LogEvent) → is_legal d ≡ false → d ≡ (did d e).device
   illegal_kept e h = ap (λ (r : Played Device). r.device) (sym (did_illegal e h))
@@ -65,8 +59,4 @@ module _ (d : Device) where
 
   pub illegal_text : (says : Says) (bs m : List ℕ) → is_legal d ≡ false → (says ≡ NoSuch → ⊥)
       → outcome_text (Refused NotLegal) m ≡ shown (event_of says bs) (did d (event_of says bs))
-  illegal_text (Opens r) bs m h some = ap outcome (sym (did_illegal (opens r) h))
-  illegal_text Receives bs m h some = ap outcome (sym (did_illegal (receives bs) h))
-  illegal_text (Passes n) bs m h some = ap outcome (sym (did_illegal (passes n) h))
-  illegal_text Closes bs m h some = ap outcome (sym (did_illegal closes h))
-  illegal_text NoSuch bs m h some = absurd (some refl)
+  illegal_text says bs m h g = grind (arith, did_illegal)

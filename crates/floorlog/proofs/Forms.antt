@@ -1,9 +1,9 @@
 -- What a line says, case by case.
 -- Assumes nothing.
 use Rattle.std.specs.List.{list_all}
-use Rattle.std.proofs.Common.{ℕ, ◌≤◌, ◌<◌, ◌≡◌, ap, ◌∙◌, true, false, ◌&&◌, List, arith, length, nat_le, le-leb}
+use Rattle.std.proofs.Common.{ℕ, ◌≤◌, ◌<◌, ◌≡◌, true, false, ◌&&◌, List, arith, length, nat_le, le-leb}
 use Rattle.std.proofs.lemmas.Bool.{lt-leb}
-use Rattle.text.proofs.Choices.{if_yes, both}
+use Rattle.text.proofs.Choices.{both}
 use Rattle.numbers.specs.Decimal.{is_digit, decimal_value}
 use Rattle.clock.specs.Passing.{seconds_most}
 use Rattle.floorlog.specs.declared.line.Says.TheVariants.{Passes, NoSuch}
@@ -25,8 +25,7 @@ module _ (s : List ℕ) (some : 1 ≤ length s) (few : length s ≤ 10) where
 
     pub seconds_passes : v ≤ seconds_most → seconds_said s ≡ Passes v
     unfolding seconds_said
-    seconds_passes h =
-        if_yes _ _ (both (both sized figures) (le-leb (decimal_value s) seconds_most (omega arith))) ∙ ap Passes value
+    seconds_passes h = grind arith
 
 -- any line
 module _ (l : List ℕ) where

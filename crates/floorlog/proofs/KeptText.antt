@@ -1,5 +1,6 @@
 -- The text of a line of which the front is kept, with its CR, as the code lends it.
 -- Assumes nothing.
+use Rattle.std.proofs.lemmas.Grind.{common_steps}
 use Rattle.std.proofs.lemmas.List.{drop-append-le}
 use Prim.Native.Char.{code}
 use Rattle.std.proofs.Common.{take_all, ℕ, ◌+◌, ◌-◌, ◌<◌, ◌≤◌, min, ◌≡◌, refl, sym, ap, ◌∙◌, List, [], ◌∷◌, ◌++◌}
@@ -16,21 +17,13 @@ use Rattle.floorlog.proofs.Forms.{line_overlong}
 
 -- past the end nothing is left, wherever one begins
 dropped : (a b : ℕ) (s : List ℕ) → a ≡ min b (length s) → drop a s ≡ drop b s
-dropped a b s e =
-    ⊎_elim (λ (h : b ≤ length s). let same : a ≡ b = omega arith in ap (λ (k : ℕ). drop k s) same)
-    (λ (h : length s < b). drop_of_length-le s {i = a} (omega arith) ∙ sym (drop_of_length-le s {i = b} (omega arith)))
-    (le_or_lt b (length s))
+dropped a b s e = grind (arith, drop_of_length-le)
 
 module _ (m : List ℕ) (held : ℕ) (inside : held < length m) where
   pub text_lent : (from : ℕ) → from ≡ min 2 held
       → take (held + 1 - from) (drop from (set m held (code "\r"))) ≡ drop 2 (take held m) ++ codes "\r"
   text_lent from e =
-      let long : length (take held m) ≡ held = length-take-le held m (omega arith) in
-      sym (drop-take from (held + 1) (set m held (code "\r")))
-      ∙ ap (λ (k : ℕ). drop from (take k (set m held (code "\r")))) (add-one held)
-      ∙ ap (drop from) (take-suc-set m held (code "\r") inside)
-      ∙ drop-append-le from (take held m) (codes "\r") (omega arith)
-      ∙ ap (λ (s : List ℕ). s ++ codes "\r") (dropped from 2 (take held m) (omega arith))
+      grind (arith, common_steps, length-take-le, drop-take, add-one, take-suc-set, drop-append-le, dropped)
 
 -- the event of what a line says
 pub event_said : (l : List ℕ) → event l ≡ event_of (line_said l) (drop 2 l ++ codes "\r")

@@ -3,8 +3,9 @@
 -- last, one line with power and lamp seconds"): for no log a line is printed last that ends in any other way.
 --   EndsIn f l      l ends in a byte that passes the test f
 -- Assumes nothing.
+use Rattle.std.proofs.lemmas.Grind.{common_steps}
 use Rattle.std.proofs.Common.{ℕ, suc, ◌-◌, ◌≡◌, refl, sym, ap, ◌∙◌, subst, Bool, true, false, ◌||◌, List, [], ◌∷◌, ◌++◌}
-use Rattle.std.proofs.Common.{append_assoc, append-nil, arith, length, take, slice_index_or, length-append, take_all}
+use Rattle.std.proofs.Common.{append_assoc, append-nil, arith, length, slice_index_or, length-append, take_all}
 use Rattle.std.proofs.Common.{take-suc, codes}
 use Rattle.std.proofs.lemmas.Bool.{false≢true}
 use Rattle.std.proofs.Math.Seq.{get_or-append_seam}
@@ -14,8 +15,7 @@ use Rattle.numbers.specs.Decimal.{digits, is_digit}
 use Rattle.numbers.proofs.Digits.{digits_at_least_1, is_digit-slice_index_or}
 use Rattle.record.specs.declared.types.Device.{Device}
 use Rattle.floorlog.specs.LastLine.{lamps_shown, last_line_of}
-use Rattle.floorlog.specs.Events.{events}
-use Rattle.floorlog.specs.Playing.{state_after, lines_printed, replayed}
+use Rattle.floorlog.specs.Playing.{replayed}
 
 record EndsIn (f : ℕ → Bool) (l : List ℕ) : Type 0 where
   before : List ℕ
@@ -33,12 +33,7 @@ module _ (f : ℕ → Bool) where
   }
 
   ends_at : (l : List ℕ) (k : ℕ) → length l ≡ suc k → f (slice_index_or l k 0) ≡ true → EndsIn f l
-  ends_at l k h p = record {
-    before = take k l;
-    last = slice_index_or l k 0;
-    whole = sym (take_all (suc k) l (omega arith)) ∙ take-suc l k 0 (omega arith);
-    passes = p;
-  }
+  ends_at l k h p = grind (arith, common_steps, take_all, take-suc)
 
 abbrev ends_last : ℕ → Bool
 ends_last b = is_digit b || b is "s"
@@ -91,7 +86,4 @@ module _ (before : List ℕ) (power : ℕ) (lamps : List ℕ) where
 pub no_log_ends_in : (d : Device) (log other : List ℕ) (c : ℕ) → (is_digit c || c is "s") ≡ false
     → replayed d log ≡ other ++ (c ∷ codes "\n") → ⊥
 unfolding replayed
-no_log_ends_in d log other c h e =
-    let after = state_after d (events log) in
-    last_line_ends (lines_printed 0 d (events log)) after.own.power
-    (take after.settings.lamp_count after.own.lamps) other c h e
+no_log_ends_in d log other c h e = grind (arith, last_line_ends)

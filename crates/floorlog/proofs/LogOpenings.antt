@@ -1,24 +1,21 @@
 -- Opening in a log, case by case (RULES, Places): refused with 1, or with 5 where the place that the log drives is not
 -- closed; else the device's own opening.
 -- Assumes nothing.
-use Rattle.std.proofs.Common.{ℕ, ◌≡◌, refl, ap, ◌∙◌, true, false, not}
-use Rattle.std.proofs.lemmas.Bool.{not-false}
-use Rattle.text.proofs.ByRows.{by_rows_lem, rows_done}
+use Rattle.std.proofs.Common.{arith}
+use Rattle.std.proofs.Common.{ℕ, ◌≡◌, ap, ◌∙◌, true, false, not}
 use Rattle.text.proofs.Choices.{if_yes, if_no}
 use Rattle.record.specs.Legal.{is_legal}
 use Rattle.record.specs.Places.{connection_at, is_shut}
 use Rattle.record.specs.declared.types.Device.{Device}
 use Rattle.device.specs.Calls.{Result, refused_by, reply_room, opened_by}
-use Rattle.floorlog.specs.Doing.{log_place, log_opening_rows, opened_in_log}
+use Rattle.floorlog.specs.Doing.{log_place, opened_in_log}
 
 module _ (d : Device) (r : ℕ) where
   pub log_opened_by : (P : Result Device → Type 0) → ((n : ℕ) → (n ≡ 0 → ⊥) → P (refused_by n d))
       → (is_legal d ≡ true → is_shut (connection_at d log_place) ≡ true → P (opened_by d r reply_room))
       → P (opened_in_log d r)
   unfolding opened_in_log
-  log_opened_by P refused opens =
-      by_rows_lem (λ n. refused_by n d) _ P refused (log_opening_rows d) refl
-      (λ none. opens (not-false (is_legal d) none.0) (not-false (is_shut (connection_at d log_place)) none.1.0))
+  log_opened_by P refused opens = grind arith
 
   pub log_opened_illegal : is_legal d ≡ false → opened_in_log d r ≡ refused_by 1 d
   unfolding opened_in_log
@@ -32,5 +29,4 @@ module _ (d : Device) (r : ℕ) where
 
     pub log_opened_closed : is_shut (connection_at d log_place) ≡ true → opened_in_log d r ≡ opened_by d r reply_room
     unfolding opened_in_log
-    log_opened_closed shut =
-        rows_done (λ n. refused_by n d) _ (log_opening_rows d) (ap not legal, (ap not shut, tt))
+    log_opened_closed shut = grind arith

@@ -22,6 +22,4 @@ module _ (left left_then : Option (List ℕ)) (whole memory : List ℕ) (front :
 pub none_kept : (left left_then : Option (List ℕ)) (memory : List ℕ) (r : Result (Option ℕ) Failure)
     → IfOk r (λ held. IfSome left (λ log. IsNextLine log left_then memory held))
     → IfOk r (λ held. held ≡ None → IfSome left (λ log. log ≡ []))
-none_kept left left_then memory (Ok (Some n)) next = λ e. cc
-none_kept left left_then memory (Ok None) next = λ e. next
-none_kept left left_then memory (Err e) next = tt
+none_kept left left_then memory r h = grind arith

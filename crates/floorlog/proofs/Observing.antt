@@ -2,22 +2,21 @@
 --   Underway .. s log old now left n at     n lines of the log are observed from s on: `at` is the observer, and the
 --                                           sink has `now`
 -- Assumes nothing.
-use Rattle.std.proofs.Common.{None, Some, IfSome, Result, Any, inl, inr, ℕ, suc}
-use Rattle.std.proofs.Common.{◌+◌, ◌≤◌, ◌≡◌, refl, sym, ap, subst, ◌∙◌, List, [], ◌∷◌, ◌++◌, append_assoc, map, take}
+use Rattle.std.proofs.Common.{Some, IfSome, Result, Any, ℕ, suc}
+use Rattle.std.proofs.Common.{◌+◌, ◌≤◌, ◌≡◌, sym, ap, subst, ◌∙◌, List, [], ◌∷◌, ◌++◌, append_assoc, map, take}
 use Rattle.std.proofs.Common.{arith, length}
 use Rattle.std.specs.declared.option.Option.{Option}
 use Rattle.std.specs.declared.io.Error.{Error}
 use Rattle.std.specs.Io.KnownBytes.{Keeps, Appends}
-use Rattle.std.proofs.KnownBytes.{Appends-nil, Appends-trans, Appends-kept}
+use Rattle.std.proofs.KnownBytes.{Appends-nil, Appends-trans}
 use Rattle.textio.specs.Lines.{lines_of, count_most, HasEndlessLine}
 use Rattle.textio.specs.Fronts.{WritesFront, WritesText}
 use Rattle.textio.specs.NextLine.{IsLine, FailureComesOf}
 use Rattle.textio.specs.declared.lines.Failure.{Failure}
-use Rattle.textio.specs.declared.lines.Failure.TheVariants.{Read, Write, TooLong}
 use Rattle.textio.proofs.LinesSpelt.{lines_end}
 use Rattle.textio.proofs.Fronts.{front_none, front_then, writes_after}
 use Rattle.floorlog.specs.Kept.{kept_most, kept_lines}
-use Rattle.floorlog.specs.Observing.{Observes, FailsOn, CannotFollow}
+use Rattle.floorlog.specs.Observing.{Observes, CannotFollow}
 
 pub record Underway {S : Type 0} (output : S → List (List ℕ) → List ℕ) (Leaves : S → List (List ℕ) → S → Type 0)
     (Overflows : S → List (List ℕ) → Type 0) (s : S) (log : List ℕ) (old now left : Option (List ℕ)) (n : ℕ) (at : S)
@@ -39,34 +38,13 @@ later_of P x ls (i, v, inside, is, p) = (suc i, v, omega (arith, inside), is, p)
 pub begun : {S : Type 0} (output : S → List (List ℕ) → List ℕ) (Leaves : S → List (List ℕ) → S → Type 0)
     (Overflows : S → List (List ℕ) → Type 0) (a w : Option (List ℕ)) (s : S)
     → IfSome a (λ log. Underway output Leaves Overflows s log w w a 0 s)
-begun output Leaves Overflows None w s = tt
-begun output Leaves Overflows (Some log) w s = record {
-  rest = log;
-  known = refl;
-  text = [];
-  written = Appends-nil w;
-  then = refl;
-  leaves = λ last h. h;
-  overflows = λ h. h;
-  count = omega arith;
-  endless = λ h. h;
-}
+begun output Leaves Overflows a w s = grind (arith, Appends-nil)
 
 module _ {S : Type 0} {output : S → List (List ℕ) → List ℕ} {Leaves : S → List (List ℕ) → S → Type 0}
     {Overflows : S → List (List ℕ) → Type 0} {s at : S} {log : List ℕ} {old now left : Option (List ℕ)} {n : ℕ}
     (u : Underway output Leaves Overflows s log old now left n at) where
   pub flushed : {new : Option (List ℕ)} → Keeps now new → Underway output Leaves Overflows s log old new left n at
-  flushed {new} k = record {
-    rest = u.rest;
-    known = u.known;
-    text = u.text;
-    written = Appends-kept old now new u.text u.written k;
-    then = u.then;
-    leaves = u.leaves;
-    overflows = u.overflows;
-    count = u.count;
-    endless = u.endless;
-  }
+  flushed {new} k = grind arith
 
   -- what holds of the lines that are left
   of_rest : (P : List ℕ → Type 0) → IfSome left P → P u.rest
@@ -82,12 +60,7 @@ module _ {S : Type 0} {output : S → List (List ℕ) → List ℕ} {Leaves : S 
   -- a failure to read a line is one to read the log
   pub unread : (reads writes : Error → Type 0) (f : Failure) → FailureComesOf reads writes HasEndlessLine left f
       → FailureComesOf reads writes (λ l. CannotFollow Overflows s l) (Some log) f
-  unread reads writes (Read e) h = h
-  unread reads writes (Write e) h = h
-  unread reads writes TooLong h = inl (inr (u.endless (of_rest HasEndlessLine h)))
-
-  pub too_many : count_most ≤ n → CannotFollow Overflows s log
-  too_many h = inl (inl (omega (arith, h, u.count)))
+  unread reads writes f h = grind arith
 
   -- a line comes next
   module _ (left_then : Option (List ℕ)) (kept : List ℕ)
@@ -117,17 +90,7 @@ module _ {S : Type 0} {output : S → List (List ℕ) → List ℕ} {Leaves : S 
 
     pub broken : {new : Option (List ℕ)} → ((ls : List (List ℕ)) → WritesFront now new (output at (kept ∷ ls)))
         → WritesFront old new (output s (kept_lines log))
-    broken {new} f =
-        front_of (subst (λ (k : List (List ℕ)). WritesFront now new (output at k)) (sym is)
-        (f (kept_lines line.later)))
-
-    pub unobserved : (reads writes : Error → Type 0) (f : Failure)
-        → FailsOn writes ((ls : List (List ℕ)) → Overflows at (kept ∷ ls)) f
-        → FailureComesOf reads writes (λ l. CannotFollow Overflows s l) (Some log) f
-    unobserved reads writes (Read e) h = absurd h
-    unobserved reads writes (Write e) h = h
-    unobserved reads writes TooLong h =
-        inr (u.overflows (subst (Overflows at) (sym is) (h (kept_lines line.later))))
+    broken {new} f = grind (arith, front_of)
 
   -- no line comes next
   module _ (none : IfSome left (λ rest. rest ≡ [])) where

@@ -1,10 +1,7 @@
 -- A log drives one place only (RULES, Places): opening takes it where it is closed, since there is none lower, and
 -- every other place that is closed stays so, as each is before a log.
 -- Assumes nothing.
-use Rattle.std.proofs.Common.{ℕ, ◌≤◌, ◌<◌, ◌≡◌, sym, ap, ◌∙◌, true, false, ⊎_elim, List, [], ◌∷◌, arith, slice_index_or}
-use Rattle.std.proofs.Common.{replicate}
-use Rattle.std.proofs.lemmas.Bool.{false≢true}
-use Rattle.text.proofs.Orders.{le_or_lt}
+use Rattle.std.proofs.Common.{ℕ, ◌<◌, ◌≡◌, ap, ◌∙◌, true, false, List, [], ◌∷◌, arith, slice_index_or}
 use Rattle.record.specs.Limits.{places_count}
 use Rattle.record.specs.Legal.{is_legal, is_timed}
 use Rattle.record.specs.Places.{no_connection, connection_at, is_shut, lowest_shut}
@@ -27,24 +24,17 @@ use Rattle.floorlog.proofs.LogOpenings.{log_opened_by}
 
 pub first_is_lowest_shut : (cs : List Connection) → is_shut (slice_index_or cs 0 no_connection) ≡ true →
     lowest_shut cs ≡ 0
-first_is_lowest_shut cs e =
-    ⊎_elim (λ (h : lowest_shut cs ≤ 0). omega arith)
-    (λ (h : 0 < lowest_shut cs). absurd (false≢true (sym (below_lowest cs 0 h) ∙ e))) (le_or_lt (lowest_shut cs) 0)
+first_is_lowest_shut cs e = grind (arith, below_lowest)
 
 pub log_place_taken : (d : Device) → is_legal d ≡ true → is_shut (connection_at d log_place) ≡ true
     → place_taken d reply_room ≡ log_place
-log_place_taken d legal shut =
-    let lowest = first_is_lowest_shut d.connections shut in
-    opened_lowest d 0 reply_room legal (omega arith) (omega (arith, lowest)) ∙ lowest
+log_place_taken d legal shut = grind (arith, first_is_lowest_shut, opened_lowest)
 
 untimed : (c : Connection) → c ≡ closed → is_timed c.phase ≡ false
 untimed c e = ap (λ (k : Connection). is_timed k.phase) (e ∙ closed_spelt)
 
 blank-closed : (p : ℕ) → p < places_count → connection_at blank p ≡ closed
-blank-closed p there =
-    ap (λ (d : Device). connection_at d p) blank_spelt
-    ∙ ap (λ (c : Connection). slice_index_or (replicate places_count c) p no_connection) (sym closed_spelt)
-    ∙ all_closed_at p there
+blank-closed p there = grind (arith, blank_spelt, closed_spelt, all_closed_at)
 
 -- set-up leaves every place closed, and so does one that is refused
 sample_closed : (p : ℕ) → p < places_count → connection_at sample_device p ≡ closed
@@ -65,8 +55,7 @@ module _ (p : ℕ) (other : p ≡ log_place → ⊥) where
       log_opened_by d r (λ q. ClosedAt q.device) (λ n z. shut)
       (λ legal free. opening_keeps_others d r reply_room p (λ same. other (same ∙ log_place_taken d legal free)) ∙ shut)
   event_elsewhere d (receives bs) shut = receiving_keeps_others d log_place bs reply_room p other ∙ shut
-  event_elsewhere d (passes n) shut =
-      (passed_leaves d n).connection p (untimed (connection_at d p) shut) ∙ shut
+  event_elsewhere d (passes n) shut = grind (arith, passed_leaves, untimed)
   event_elsewhere d closes shut = connection_at-closed_by d log_place p other ∙ shut
   event_elsewhere d no_such shut = shut
 

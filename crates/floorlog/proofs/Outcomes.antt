@@ -1,55 +1,41 @@
 -- What an event came to says what is printed for it, in no more bytes than there is room for.
 -- Assumes nothing.
-use Rattle.std.proofs.Common.{ℕ, ◌+◌, ◌-◌, ◌*◌, ◌≤◌, ◌≡◌, sym, ap, ◌∙◌, List, [], ◌∷◌, ◌++◌, arith, length, take}
-use Rattle.std.proofs.Common.{length-append, length-take, eq-eqb, codes, ◌==◌}
+use Rattle.std.proofs.Common.{ℕ, ◌+◌, ◌*◌, ◌≤◌, ◌≡◌, ap, List, [], ◌∷◌, ◌++◌, arith, length}
+use Rattle.std.proofs.Common.{length-append, length-take, codes}
 use Rattle.std.proofs.Math.Seq.{take-append_seam}
 use Rattle.text.specs.Words.{over}
-use Rattle.text.proofs.Choices.{if_yes, if_all}
+use Rattle.text.proofs.Choices.{if_all}
 use Rattle.numbers.specs.Decimal.{digits}
 use Rattle.numbers.proofs.Digits.{digits_at_most_10, long_at_most_20}
 use Rattle.record.specs.Refusals.{refusal_number}
 use Rattle.record.specs.declared.refusal.Refusal.{Refusal}
-use Rattle.record.specs.declared.refusal.Refusal.TheVariants.{NotLegal, NoRoom, OutOfRange, Closed, NoPlace, NotOff}
 use Rattle.record.specs.declared.types.Device.{Device}
 use Rattle.device.specs.Calls.{Result, reply_room}
 use Rattle.floorlog.specs.declared.outcome.Outcome.{Outcome}
-use Rattle.floorlog.specs.declared.outcome.Outcome.TheVariants.{Served, Refused, AlreadyOpen, NoSuch}
-use Rattle.floorlog.specs.Outcomes.{reply_text, refusal_shown, outcome_text, IsReplyWithin}
-use Rattle.floorlog.specs.LastLine.{lamp_shown, lamps_shown}
+use Rattle.floorlog.specs.declared.outcome.Outcome.TheVariants.{Served}
+use Rattle.floorlog.specs.Outcomes.{refusal_shown, outcome_text, IsReplyWithin}
+use Rattle.floorlog.specs.LastLine.{lamps_shown}
 use Rattle.floorlog.specs.Doing.{outcome}
 
 refused : (r : Refusal) → refusal_number r ≡ 0 → ⊥
-refused NotLegal e = omega arith
-refused NoRoom e = omega arith
-refused OutOfRange e = omega arith
-refused Closed e = omega arith
-refused NoPlace e = omega arith
-refused NotOff e = omega arith
+refused r h = grind arith
 
 module _ (r : Result Device) where
   -- a call that was served, its reply over the memory
   pub served_text : {n : ℕ} {m : List ℕ} (out : List ℕ) → 0 ≡ r.number → n ≡ length r.reply → m ≡ over r.reply out
       → outcome_text (Served n) m ≡ outcome r
-  served_text {n} {m} out e long put =
-      ap reply_text (ap (take n) put ∙ ap (λ (k : ℕ). take k (over r.reply out)) long ∙ take-append_seam r.reply _)
-      ∙ sym (if_yes _ _ (eq-eqb r.number 0 (sym e)))
+  served_text {n} {m} out e long put = grind (arith, take-append_seam)
 
 refusal_short : (n : ℕ) → length (refusal_shown n) ≤ 12
 refusal_short n = omega (arith, length-append (codes "! ") (digits n), digits_at_most_10 n)
 
 pub outcome_short : (o : Outcome) (m : List ℕ) → IsReplyWithin o reply_room
     → length (outcome_text o m) ≤ reply_room
-outcome_short (Served n) m h =
-    if_all (λ (s : List ℕ). length s ≤ reply_room) (length (take n m) == 0) (omega arith)
-    (omega (arith, h, length-take n m, length-take (length (take n m) - 1) (take n m)))
-outcome_short (Refused r) m h = omega (arith, refusal_short (refusal_number r))
-outcome_short AlreadyOpen m h = omega (arith, refusal_short 5)
-outcome_short NoSuch m h = omega arith
+outcome_short o m h = grind (arith, if_all, length-take, refusal_short)
 
 each_short : (xs : List ℕ) → length (lamps_shown xs) ≤ 11 * length xs
 each_short [] = omega arith
-each_short (x ∷ xs) =
-    omega (arith, length-append (lamp_shown x) (lamps_shown xs), digits_at_most_10 x, each_short xs)
+each_short (x ∷ xs) = grind (arith, length-append, digits_at_most_10, each_short xs)
 
 -- lamps on a line, after what stood there
 pub lamps_short : {b : List ℕ} (a xs : List ℕ) → b ≡ a ++ lamps_shown xs → length b ≤ length a + 11 * length xs

@@ -1,13 +1,13 @@
 -- What a log prints and leaves, by what comes: no line any more, or a line and the rest.
 -- Assumes nothing.
-use Rattle.std.proofs.Common.{None, Some, IfSome, ℕ, ◌+◌, ◌^◌, ◌≤◌, ◌≡◌, refl, sym, subst, ap, ◌∙◌, List, [], ◌∷◌, ◌++◌}
-use Rattle.std.proofs.Common.{inl, ◌⊎◌, ⊎_elim, append_assoc, arith, length, map, take}
+use Rattle.std.proofs.Common.{IfSome, ℕ, ◌+◌, ◌^◌, ◌≤◌, ◌≡◌, refl, ap, List, [], ◌∷◌, ◌++◌}
+use Rattle.std.proofs.Common.{◌⊎◌, append_assoc, arith, length, map}
 use Rattle.std.proofs.lemmas.List.{length-map}
 use Rattle.std.specs.declared.option.Option.{Option}
 use Rattle.std.specs.Io.KnownBytes.{Appends}
 use Rattle.record.specs.declared.types.Device.{Device}
-use Rattle.textio.specs.Lines.{lines_of, IsTooLong}
-use Rattle.floorlog.specs.Kept.{kept_most, kept_lines}
+use Rattle.textio.specs.Lines.{IsTooLong}
+use Rattle.floorlog.specs.Kept.{kept_lines}
 use Rattle.floorlog.specs.LastLine.{last_device_line}
 use Rattle.floorlog.specs.Events.{LogEvent, event}
 use Rattle.floorlog.specs.Doing.{did, printed}
@@ -35,9 +35,7 @@ module _ (d : Device) where
     pub printed_more : (n : ℕ)
         → printed_from n d (e ∷ es) ≡ printed (n + 1) e (did d e) ++ printed_from (n + 1) after es
     unfolding lines_printed state_after
-    printed_more n =
-        append_assoc (printed (n + 1) e (did d e)) _ _
-        ∙ ap (λ (x : Device). printed (n + 1) e (did d e) ++ printed_from (n + 1) x es) (sym is)
+    printed_more n = grind (arith, append_assoc)
 
 -- from the start of a log on
 module _ {begun d : Device} {n : ℕ} (first : n ≡ 0) (is : d ≡ begun) where
@@ -49,14 +47,7 @@ module _ {begun d : Device} {n : ℕ} (first : n ≡ 0) (is : d ≡ begun) where
       → IfSome a (λ log. Appends old new (printed_from n d (map event (kept_lines log))))
       → IfSome a (λ log. after ≡ state_after d (map event (kept_lines log)))
       → IfSome a (λ log. IsReplayed begun log old new after)
-  all_played None old new after w h = tt
-  all_played (Some log) old new after w h = record {
-    printed = subst (Appends old new) (all_printed log) w;
-    device = h ∙ (λ i. state_after (is i) (events_kept log i));
-  }
+  all_played a old new after h g = grind (arith, all_printed, events_kept)
 
   pub too_long : (log : List ℕ) → IsTooLong log ⊎ (2 ^ 64 ≤ n + length (kept_lines log)) → IsTooLong log
-  too_long log h =
-      ⊎_elim (λ (e : IsTooLong log). e)
-      (λ (e : 2 ^ 64 ≤ n + length (kept_lines log)).
-      inl (omega (arith, e, first, length-map (lines_of log) (take kept_most)))) h
+  too_long log h = grind (arith, length-map)

@@ -1,17 +1,16 @@
 -- No line lets more seconds pass than a number of 32 bits can tell.
 --   Within says      so it is of what a line says
 -- Assumes nothing.
+use Rattle.std.proofs.Common.{arith}
 use Rattle.std.specs.List.{list_all}
-use Rattle.std.proofs.Common.{ℕ, ◌≤◌, ◌&&◌, List, length, drop, nat_le, ◌==◌, leb-true}
-use Rattle.text.specs.Words.{◌is◌}
-use Rattle.text.proofs.Choices.{if_all, if_by, both_right}
-use Rattle.numbers.specs.Decimal.{is_digit, decimal_value}
+use Rattle.std.proofs.Common.{ℕ, ◌≤◌, ◌&&◌, List, length, nat_le, ◌==◌}
+use Rattle.text.proofs.Choices.{if_all}
 use Rattle.digest.specs.Hex.{is_hex_digit}
-use Rattle.words.specs.Bytes.{◌at◌, no_cr}
+use Rattle.words.specs.Bytes.{no_cr}
 use Rattle.clock.specs.Passing.{seconds_most}
 use Rattle.floorlog.specs.declared.line.Says.{Says}
 use Rattle.floorlog.specs.declared.line.Says.TheVariants.{Opens, Receives, Passes, Closes, NoSuch}
-use Rattle.floorlog.specs.Lines.{line_most, random_said, seconds_said, ◌starts◌, form_said, line_said}
+use Rattle.floorlog.specs.Lines.{line_most, random_said, seconds_said, form_said, line_said}
 
 abbrev pub Within : Says → Type 0
 Within (Passes n) = n ≤ seconds_most
@@ -22,12 +21,7 @@ Within NoSuch = Unit {0}
 
 seconds_within : (s : List ℕ) → Within (seconds_said s)
 unfolding seconds_said
-seconds_within s =
-    if_by Within
-    (nat_le 1 (length s) && nat_le (length s) 10 && list_all is_digit s && nat_le (decimal_value s) seconds_most)
-    (λ e. leb-true (decimal_value s) seconds_most
-    (both_right (nat_le 1 (length s) && nat_le (length s) 10 && list_all is_digit s) _ e))
-    (λ e. tt)
+seconds_within s = grind arith
 
 random_within : (s : List ℕ) → Within (random_said s)
 unfolding random_said
@@ -35,10 +29,7 @@ random_within s = if_all Within (length s == 8 && list_all is_hex_digit s) tt tt
 
 form_within : (l : List ℕ) → Within (form_said l)
 unfolding form_said
-form_within l =
-    if_all Within (length l == 1 && l at 0 is "X") tt
-    (if_all Within (l starts "O") (random_within (drop 2 l))
-    (if_all Within (l starts "R") tt (if_all Within (l starts "T") (seconds_within (drop 2 l)) tt)))
+form_within l = grind (arith, if_all, random_within, seconds_within)
 
 pub said_within : (l : List ℕ) → Within (line_said l)
 unfolding line_said

@@ -52,6 +52,7 @@ fn receive(device: &mut Device, bytes: &[u8], reply: &mut [u8; REPLY_ROOM]) -> O
     }
 }
 
+#[tactic(auto, using(device::proofs::EnoughRoom::closing_quiet, crate::proofs::Outcomes::served_text))]
 fn close(device: &mut Device) -> Outcome
     requires { is_legal device.old ≡ true }
     ensures within { IsReplyWithin result reply_room }
@@ -65,7 +66,7 @@ fn close(device: &mut Device) -> Outcome
 }
 
 // The event that a line says, on a legal record; a text is lent with its CR.
-#[tactic(auto, unfolding(crate::specs::Doing::did))]
+#[tactic(auto, unfolding(crate::specs::Doing::did), using(device::proofs::EnoughRoom::closing_quiet))]
 fn call_legal(
     device: &mut Device,
     says: Says,

@@ -65,6 +65,7 @@ impl KeptLine {
     }
 
     /// The text that it would have received: what stands after two bytes, and CR.
+    #[tactic(auto, using(crate::proofs::KeptText::text_lent))]
     pub fn received(&mut self) -> &[u8]
         ensures { result.now ≡ drop 2 (kept_text self.old) ++ codes "\r" }
     {

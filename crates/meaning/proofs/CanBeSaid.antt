@@ -87,14 +87,7 @@ any_refused : (c : Command) → (has_own_parameter c || true) ≡ true
 any_refused c = or-true (has_own_parameter c)
 
 set_refused : (s : Settings) (c : Command) → is_unlisted s c ≡ true → is_refusal_to c 2 ≡ true
-set_refused s (PowerSet wanted) e = refl
-set_refused s (InputSet i) e = refl
-set_refused s (MuteSet half wanted) e = refl
-set_refused s (Query b) e = e
-set_refused s (InputSet2 i) e = refl
-set_refused s (FreezeSet wanted) e = refl
-set_refused s (VolumeStep v up) e = refl
-set_refused s (NameQuery i) e = refl
+set_refused s c h = grind arith
 
 module _ (s : Settings) (o : Own) (settings : is_settings s ≡ true) (own : is_own s o ≡ true) where
   abbrev set_up : IsSettings s

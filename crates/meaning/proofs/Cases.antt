@@ -1,7 +1,8 @@
 -- The answer and what is done, by the rules: which rule decides, and what holds of both because it holds in every case.
 --   Passes s o r      no rule refuses the request
 -- Assumes nothing.
-use Rattle.std.proofs.Common.{ℕ, ◌≡◌, refl, ◌∙◌, Bool, true, false, ◌||◌}
+use Rattle.std.proofs.Common.{arith}
+use Rattle.std.proofs.Common.{ℕ, ◌≡◌, ◌∙◌, Bool, true, false, ◌||◌}
 use Rattle.std.specs.Prelude.{if◌then◌else◌}
 use Rattle.text.proofs.Choices.{if_yes, if_no}
 use Rattle.pjlink.specs.Requests.{Request}
@@ -17,11 +18,7 @@ first_of : {A B : Type 0} (P : A → B → Type 0) (a b c d : Bool) {w x y z t :
     → (a ≡ false → b ≡ false → c ≡ false → d ≡ true → P z k)
     → (a ≡ false → b ≡ false → c ≡ false → d ≡ false → P t m)
     → P (if a then w else if b then x else if c then y else if d then z else t) (if a || b || c || d then k else m)
-first_of P true b c d p q u v n = p refl
-first_of P false true c d p q u v n = q refl refl
-first_of P false false true d p q u v n = u refl refl refl
-first_of P false false false true p q u v n = v refl refl refl refl
-first_of P false false false false p q u v n = n refl refl refl refl
+first_of P a b c d h g e f p = grind arith
 
 module _ (s : Settings) (o : Own) (r : Request) where
   pub record Passes : Type 0 where
@@ -39,9 +36,7 @@ module _ (s : Settings) (o : Own) (r : Request) where
       → (Passes → P (request_answer s o r) (carried_out s o r))
       → P (meant s o r) (done s o r)
   unfolding meant done
-  decided_by P p q u v n =
-      first_of P (is_undefined s r) (is_out_of_parameter s r) (is_failure o r) (is_unavailable o r) p q u v
-      (λ a b c d. n (record { defined = a; listed = b; sound = c; timely = d }))
+  decided_by P p q u v n = grind arith
 
   pub meant_by : (P : Said → Type 0)
       → (is_undefined s r ≡ true → P (refused 1))

@@ -25,7 +25,4 @@ module _ (s : Settings) (t : IsSettings s) where
 
   -- and the view of it loses nothing
   pub class_as_number-class_seen : class_as_number (class_seen s) ≡ s.class_number
-  class_as_number-class_seen =
-      let low = class_low in
-      let high = class_high in
-      grind (arith, nat_tests)
+  class_as_number-class_seen = grind (arith, class_low, class_high, nat_tests)

@@ -2,14 +2,11 @@
 -- a legal projector legal.
 --   Keeps o k      k has the lamps and their marks, the fault mark and the errors of o
 -- Assumes nothing.
-use Rattle.std.proofs.Common.{ℕ, ◌≤◌, ◌<◌, ◌≡◌, refl, Bool, true, false, not, ◌&&◌, arith, ◌==◌, ltb-true}
-use Rattle.std.proofs.lemmas.Bool.{not-false}
+use Rattle.std.proofs.Common.{ℕ, ◌≤◌, ◌<◌, ◌≡◌, refl, Bool, true, false, not, ◌&&◌, arith, ◌==◌}
 use Rattle.std.specs.Prelude.{Ok, Err}
-use Rattle.text.proofs.Choices.{if_all, if_by}
+use Rattle.text.proofs.Choices.{if_all}
 use Rattle.pjlink.specs.declared.command.Half.{Half}
-use Rattle.pjlink.specs.declared.command.Half.TheVariants.{VideoHalf, AudioHalf, BothHalves}
 use Rattle.pjlink.specs.declared.command.Volume.{Volume}
-use Rattle.pjlink.specs.declared.command.Volume.TheVariants.{Speaker, Microphone}
 use Rattle.pjlink.specs.declared.command.Command.TheVariants.{PowerSet, InputSet, MuteSet, Query, InputSet2, FreezeSet}
 use Rattle.pjlink.specs.declared.command.Command.TheVariants.{VolumeStep, NameQuery}
 use Rattle.pjlink.specs.Requests.{Request}
@@ -25,7 +22,6 @@ use Rattle.record.specs.declared.views.Power.{Power}
 use Rattle.record.specs.declared.views.Power.TheVariants.{WarmUp, Cooling}
 use Rattle.record.proofs.PowerSeen.{written}
 use Rattle.record.proofs.FactsTold.{own_is, settings_is}
-use Rattle.meaning.specs.SetUpInputs.{place_of, is_listed}
 use Rattle.meaning.specs.Rules.{is_out_of_parameter}
 use Rattle.meaning.specs.Meaning.{level_after, after_power, after_mute, after_step, request_answer, carried_out, meant}
 use Rattle.meaning.specs.Meaning.{done}
@@ -43,46 +39,16 @@ all_kept = record { lamps = refl; marks = refl; fault = refl; errors = refl }
 module _ (s : Settings) (o : Own) where
   power_keeps : (wanted : Bool) → Keeps o (after_power s o wanted)
   unfolding after_power
-  power_keeps wanted =
-      if_all (Keeps o) (wanted && o.power == off)
-      (record { lamps = refl; marks = refl; fault = refl; errors = refl })
-      (if_all (Keeps o) (not wanted && o.power == on)
-      (record { lamps = refl; marks = refl; fault = refl; errors = refl })
-      all_kept)
-
-  mute_keeps : (half : Half) (wanted : Bool) → Keeps o (after_mute o half wanted)
-  mute_keeps VideoHalf wanted = record { lamps = refl; marks = refl; fault = refl; errors = refl }
-  mute_keeps AudioHalf wanted = record { lamps = refl; marks = refl; fault = refl; errors = refl }
-  mute_keeps BothHalves wanted = record { lamps = refl; marks = refl; fault = refl; errors = refl }
-
-  step_keeps : (v : Volume) (up : Bool) → Keeps o (after_step o v up)
-  step_keeps Speaker up = record { lamps = refl; marks = refl; fault = refl; errors = refl }
-  step_keeps Microphone up = record { lamps = refl; marks = refl; fault = refl; errors = refl }
+  power_keeps wanted = grind arith
 
   after_keeps : (r : Request) → Keeps o (carried_out s o r)
-  after_keeps (Ok (PowerSet wanted)) = power_keeps wanted
-  after_keeps (Ok (InputSet i)) = record { lamps = refl; marks = refl; fault = refl; errors = refl }
-  after_keeps (Ok (MuteSet half wanted)) = mute_keeps half wanted
-  after_keeps (Ok (Query b)) = all_kept
-  after_keeps (Ok (InputSet2 i)) = record { lamps = refl; marks = refl; fault = refl; errors = refl }
-  after_keeps (Ok (FreezeSet wanted)) = record { lamps = refl; marks = refl; fault = refl; errors = refl }
-  after_keeps (Ok (VolumeStep v up)) = step_keeps v up
-  after_keeps (Ok (NameQuery i)) = all_kept
-  after_keeps (Err u) = all_kept
+  after_keeps r = grind (arith, power_keeps)
 
   pub done_keeps : (r : Request) → Keeps o (done s o r)
   done_keeps r = done_by s o r (Keeps o) all_kept (λ p. after_keeps r)
 
   told_or_kept : (r : Request) → (request_answer s o r ≡ okay → ⊥) → carried_out s o r ≡ o
-  told_or_kept (Ok (PowerSet wanted)) n = absurd (n refl)
-  told_or_kept (Ok (InputSet i)) n = absurd (n refl)
-  told_or_kept (Ok (MuteSet half wanted)) n = absurd (n refl)
-  told_or_kept (Ok (Query b)) n = refl
-  told_or_kept (Ok (InputSet2 i)) n = absurd (n refl)
-  told_or_kept (Ok (FreezeSet wanted)) n = absurd (n refl)
-  told_or_kept (Ok (VolumeStep v up)) n = absurd (n refl)
-  told_or_kept (Ok (NameQuery i)) n = refl
-  told_or_kept (Err u) n = refl
+  told_or_kept r h = grind arith
 
   -- what is not answered OK does nothing
   pub done_or_okay : (r : Request) → (meant s o r ≡ okay → ⊥) → done s o r ≡ o
@@ -114,28 +80,22 @@ module _ (s : Settings) (o : Own) where
     is_own-with_mutes video audio = (own_is s _).1 (assumption kept)
 
     is_own-after_mute : (half : Half) (wanted : Bool) → is_own s (after_mute o half wanted) ≡ true
-    is_own-after_mute VideoHalf wanted = is_own-with_mutes wanted o.audio_muted
-    is_own-after_mute AudioHalf wanted = is_own-with_mutes o.video_muted wanted
-    is_own-after_mute BothHalves wanted = is_own-with_mutes wanted wanted
+    is_own-after_mute half wanted = grind (arith, is_own-with_mutes)
 
     -- a step stays within the ends
     step_within : (up : Bool) (level : ℕ) → level ≤ volume_most → level_after up level ≤ volume_most
     unfolding level_after
-    step_within true level h = grind (arith, if_by, ltb-true)
-    step_within false level h = omega arith
+    step_within up level h = grind arith
 
     is_own-after_step : (v : Volume) (up : Bool) → is_own s (after_step o v up) ≡ true
-    is_own-after_step Speaker up = (own_is s _).1 (assumption (kept, step_within up o.speaker kept.speaker))
-    is_own-after_step Microphone up = (own_is s _).1 (assumption (kept, step_within up o.microphone kept.microphone))
+    is_own-after_step v up = grind (arith, own_is, step_within)
 
     is_own-carried_out : (r : Request) → is_out_of_parameter s r ≡ false → is_own s (carried_out s o r) ≡ true
     is_own-carried_out (Ok (PowerSet wanted)) e = is_own-after_power wanted
-    is_own-carried_out (Ok (InputSet i)) e =
-        is_own-with_chosen (place_of s i) (ltb-true (place_of s i) s.input_count (not-false (is_listed s i) e))
+    is_own-carried_out (Ok (InputSet i)) e = grind (arith, is_own-with_chosen)
     is_own-carried_out (Ok (MuteSet half wanted)) e = is_own-after_mute half wanted
     is_own-carried_out (Ok (Query b)) e = own
-    is_own-carried_out (Ok (InputSet2 i)) e =
-        is_own-with_chosen (place_of s i) (ltb-true (place_of s i) s.input_count (not-false (is_listed s i) e))
+    is_own-carried_out (Ok (InputSet2 i)) e = grind (arith, is_own-with_chosen)
     is_own-carried_out (Ok (FreezeSet wanted)) e = (own_is s _).1 (assumption kept)
     is_own-carried_out (Ok (VolumeStep v up)) e = is_own-after_step v up
     is_own-carried_out (Ok (NameQuery i)) e = own

@@ -1,21 +1,19 @@
 -- The lamps as LAMP says them, by their places: how many there are, what is said of each, and one more of them.
 -- Assumes nothing.
 use Rattle.std.specs.List.{list_all}
-use Rattle.std.proofs.Common.{ℕ, zero, suc, ◌+◌, ◌<◌, ◌≡◌, refl, sym, ap, ◌∙◌, Bool, true, false, ◌&&◌, List, [], ◌∷◌}
-use Rattle.std.proofs.Common.{◌++◌, add-one, arith, length, slice_index_or, take}
+use Rattle.std.proofs.Common.{ℕ, zero, suc, ◌+◌, ◌<◌, ◌≡◌, refl, sym, ap, Bool, true, false, ◌&&◌, List, [], ◌∷◌}
+use Rattle.std.proofs.Common.{◌++◌, arith, length, slice_index_or, take}
 use Rattle.text.proofs.Choices.{both, both_left, both_right}
 use Rattle.words.specs.declared.lamp.LampHours.{LampHours}
 use Rattle.meaning.specs.Meaning.{lamp_said, lamps_said}
 
 never_lit : (lit : Bool) → (lit && false) ≡ false
-never_lit true = refl
-never_lit false = refl
+never_lit lit = grind arith
 
 module _ (lit : Bool) where
   pub none_said : (ms : List Bool) → lamps_said lit ms [] ≡ []
   unfolding lamps_said
-  none_said [] = refl
-  none_said (m ∷ ms) = refl
+  none_said ms = grind arith
 
   pub length-lamps_said : (ms : List Bool) (xs : List ℕ) → length (lamps_said lit ms xs) ≡ length xs
   unfolding lamps_said
@@ -43,14 +41,12 @@ module _ (lit : Bool) where
   one_more [] (x ∷ xs) zero h = ap (λ (t : Bool). lamp_said t x ∷ []) (sym (never_lit lit))
   one_more [] (x ∷ xs) (suc k) h = ap (λ (ls : List LampHours). lamp_said false x ∷ ls) (one_more [] xs k (omega arith))
   one_more (m ∷ ms) (x ∷ xs) zero h = refl
-  one_more (m ∷ ms) (x ∷ xs) (suc k) h =
-      ap (λ (ls : List LampHours). lamp_said (lit && m) x ∷ ls) (one_more ms xs k (omega arith))
+  one_more (m ∷ ms) (x ∷ xs) (suc k) h = grind (arith, one_more ms xs k (omega arith))
 
   pub one_more_said : (ms : List Bool) (xs : List ℕ) (k : ℕ) → k < length xs
       → lamps_said lit ms (take (k + 1) xs)
       ≡ lamps_said lit ms (take k xs) ++ (lamp_said (lit && slice_index_or ms k false) (slice_index_or xs k 0) ∷ [])
-  one_more_said ms xs k h =
-      ap (λ (j : ℕ). lamps_said lit ms (take j xs)) (add-one k) ∙ one_more ms xs k h
+  one_more_said ms xs k h = grind (arith, one_more)
 
   -- what holds of each lamp, lit or not, holds of what is said
   pub list_all-lamps_said : (f : ℕ → Bool) (g : LampHours → Bool) →

@@ -1,20 +1,17 @@
 -- The power that is answered is that of the record.
 -- Assumes nothing.
-use Rattle.std.proofs.Common.{◌≡◌, refl, ap, ◌∙◌}
+use Rattle.std.proofs.Common.{arith}
+use Rattle.std.proofs.Common.{◌≡◌, ap, ◌∙◌}
 use Rattle.words.specs.Powers.{power_code}
 use Rattle.record.specs.Facts.{IsOwn}
 use Rattle.record.specs.Views.{power_number, power_seen}
 use Rattle.record.specs.declared.types.Own.{Own}
 use Rattle.record.specs.declared.types.Settings.{Settings}
 use Rattle.record.specs.declared.views.Power.{Power}
-use Rattle.record.specs.declared.views.Power.TheVariants.{Off, WarmUp, On, Cooling}
 use Rattle.meaning.specs.Meaning.{power_said, power_digit}
 
 by_number : (p : Power) → power_code (power_said p) ≡ power_digit (power_number p)
-by_number Off = refl
-by_number (WarmUp left) = refl
-by_number On = refl
-by_number (Cooling left) = refl
+by_number p = grind arith
 
 pub power_code_said : (s : Settings) (o : Own) → IsOwn s o
     → power_code (power_said (power_seen o)) ≡ power_digit o.power

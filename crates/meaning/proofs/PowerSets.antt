@@ -2,22 +2,19 @@
 -- them, POWR 1 when off and POWR 0 when on, and each such set does.
 --   PowerTurn s o r m k      what the request r, answered m, leaves of them in k
 -- Assumes nothing.
-use Rattle.std.proofs.Common.{◌≡◌, refl, ◌∙◌, Bool, true, false, ◌==◌, eqb-true, eq-eqb, ne_eqb}
-use Rattle.std.specs.Prelude.{Ok, Err}
-use Rattle.text.proofs.Choices.{if_by, if_yes, if_no}
+use Rattle.std.proofs.Common.{arith}
+use Rattle.std.proofs.Common.{◌≡◌, refl, ◌∙◌, Bool, true, false, eq-eqb, ne_eqb}
+use Rattle.std.specs.Prelude.{Ok}
+use Rattle.text.proofs.Choices.{if_yes, if_no}
 use Rattle.pjlink.specs.declared.command.Half.{Half}
-use Rattle.pjlink.specs.declared.command.Half.TheVariants.{VideoHalf, AudioHalf, BothHalves}
-use Rattle.pjlink.specs.declared.command.Volume.{Volume}
-use Rattle.pjlink.specs.declared.command.Volume.TheVariants.{Speaker, Microphone}
-use Rattle.pjlink.specs.declared.command.Command.TheVariants.{PowerSet, InputSet, MuteSet, Query, InputSet2, FreezeSet}
-use Rattle.pjlink.specs.declared.command.Command.TheVariants.{VolumeStep, NameQuery}
+use Rattle.pjlink.specs.declared.command.Command.TheVariants.{PowerSet}
 use Rattle.pjlink.specs.Requests.{Request}
 use Rattle.pjlink.specs.Said.{Said, okay}
 use Rattle.record.specs.Limits.{off, on, cooling, warming, is_between}
 use Rattle.record.specs.Updates.{with_power_left}
 use Rattle.record.specs.declared.types.Settings.{Settings}
 use Rattle.record.specs.declared.types.Own.{Own}
-use Rattle.meaning.specs.Meaning.{after_power, after_mute, after_step, request_answer, carried_out, meant, done}
+use Rattle.meaning.specs.Meaning.{after_power, after_mute, request_answer, carried_out, meant, done}
 use Rattle.meaning.proofs.Cases.{refused_or_passed, meant_passed}
 
 pub data PowerTurn (s : Settings) (o : Own) (r : Request) (m : Said) (k : Own) : Type 0 where
@@ -29,30 +26,11 @@ pub data PowerTurn (s : Settings) (o : Own) (r : Request) (m : Said) (k : Own) :
 
 module _ (s : Settings) (o : Own) where
   muted : (half : Half) (wanted : Bool) {r : Request} {m : Said} → PowerTurn s o r m (after_mute o half wanted)
-  muted VideoHalf wanted = stays refl refl
-  muted AudioHalf wanted = stays refl refl
-  muted BothHalves wanted = stays refl refl
-
-  volumed : (v : Volume) (up : Bool) {r : Request} {m : Said} → PowerTurn s o r m (after_step o v up)
-  volumed Speaker up = stays refl refl
-  volumed Microphone up = stays refl refl
+  muted half wanted = grind arith
 
   turns : (r : Request) → PowerTurn s o r (request_answer s o r) (carried_out s o r)
   unfolding after_power
-  turns (Ok (PowerSet true)) =
-      if_by (PowerTurn s o (Ok (PowerSet true)) okay) (o.power == off)
-      (λ e. warms refl refl (eqb-true o.power off e) refl refl) (λ e. stays refl refl)
-  turns (Ok (PowerSet false)) =
-      if_by (PowerTurn s o (Ok (PowerSet false)) okay) (o.power == on)
-      (λ e. cools refl refl (eqb-true o.power on e) refl refl) (λ e. stays refl refl)
-  turns (Ok (InputSet i)) = stays refl refl
-  turns (Ok (MuteSet half wanted)) = muted half wanted
-  turns (Ok (Query b)) = stays refl refl
-  turns (Ok (InputSet2 i)) = stays refl refl
-  turns (Ok (FreezeSet wanted)) = stays refl refl
-  turns (Ok (VolumeStep v up)) = volumed v up
-  turns (Ok (NameQuery i)) = stays refl refl
-  turns (Err u) = stays refl refl
+  turns r = grind arith
 
   pub power_turns : (r : Request) → PowerTurn s o r (meant s o r) (done s o r)
   power_turns r = refused_or_passed s o r (PowerTurn s o r) (λ n. stays refl refl) (λ p. turns r)
@@ -67,8 +45,7 @@ module _ (s : Settings) (o : Own) where
         refused_or_passed s o (Ok (PowerSet wanted)) (λ m k. OkayOnly m) (λ n e. cc) (λ p e. (p.sound, p.timely))
 
     pub power_set_passes : o.fault ≡ false → is_between o.power ≡ false → meant s o (Ok (PowerSet wanted)) ≡ okay
-    power_set_passes f b =
-        meant_passed s o (Ok (PowerSet wanted)) (record { defined = refl; listed = refl; sound = f; timely = b })
+    power_set_passes f b = grind (arith, meant_passed)
 
     pub power_set_done : meant s o (Ok (PowerSet wanted)) ≡ okay
         → done s o (Ok (PowerSet wanted)) ≡ after_power s o wanted

@@ -32,6 +32,7 @@ fn power_said(power: views::Power) -> Power
 }
 
 // The first `count` lamps, by whole hours.
+#[tactic(auto, using(crate::proofs::LampsSaid::none_said, crate::proofs::LampsSaid::one_more_said))]
 fn lamps_said(
     seconds: &[u32; LAMPS_MOST],
     marks: &[bool; LAMPS_MOST],

@@ -21,6 +21,7 @@ pub struct Totals {
 }
 
 // The line of a stretch, if the mark of the lamp is set.
+#[tactic(auto, using(crate::proofs::Told::stretch_filled))]
 fn put_stretch<W: ByteSink>(
     out: &mut W,
     k: usize,

@@ -1,7 +1,7 @@
 -- At most one answer holds of readings, and it leaves one list of differences.
 -- Assumes nothing.
-use Rattle.std.proofs.Common.{ℕ, ◌≡◌, ◌<◌, ◌≤◌, List, Option, Some, None, Result, Ok, Err, refl, sym}
-use Rattle.std.proofs.Common.{ap, ◌∙◌, arith, ⊎_elim}
+use Rattle.std.proofs.Common.{ℕ, ◌≡◌, ◌<◌, ◌≤◌, List, Option, Some, None, Result, Ok, Err, refl}
+use Rattle.std.proofs.Common.{ap, arith, ⊎_elim}
 use Rattle.std.specs.Prelude.{ℤ, All}
 use Rattle.text.proofs.Orders.{le_or_lt}
 use Rattle.service.specs.Differences.{IsForwards}
@@ -52,10 +52,7 @@ module _ (rs : List Reading) where
 -- the same answer leaves the same list
 one_list : (rs : List Reading) (out : List ℤ) (b c : Result (Option ℕ) CompareError) (m n : List ℤ) → b ≡ c
     → ComparedAs rs out b m → ComparedAs rs out c n → m ≡ n
-one_list rs out (Ok x) (Ok y) m n e p q = p.written ∙ sym q.written
-one_list rs out (Ok x) (Err y) m n e p q = cc
-one_list rs out (Err x) (Ok y) m n e p q = cc
-one_list rs out (Err x) (Err y) m n e p q = p.kept ∙ sym q.kept
+one_list rs out b c m n h g e = grind arith
 
 pub one_comparison : (rs : List Reading) (out : List ℤ) (b c : Result (Option ℕ) CompareError) (m n : List ℤ)
     → ComparedAs rs out b m → ComparedAs rs out c n → (b ≡ c) × (m ≡ n)

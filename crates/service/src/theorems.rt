@@ -10,6 +10,7 @@ use crate::{CompareError, Reading, TABLE_MOST, compare};
 
 /// What is told of readings holds, and what holds is told: the place is the lowest one where the lamp went backwards,
 /// and none is told exactly where it went backwards nowhere.
+#[tactic(auto, using(crate::proofs::OneAnswer::one_answer))]
 pub fn the_answer_told_holds(
     readings: &[Reading],
     out: &mut [i64],
@@ -22,6 +23,7 @@ pub fn the_answer_told_holds(
 }
 
 /// Two results that meet the promise of a call are equal, the list of differences included.
+#[tactic(auto, using(crate::proofs::OneAnswer::one_comparison))]
 pub fn one_result()
     ensures { (rs : List Reading) (out : List ℤ) (b c : Result (Option ℕ) CompareError) (m n : List ℤ)
         → ComparedAs rs out b m → ComparedAs rs out c n → (b ≡ c) × (m ≡ n) }
@@ -29,6 +31,7 @@ pub fn one_result()
 
 /// A difference is exact: with the earlier seconds it comes to the later, and it is below 0 exactly where the lamp went
 /// backwards.
+#[tactic(auto, using(crate::proofs::Exact::earlier_and_difference, crate::proofs::Exact::negative_is_backwards))]
 pub fn a_difference_is_exact()
     ensures sum { (r : Reading) → pos r.earlier +ℤ difference_of r ≡ pos r.later }
     ensures sign { (r : Reading) → (difference_of r <ℤ pos 0) ↔ IsBackwards r }

@@ -51,12 +51,7 @@ module _ (v : Lent) (h : is_set_up (wanted_settings v) ≡ true) where
   each_is_named = each_in_range w h Names
 
   pub names_few : only_in_2 w.class (length w.inputs / 2) ≤ listed_most
-  names_few =
-      omega (
-        arith,
-        inputs_fit,
-        only_in_2_within w.class (length w.inputs / 2),
-      )
+  names_few = grind (arith, inputs_fit)
 
 pub ruleset fits = (
   name_fits,

@@ -1,7 +1,7 @@
 -- Loading by its cases: what it gives by the version, by what the form says and leaves, and by what set-up gave.
 -- Assumes nothing.
 use Rattle.std.proofs.Common.{ℕ, ◌<◌, ◌≡◌, Bool, true, false, ◌&&◌, ◌==◌, if◌then◌else◌, List, length, map, replicate}
-use Rattle.std.proofs.Common.{Some, None, Result, Ok, Err, sym, ap, ◌∙◌, arith, eqb-true}
+use Rattle.std.proofs.Common.{Some, None, Result, sym, ap, ◌∙◌, arith, eqb-true}
 use Rattle.std.specs.Prelude.{OnOk}
 use Rattle.std.specs.Result.{is_ok}
 use Rattle.text.proofs.Choices.{if_yes, by_not}
@@ -65,11 +65,7 @@ module _ (w : Wanted) where
     pub made : OnOk r (d ≡ started w)
 
   pub set_up_sets : (r : Result (Unit {0}) SetUpError) (d : Device) → gives r d ≡ set_up w → Sets r d
-  set_up_sets (Ok u) d e = record {
-    taken = grind (arith, set_up_in_range w, e);
-    made = cc (e, set_up_accepted w (grind (arith, set_up_in_range w, e)));
-  }
-  set_up_sets (Err x) d e = record { taken = grind (arith, set_up_accepted w, e); made = tt }
+  set_up_sets r d h = grind (arith, set_up_in_range, set_up_accepted)
 
   -- what a form says of it with these marks, and what a load of it gives where they may stand there
   abbrev pub saying : List ℕ → FormSaid
@@ -91,10 +87,7 @@ module _ (w : Wanted) where
     -- as the code tests them on the device that was set up
     pub contents_tested : {d : Device} → d ≡ started w → {m s : List ℕ} → m ≡ s → {t : Bool}
         → t ≡ are_marks d.settings.lamp_count s → contents (saying m) ≡ started_if t (map is_marked s)
-    contents_tested made {m} {s} same e =
-        let count = ap (λ (x : Device). are_marks x.settings.lamp_count s) (made ∙ started_parts w) in
-        ap (λ (l : List ℕ). contents (saying l)) same ∙ contents_marked s
-        ∙ ap (λ (t : Bool). started_if t (map is_marked s)) (sym (e ∙ count))
+    contents_tested made {m} {s} same e = grind (arith, started_parts)
 
     -- in the version that has none, each of its lamps is enabled
     pub contents_unmarked : contents (saying (replicate n 1)) ≡ accepted (started w)

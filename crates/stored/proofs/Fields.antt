@@ -6,7 +6,7 @@
 -- Assumes nothing.
 use Rattle.std.proofs.Common.{ℕ, zero, suc, ◌+◌, ◌-◌, ◌*◌, ◌/◌, ◌^◌, ◌<◌, ◌≡◌, Bool, true, false, if◌then◌else◌, List}
 use Rattle.std.proofs.Common.{[], ◌∷◌, ◌++◌, length, take, drop, slice_index_or, Option, Some, None, refl, sym, ap}
-use Rattle.std.proofs.Common.{subst, ◌∙◌, arith, append_assoc, length-append, length-take-le, take-append-drop, take_at}
+use Rattle.std.proofs.Common.{◌∙◌, arith, append_assoc, length-append, length-take-le, take-append-drop, take_at}
 use Rattle.std.proofs.Common.{drop_at, drop-drop, length-drop}
 use Rattle.std.proofs.lemmas.Grind.{common_steps}
 use Rattle.std.proofs.lemmas.List.{take-append-le, get_or-append-add}
@@ -20,7 +20,7 @@ use Rattle.text.proofs.Bases.{Digits}
 use Rattle.numbers.specs.HighestFirst.{highest_first, number_in}
 use Rattle.numbers.proofs.HighestFirst.{length-highest_first, highest_back, highest_one_form}
 use Rattle.stored.specs.Form.{section, text_section, texts_bytes, seconds_bytes}
-use Rattle.stored.specs.Reading.{Field, onward, ◌giving◌, given, byte, bytes, number, section_of, text, texts}
+use Rattle.stored.specs.Reading.{Field, ◌giving◌, given, byte, bytes, number, section_of, text, texts}
 use Rattle.stored.specs.Reading.{seconds_in}
 use Rattle.text.proofs.InTurn.{length-each_in_turn}
 use Rattle.record.specs.Limits.{lamps_most}
@@ -61,8 +61,7 @@ module _ {A B : Type 0} {r : Field A} {x : A} {s : List ℕ} (p : IsForm r x s) 
 -- one of two fields
 pub if_form : {A : Type 0} (t : Bool) {r q : Field A} {x : A} {s u : List ℕ} → (t ≡ true → IsForm r x s)
     → (t ≡ false → IsForm q x u) → IsForm (if t then r else q) x (if t then s else u)
-if_form true p q = p refl
-if_form false p q = q refl
+if_form t h g = grind arith
 
 pub byte_form : (b : ℕ) → IsForm byte b (b ∷ [])
 unfolding byte
@@ -109,18 +108,12 @@ module _ {s : List ℕ} (a rest : List ℕ) (e : s ≡ a ++ rest) (b : Bytes s) 
 -- what reads one field after another read each of them, and left what the next one read
 pub reading : {A B : Type 0} (r : Field A) {f : A → Field B} {s : List ℕ} {y : B × List ℕ} {G : Type 0}
     → (r giving f) s ≡ Some y → ((x : A) (rest : List ℕ) → r s ≡ Some (x, rest) → f x rest ≡ Some y → G) → G
-reading {A} {B} r {f} {s} {y} {G} e next = by (r s) refl
-  where
-    by : (o : Option (A × List ℕ)) → r s ≡ o → G
-    by None h = absurd (let none : None ≡ Some y = sym (ap (onward f) h) ∙ e in cc)
-    by (Some x) h = next x.0 x.1 h (sym (ap (onward f) h) ∙ e)
+reading {A} {B} r {f} {s} {y} {G} e next = grind arith
 
 -- what holds of what was given holds of what was read
 pub ended : {A : Type 0} (P : A → List ℕ → Type 0) {x y : A} {s rest : List ℕ}
     → ◌≡◌ {A = Option (A × List ℕ)} (Some (x, s)) (Some (y, rest)) → P x s → P y rest
-ended {A} P {x} {y} {s} {rest} e h =
-    let same : (x, s) ≡ (y, rest) = cc in
-    subst (λ (z : A × List ℕ). P z.0 z.1) same h
+ended {A} P {x} {y} {s} {rest} e h = grind arith
 
 pub record Begins (s a rest : List ℕ) : Type 0 where
   pub joined : Bytes s → s ≡ a ++ rest
@@ -131,10 +124,6 @@ begins_then {s} {a} {t} {b} {rest} p q = record {
       let e = p.joined c in
       grind (arith, e, q.joined (rest_bytes a t e c), append_assoc a b rest);
 }
-
-pub given_begins : {A : Type 0} {x y : A} {s rest : List ℕ}
-    → ◌≡◌ {A = Option (A × List ℕ)} (Some (x, s)) (Some (y, rest)) → Begins s [] rest
-given_begins e = record { joined = λ b. grind (arith, e) }
 
 pub byte_begins : {s : List ℕ} {x : ℕ} {rest : List ℕ} → byte s ≡ Some (x, rest) → Begins s (x ∷ []) rest
 unfolding byte
@@ -147,10 +136,7 @@ pub record Cut (n : ℕ) (s t rest : List ℕ) : Type 0 where
 
 bytes_cut : (n : ℕ) (s t rest : List ℕ) → bytes n s ≡ Some (t, rest) → Cut n s t rest
 unfolding bytes
-bytes_cut n s t rest e = record {
-  spelled = grind (arith, e, take-append-drop n s);
-  long = grind (arith, e, length-take-le n s);
-}
+bytes_cut n s t rest e = grind (arith, take-append-drop, length-take-le)
 
 pub record Counted (width : ℕ) (s t rest : List ℕ) : Type 0 where
   pub count : ℕ
@@ -192,8 +178,7 @@ number_begins n {s} e =
 pub texts_begin : (n : ℕ) {s : List ℕ} {ts : List (List ℕ)} {rest : List ℕ} → texts n s ≡ Some (ts, rest)
     → Begins s (texts_bytes ts) rest
 unfolding texts texts_bytes
-texts_begin zero {s} e =
-    ended (λ ts rest. Begins s (each_in_turn text_section ts) rest) e (record { joined = λ b. refl })
+texts_begin zero {s} e = grind arith
 texts_begin (suc n) {s} e =
     reading text e
     (λ t s1 r1 e1. reading (texts n) e1

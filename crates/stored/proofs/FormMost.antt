@@ -29,9 +29,7 @@ pub form_long : (v : ℕ) (marks rest : List ℕ) (w : Wanted)
     ≡ 12 + (length w.name + length w.maker + length w.model + length w.other + length w.password)
     + length w.inputs + 4 * length w.lamps + length marks + length rest
 unfolding form_with
-form_long v marks rest w =
-    simp length-append
-    (omega (arith, length-highest_first 2 w.warm, length-highest_first 2 w.cool, seconds_long w.lamps))
+form_long v marks rest w = grind (arith, length-append, length-highest_first, seconds_long)
 
 -- names of 128 bytes at most, each with its count
 names_most : (ts : List (List ℕ)) → list_all is_input_name ts ≡ true → length (texts_bytes ts) ≤ 129 * length ts

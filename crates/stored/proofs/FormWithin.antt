@@ -4,22 +4,19 @@
 --   Within k P r         so it does where k bytes are there
 -- Assumes nothing.
 use Rattle.std.proofs.Common.{◌≡◌, ℕ, zero, suc, ◌+◌, ◌*◌, ◌/◌, ◌<◌, ◌≤◌, Bool, true, false, List, [], ◌∷◌, ◌++◌}
-use Rattle.std.proofs.Common.{length, take, drop, Option, Some, refl, ap, ◌∙◌, sym, arith, if◌then◌else◌, nat_lt, ◌==◌}
+use Rattle.std.proofs.Common.{length, take, drop, Some, refl, ap, ◌∙◌, sym, arith, if◌then◌else◌, nat_lt, ◌==◌}
 use Rattle.std.proofs.Common.{length-append, length-drop, length-take-le, le-ltb, ltb-true, ltb-false}
-use Rattle.std.proofs.Common.{take-append-drop, not, map}
+use Rattle.std.proofs.Common.{take-append-drop}
 use Rattle.std.proofs.lemmas.Grind.{common_steps}
 use Rattle.std.proofs.lemmas.List.{take_all, take-append-le, drop-append-le}
-use Rattle.std.proofs.lemmas.Bool.Decides.{nat_tests}
-use Rattle.text.proofs.Choices.{if_yes, if_no}
-use Rattle.text.specs.Rows.{◌when◌, by_rows}
-use Rattle.record.specs.Given.{Given, accepted, refused}
+use Rattle.text.proofs.Choices.{if_no}
+use Rattle.record.specs.Given.{refused}
 use Rattle.record.specs.Record.{blank}
-use Rattle.record.specs.declared.types.Device.{Device}
-use Rattle.stored.specs.Form.{form_version, old_version}
+use Rattle.stored.specs.Form.{form_version}
 use Rattle.stored.specs.Reading.{Field, onward, ◌giving◌, given, byte, bytes, number, section_of, text, texts}
 use Rattle.stored.specs.Reading.{alone, texts_of_2, class_part, class_in, marks_of, FormSaid, form}
-use Rattle.stored.specs.Loading.{is_other_version, ends_early, leaves_more, said, is_marked, is_legal_said}
-use Rattle.stored.specs.Loading.{started_with, loaded}
+use Rattle.stored.specs.Loading.{is_other_version}
+use Rattle.stored.specs.Loading.{loaded}
 use Rattle.stored.proofs.Fields.{Bytes, rest_bytes}
 
 pub record ReadWithin {A : Type 0} (k : ℕ) (P : A → Type 0) (r : Field A) (s : List ℕ) : Type 0 where
@@ -40,32 +37,10 @@ Any x = Unit {0}
 -- of fewer bytes, and of a stronger fact
 within_more : {A : Type 0} {P Q : A → Type 0} {r : Field A} (k l : ℕ) → k ≤ l → ((x : A) → P x → Q x)
     → Within k P r → Within l Q r
-within_more k l h weaker w = record {
-  reads = λ s b long.
-      let x = w.reads s b (omega arith) in
-      record {
-        value = x.value;
-        rest = x.rest;
-        read = x.read;
-        more = x.more;
-        few = omega (arith, x.few);
-        bytes = x.bytes;
-        such = weaker x.value x.such;
-      };
-}
+within_more k l h weaker w = grind arith
 
 within_given : {A : Type 0} {P : A → Type 0} (k : ℕ) (x : A) → P x → Within k P (given x)
-within_given k x p = record {
-  reads = λ s b long. record {
-    value = x;
-    rest = s;
-    read = refl;
-    more = λ t. refl;
-    few = omega arith;
-    bytes = b;
-    such = p;
-  };
-}
+within_given k x p = grind arith
 
 within_then : {A B : Type 0} {P : A → Type 0} {Q : B → Type 0} {r : Field A} {f : A → Field B} (k l : ℕ)
     → Within k P r → ((x : A) → P x → Within l Q (f x)) → Within (k + l) Q (r giving f)
@@ -86,8 +61,7 @@ within_then {f = f} k l a b = record {
 
 within_if : {A : Type 0} {P : A → Type 0} {k : ℕ} {r q : Field A} (c : Bool) → Within k P r → Within k P q
     → Within k P (if c then r else q)
-within_if true a b = a
-within_if false a b = b
+within_if c h g = grind arith
 
 within_byte : Within 1 (λ n. n < 256) byte
 unfolding byte
@@ -145,9 +119,7 @@ within_texts (suc n) =
 
 within_marks : (v n : ℕ) → Within 256 Any (marks_of v n)
 unfolding marks_of
-within_marks v n =
-    within_if (v == old_version) (within_given 256 _ tt)
-    (within_more 256 256 (omega arith) (λ t p. tt) within_text)
+within_marks v n = grind (arith, within_if, within_given, within_more, within_text)
 
 within_class : (v n : ℕ) → n ≤ 255 → Within 65793 Any (class_in v n)
 unfolding class_in class_part texts_of_2
@@ -184,18 +156,7 @@ within_form =
 left_over_told : (s : List ℕ) (f : FormSaid) (x : ℕ) (xs : List ℕ) → form s ≡ Some (f, x ∷ xs)
     → loaded s ≡ (if is_other_version s then refused 20 blank else refused 22 blank)
 unfolding loaded
-left_over_told s f x xs e =
-    ap
-    (λ (o : Option (FormSaid × List ℕ)).
-    by_rows
-    ((20 when is_other_version s) ∷ (21 when ends_early o) ∷ (22 when leaves_more o)
-    ∷ (23 when not (is_legal_said (said o))) ∷ [])
-    (λ n. refused n blank) (accepted (started_with (said o).settings (map is_marked (said o).marks))))
-    e
-    ∙ ap (λ (g : Given Device). if is_other_version s then refused 20 blank else g) (if_yes _ _ (some (length xs)))
-  where
-    some : (n : ℕ) → not (suc n == 0) ≡ true
-    some n = grind (arith, nat_tests)
+left_over_told s f x xs e = grind arith
 
 -- as many bytes as no form takes are loaded as they are with any more after them
 pub loaded-append : (s t : List ℕ) → Bytes s → 68867 ≤ length s → loaded (s ++ t) ≡ loaded s

@@ -4,7 +4,7 @@
 -- board swap what a legal record stores loads as the set-up of its settings and of its lamps' seconds as they are, each
 -- lamp with its mark; and what is stored of a fresh set-up is what it was set up with.
 -- Assumes nothing.
-use Rattle.std.proofs.Common.{ℕ, zero, suc, ◌*◌, ◌/◌, ◌<◌, ◌≡◌, Bool, true, false, ◌==◌, List, [], ◌∷◌, ◌++◌, length}
+use Rattle.std.proofs.Common.{ℕ, ◌*◌, ◌/◌, ◌<◌, ◌≡◌, Bool, true, false, ◌==◌, List, [], ◌∷◌, ◌++◌, length}
 use Rattle.std.proofs.Common.{map, take, refl, sym, ap, ◌∙◌, arith, append-nil, length-take-le}
 use Rattle.text.proofs.Choices.{if_yes, if_no}
 use Rattle.record.specs.Wanted.{Wanted}
@@ -43,9 +43,7 @@ use Rattle.record.proofs.FactsTold.{stretch_is, fills_told}
 
 -- the first byte, if it is still there, is the version
 is_other_version-take : (k : ℕ) (s : List ℕ) → is_other_version s ≡ false → is_other_version (take k s) ≡ false
-is_other_version-take zero s v = refl
-is_other_version-take (suc k) [] v = refl
-is_other_version-take (suc k) (x ∷ s) v = v
+is_other_version-take k s h = grind arith
 
 -- of each version
 module _ (v : ℕ) (known : is_other_version (v ∷ []) ≡ false) (w : Wanted) (ok : is_set_up w ≡ true)
@@ -172,10 +170,7 @@ module _ (d : Device) (h : is_legal d ≡ true) where
   -- in the words of the record
   pub stored_loads_as : loaded (stored_form d)
       ≡ accepted (with_own (started (stored_of d)) (with_marks (started (stored_of d)).own d.own.enabled))
-  stored_loads_as =
-      stored_loads
-      ∙ ap (λ (ms : List Bool). accepted
-      (with_own (started (stored_of d)) (with_marks (started (stored_of d)).own ms))) mark_room-marks_stored
+  stored_loads_as = grind (arith, stored_loads, mark_room-marks_stored)
 
 module _ (w : Wanted) (ok : is_set_up w ≡ true) where
   met : (s : Setting) → is_setting_in_range w s ≡ true
@@ -196,7 +191,4 @@ module _ (w : Wanted) (ok : is_set_up w ≡ true) where
 
   -- and the marks that a load gave it
   pub marks_stored-started_with : (ms : List Bool) → length ms ≡ length w.lamps → marks_stored (started_with w ms) ≡ ms
-  marks_stored-started_with ms many =
-      ap (λ (d : Device). take d.settings.lamp_count (mark_room ms)) (started_parts w)
-      ∙ ap (λ (n : ℕ). take n (mark_room ms)) (sym many)
-      ∙ room_front ms
+  marks_stored-started_with ms many = grind (arith, started_parts, room_front)

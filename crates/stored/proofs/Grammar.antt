@@ -97,12 +97,7 @@ module _ (w : Wanted) (ok : is_set_up w ≡ true) where
   class_form : (v : ℕ) → ((v == form_version) ≡ false → w.class ≡ 1)
       → IsForm (class_in v (input_count w)) class_said (rest_part v class_said)
   unfolding class_in
-  class_form v older =
-      if_form (v == form_version) (λ new. part_form)
-      (λ old.
-      let one = older old in
-      subst (λ (c : ClassPart). IsForm (given (alone 1)) c [])
-      (ap alone (sym one) ∙ is_alone (ap (λ (k : ℕ). k == 2) one)) (given_form (alone 1)))
+  class_form v older = grind (arith, if_form, part_form, is_alone, given_form)
 
 stretch_fits : (n : ℕ) → is_stretch n ≡ true → n < 256 ^ 2
 stretch_fits n h = omega (arith, leb-true n stretch_most (both_right _ _ h))

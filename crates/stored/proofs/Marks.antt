@@ -62,8 +62,7 @@ module _ (n : ℕ) (few : n ≤ lamps_most) where
   all_room = ap (kept false lamps_most) (sym (take-replicate n lamps_most true few)) ∙ marks_kept n few
 
   pub all_are_marks : is_marks_of n (replicate n true) ≡ true
-  all_are_marks =
-      grind (arith, length-replicate n true, ap (is_marks n) all_room, all_marks_legal n few)
+  all_are_marks = grind (arith, length-replicate, all_room, all_marks_legal)
 
 pub started_with-replicate : (w : Wanted) → is_set_up w ≡ true
     → started_with w (replicate (length w.lamps) true) ≡ started w
@@ -98,11 +97,4 @@ pub record AreMarks (n : ℕ) (s : List ℕ) : Type 0 where
   pub legal : is_marks n (mark_room (map is_marked s)) ≡ true
 
 pub marks_are : (n : ℕ) (s : List ℕ) → IsTrue (are_marks n s) ↔ AreMarks n s
-marks_are n s = (
-  λ h. record {
-    each = grind (arith, h);
-    many = grind (arith, h, length-map s is_marked);
-    legal = grind (arith, h);
-  },
-  λ t. grind (arith, t.each, t.many, t.legal, length-map s is_marked),
-)
+marks_are n s = grind (arith, length-map)

@@ -40,10 +40,8 @@ module _ (s : List ℕ) (e : (loaded s).number ≡ 0) where
   settings_stored = ap stored_of gave ∙ started_stored (settings_in s) told.contents
 
   marks_stored_lem : marks_stored d ≡ marks_read s
-  marks_stored_lem =
-      ap marks_stored gave
-      ∙ marks_stored-started_with (settings_in s) told.contents (marks_read s)
-      (length-map (mark_bytes_in s) is_marked ∙ marks.many)
+  unfolding class_part_text form_with loaded
+  marks_stored_lem = grind (arith, gave, marks_stored-started_with, length-map)
 
   -- the bytes are their version's form of what stands in them
   version_again : Bytes s → version_form (s at 0) (settings_in s) (marks_read s) ≡ s
@@ -77,7 +75,5 @@ old_enabled s e o =
 -- bytes of one version that load as one record are one
 pub forms_apart : (s t : List ℕ) → Bytes s → Bytes t → (loaded s).number ≡ 0 → (loaded t).number ≡ 0 → s at 0 ≡ t at 0
     → (loaded s).device ≡ (loaded t).device → s ≡ t
-forms_apart s t b c e f version same =
-    sym (stored_as_it_was s e b)
-    ∙ (λ i. version_form (version i) (stored_of (same i)) (marks_stored (same i)))
-    ∙ stored_as_it_was t f c
+unfolding class_part_text form_with loaded
+forms_apart s t b c e f version same = grind (arith, stored_as_it_was)

@@ -4,16 +4,14 @@
 --   IsAccepted s      an accepted load: the version is known, the form is all that stands there, the contents are legal
 --   StoredTold r      an accepted store: the record is legal, the memory has room, the bytes are the form's
 -- Assumes nothing.
-use Rattle.std.proofs.Common.{ℕ, ◌≤◌, ◌≡◌, Bool, true, false, ◌==◌, List, [], length, Option, Some, None, Result, Ok}
-use Rattle.std.proofs.Common.{Err, refl, sym, ap, ◌∙◌, arith, ltb-false}
+use Rattle.std.proofs.Common.{ℕ, ◌≤◌, ◌≡◌, Bool, true, false, ◌==◌, List, [], length, Option, Some, Result}
+use Rattle.std.proofs.Common.{sym, ◌∙◌, arith}
 use Rattle.text.specs.Rows.{first_of}
-use Rattle.text.proofs.ByRows.{rows_number, by_rows_lem}
 use Rattle.words.specs.Bytes.{◌at◌}
 use Rattle.record.specs.Wanted.{Wanted}
 use Rattle.record.specs.Rules.{is_marks}
-use Rattle.record.specs.Updates.{with_marks}
-use Rattle.record.specs.Record.{started, blank}
-use Rattle.record.specs.Given.{accepted, refused}
+use Rattle.record.specs.Record.{blank}
+use Rattle.record.specs.Given.{accepted}
 use Rattle.record.specs.Legal.{is_legal}
 use Rattle.record.specs.SetUp.{is_set_up}
 use Rattle.record.specs.declared.types.Device.{Device}
@@ -28,21 +26,15 @@ use Rattle.stored.specs.Loading.{is_other_version, ends_early, leaves_more, said
 use Rattle.stored.specs.Loading.{marks_read, mark_room, are_marks, started_with, load_rows, loaded}
 use Rattle.stored.proofs.Marks.{marks_are}
 use Rattle.stored.proofs.Grammar.{nothing, form_read}
-use Rattle.std.proofs.lemmas.Bool.{not-false}
 
 -- a set-up with legal marks is legal
 pub is_legal-started_with : (w : Wanted) (ms : List Bool) → is_set_up w ≡ true
     → is_marks (length w.lamps) (mark_room ms) ≡ true → is_legal (started_with w ms) ≡ true
-is_legal-started_with w ms ok h =
-    let legal = started_legal w ok in
-    let t = own_of_legal (started w) legal in
-    is_legal-with_own (started w) legal (with_marks (started w).own (mark_room ms))
-    (assumption (t, ap (λ (d : Device). is_marks d.settings.lamp_count (mark_room ms)) (started_parts w) ∙ h))
+is_legal-started_with w ms ok h = grind (arith, started_legal, own_of_legal, is_legal-with_own, started_parts)
 
 -- what neither ends early nor leaves more
 read_whole : (o : Option (FormSaid × List ℕ)) → ends_early o ≡ false → leaves_more o ≡ false → o ≡ Some (said o, [])
-read_whole None e l = grind (arith, e)
-read_whole (Some x) e l = grind (arith, l, nothing x.1)
+read_whole o h g = grind (arith, nothing)
 
 module _ (s : List ℕ) where
   pub record IsAccepted : Type 0 where
@@ -54,9 +46,7 @@ module _ (s : List ℕ) where
   -- 20, 21, 22, 23, in that order, or 0
   pub loading_number : (loaded s).number ≡ first_of (load_rows s)
   unfolding loaded
-  loading_number =
-      rows_number (λ n. refused n blank) (accepted (started_with (settings_in s) (marks_read s))) (λ r. r.number)
-      (λ n. refl) refl (load_rows s)
+  loading_number = grind arith
 
   pub refused_load_blank : ((loaded s).number ≡ 0 → ⊥) → (loaded s).device ≡ blank
   unfolding loaded
@@ -64,22 +54,15 @@ module _ (s : List ℕ) where
 
   pub accepted_told : (loaded s).number ≡ 0 → IsAccepted
   unfolding loaded
-  accepted_told e = record {
-    version = grind (arith, e);
-    read = read_whole (form s) (grind (arith, e)) (grind (arith, e));
-    contents = grind (arith, e);
-    marks = grind (arith, e);
-  }
+  accepted_told e = grind (arith, read_whole)
 
   pub accepted_set_up : (loaded s).number ≡ 0 → loaded s ≡ accepted (started_with (settings_in s) (marks_read s))
   unfolding loaded
   accepted_set_up e = grind (arith, e)
 
   pub accepted_legal : (loaded s).number ≡ 0 → is_legal (loaded s).device ≡ true
-  accepted_legal e =
-      let told = accepted_told e in
-      let marks = ((marks_are _ (mark_bytes_in s)).0 told.marks).legal in
-      grind (arith, accepted_set_up e, is_legal-started_with (settings_in s) (marks_read s) told.contents marks)
+  unfolding loaded
+  accepted_legal e = grind (arith, accepted_told, marks_are, accepted_set_up, is_legal-started_with)
 
   -- versions 1 and 2 are of Class 1 (RULES, Class 2)
   pub older_is_class_1 : ((s at 0) == form_version) ≡ false → (loaded s).number ≡ 0 → (settings_in s).class ≡ 1
@@ -87,10 +70,7 @@ module _ (s : List ℕ) where
 
 -- what loading tells of its result is all of it
 told_apart : (r s : Result Device LoadError) → loading_told r ≡ loading_told s → r ≡ s
-told_apart (Ok d) (Ok e) h = grind (arith, h)
-told_apart (Ok d) (Err e) h = grind (arith, h)
-told_apart (Err d) (Ok e) h = grind (arith, h)
-told_apart (Err d) (Err e) h = grind (arith, h)
+told_apart r s h = grind arith
 
 pub one_outcome : (bs : List ℕ) (r s : Result Device LoadError) → loading_told r ≡ loaded bs
     → loading_told s ≡ loaded bs → r ≡ s
@@ -101,9 +81,7 @@ one_outcome bs r s e f = told_apart r s (e ∙ sym f)
 module _ (d : Device) (room : ℕ) where
   pub storing_number : (stored_by d room).number ≡ first_of (storing_rows d room)
   unfolding stored_by
-  storing_number =
-      rows_number nothing_stored (record { number = 0; bytes = stored_form d }) (λ r. r.number) (λ n. refl) refl
-      (storing_rows d room)
+  storing_number = grind arith
 
   pub record StoredTold (r : StoredAs) : Type 0 where
     pub legal : is_legal d ≡ true
@@ -115,9 +93,7 @@ module _ (d : Device) (room : ℕ) where
       → P (record { number = 0; bytes = stored_form d }))
       → P (stored_by d room)
   unfolding stored_by
-  storing_by P refuse accept =
-      by_rows_lem nothing_stored (record { number = 0; bytes = stored_form d }) P refuse (storing_rows d room) refl
-      (λ none. accept (not-false (is_legal d) none.0) (ltb-false room (length (stored_form d)) none.1.0))
+  storing_by P refuse accept = grind arith
 
   pub refused_store_writes_nothing : ((stored_by d room).number ≡ 0 → ⊥) → (stored_by d room).bytes ≡ []
   unfolding stored_by

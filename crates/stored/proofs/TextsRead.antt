@@ -14,13 +14,7 @@ use Rattle.stored.proofs.Fields.{text_form, texts_form, text_spelled}
 counted_back : (ts : List (List ℕ)) (rest : List ℕ) → counted_in (length ts) (texts_bytes ts ++ rest) ≡ ts
 unfolding texts_bytes
 counted_back [] rest = counted_none rest
-counted_back (t ∷ ts) rest =
-    grind (
-      arith,
-      append_assoc (text_section t) (texts_bytes ts) rest,
-      counted_first (length ts) t (texts_bytes ts ++ rest),
-      counted_back ts rest,
-    )
+counted_back (t ∷ ts) rest = grind (arith, append_assoc, counted_first, counted_back ts rest)
 
 -- a text that is cut short cuts the texts short
 texts_cut : (n : ℕ) (ts : List (List ℕ)) (rest : List ℕ) → length ts < n → text rest ≡ None

@@ -1,7 +1,7 @@
 -- The law of the writer (RULES, Stored form): field after field, each in turn, and what is past the end of the memory.
 -- Assumes nothing.
 use Rattle.std.proofs.Common.{ℕ, zero, suc, ◌+◌, ◌<◌, ◌≤◌, ◌≡◌, Bool, false, List, [], ◌∷◌, ◌++◌, length, map, take}
-use Rattle.std.proofs.Common.{set, slice_index_or, refl, sym, ap, ◌∙◌, arith, length-append, length-set}
+use Rattle.std.proofs.Common.{set, slice_index_or, refl, ◌∙◌, arith, length-append, length-set}
 use Rattle.std.proofs.lemmas.Grind.{common_steps}
 use Rattle.std.proofs.lemmas.List.{take-map}
 use Rattle.std.proofs.lemmas.List.Edits.{sets}
@@ -30,11 +30,7 @@ sets_fit (x ∷ s) l i (suc n) h = grind (arith, sets_fit s (set l i x) (suc i) 
 
 module _ {a b c : Writer} {s t : List ℕ} where
   pub puts_as : {u : List ℕ} → u ≡ s ++ t → Puts a b s → Puts b c t → Puts a c u
-  puts_as e p q = record {
-    lent = q.lent ∙ p.lent;
-    memory = q.memory ∙ sets_then a.out.now a.at s t p.memory p.count ∙ ap (sets a.out.now a.at) (sym e);
-    count = omega (arith, ap length e, length-append s t, p.count, q.count);
-  }
+  puts_as e p q = grind (arith, sets_then, length-append)
 
   pub puts_then : Puts a b s → Puts b c t → Puts a c (s ++ t)
   puts_then = puts_as refl
@@ -48,15 +44,7 @@ pub texts_bytes-take : (ns : List InputName) (i : ℕ) (d : InputName) → i < l
     → texts_bytes (map name_stored (take (i + 1) ns))
     ≡ texts_bytes (map name_stored (take i ns)) ++ text_section (name_stored (slice_index_or ns i d))
 unfolding texts_bytes
-texts_bytes-take ns i d h =
-    grind (
-      arith,
-      common_steps,
-      take-map name_stored i ns,
-      take-map name_stored (i + 1) ns,
-      each_in_turn-take text_section (map name_stored ns) i (name_stored d),
-      get_or-map name_stored ns i d,
-    )
+texts_bytes-take ns i d h = grind (arith, common_steps, take-map, each_in_turn-take, get_or-map)
 
 pub seconds_bytes-take : (xs : List ℕ) (i : ℕ) → i < length xs
     → seconds_bytes (take (i + 1) xs) ≡ seconds_bytes (take i xs) ++ highest_first 4 (slice_index_or xs i 0)

@@ -2,10 +2,9 @@
 -- after the other.
 -- Assumes nothing.
 use Rattle.std.proofs.Common.{ℕ, suc, ◌+◌, ◌≤◌, ◌<◌, ◌≡◌, refl, sym, ap, ◌∙◌, Bool, true, false, List, [], ◌∷◌, ⊎_elim}
-use Rattle.std.proofs.Common.{add-zero, add-one, arith, length, take, set, nat_lt, ◌==◌, lt-ltb, le-leb, leb-true}
+use Rattle.std.proofs.Common.{add-zero, add-one, arith, length, take, set, nat_lt, ◌==◌, le-leb, leb-true}
 use Rattle.std.proofs.Common.{leb-false}
 use Rattle.std.proofs.lemmas.Bool.{lt-leb}
-use Rattle.std.proofs.Math.Dec.{leb-suc-suc}
 use Rattle.std.proofs.Math.Seq.{sets}
 use mathlib.Core.List.{foldl}
 use Rattle.std.specs.Prelude.{if◌then◌else◌}
@@ -47,8 +46,7 @@ module _ (most : ℕ) where
   -- the mark stays
   pub marked_stays : (l : Line) (bs : List ℕ) → l.overlong ≡ true → collected_all most l bs ≡ l
   marked_stays l [] e = refl
-  marked_stays l (b ∷ bs) e =
-      ap (λ (m : Line). collected_all most m bs) (one_marked _ most l b e) ∙ marked_stays l bs e
+  marked_stays l (b ∷ bs) e = grind (arith, one_marked, marked_stays l bs e)
 
   pub all_fit : (l : Line) (bs : List ℕ) → l.overlong ≡ false → l.held + length bs ≤ most
       → collected_all most l bs
@@ -83,8 +81,7 @@ module _ {L : Type 0} (end : ℕ) (collect : L → ℕ → L) where
       ≡ (let n = index_after t (index_of end bs) in
       at (foldl collect l (take n (b ∷ bs))) n (nat_lt n (suc (length bs))))
   unfolding index_after
-  first l b bs true h = ap (at l 0) (sym (lt-ltb 0 (suc (length bs)) (omega arith)))
-  first l b bs false h = grind (arith, leb-suc-suc)
+  first l b bs t h = grind arith
 
   pub all_at_once : (l : L) (bs : List ℕ) → up_to end collect l bs ≡ at_once l bs
   unfolding up_to index_of index_after

@@ -1,14 +1,14 @@
 -- What is collected of a line is the end of what was sent: someone who keeps all bytes taken, in a row, has it there.
 --   Ends w h      h is the end of w
 -- Assumes nothing.
-use Rattle.std.proofs.Common.{ℕ, ◌+◌, ◌<◌, ◌≡◌, sym, ap, ◌∙◌, Bool, true, List, [], ◌∷◌, ◌++◌, append_assoc, append-nil}
+use Rattle.std.proofs.Common.{ℕ, ◌+◌, ◌<◌, ◌≡◌, sym, ap, ◌∙◌, true, List, [], ◌∷◌, ◌++◌, append_assoc, append-nil}
 use Rattle.std.proofs.Common.{arith, add-one, length, take, set, take-suc-set}
 use Rattle.std.proofs.lemmas.Bool.{false≢true, eqb-false}
 use Rattle.std.proofs.Math.Seq.{take-append_seam, take-append-add}
 use Prim.Native.Char.{code}
 use Rattle.text.specs.Words.{◌is◌}
 use Rattle.text.proofs.Choices.{if_by}
-use Rattle.record.specs.Legal.{is_collecting, is_held, held_most}
+use Rattle.record.specs.Legal.{is_collecting, held_most}
 use Rattle.record.specs.declared.types.Line.{Line}
 use Rattle.record.proofs.ConnectionTold.{held_most_room, marked_none}
 use Rattle.stream.specs.Machine.{UpTo, up_to}
@@ -26,10 +26,7 @@ ends_none w = record { before = w; split = sym (append-nil w) }
 
 -- more behind
 pub ends_with : {w h : List ℕ} (x : List ℕ) → Ends w h → Ends (w ++ x) (h ++ x)
-ends_with {w} {h} x e = record {
-  before = e.before;
-  split = ap (λ (y : List ℕ). y ++ x) e.split ∙ append_assoc e.before h x;
-}
+ends_with {w} {h} x e = grind (arith, append_assoc)
 
 pub ends_trans : {w h k : List ℕ} → Ends w h → Ends h k → Ends w k
 ends_trans {w} {h} {k} e f = record {
@@ -51,8 +48,7 @@ ends_unheld w l e = record {
 
 -- a legal line under the mark holds nothing
 overlong_unheld : (phase : ℕ) (l : Line) → LegalLine phase l → l.overlong ≡ true → l.held ≡ 0
-overlong_unheld phase l p e = marked_none phase l.held
-    (ap (λ (m : Bool). is_held phase m l.held) (sym e) ∙ p.held)
+overlong_unheld phase l p e = grind (arith, marked_none)
 
 one_more_ends : (phase : ℕ) (l : Line) (b : ℕ) → LegalLine phase l
     → Ends (line_text l ++ (b ∷ [])) (line_text (collected (held_most phase) l b))

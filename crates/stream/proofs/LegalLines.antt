@@ -2,12 +2,12 @@
 -- zero.
 -- Assumes nothing.
 use Rattle.std.specs.List.{list_all}
-use Rattle.std.proofs.Common.{ℕ, ◌+◌, ◌≡◌, refl, sym, ap, ◌∙◌, true, false, not, List, [], ◌∷◌, ◌++◌, arith, length}
-use Rattle.std.proofs.Common.{take, drop, eqb-true, ne_eqb}
+use Rattle.std.proofs.Common.{ℕ, ◌+◌, ◌≡◌, refl, sym, ap, ◌∙◌, true, false, List, [], ◌∷◌, ◌++◌, arith, length}
+use Rattle.std.proofs.Common.{take, drop, ne_eqb}
 use Prim.Native.Char.{code}
-use Rattle.text.proofs.Choices.{both, both_left, both_right}
+use Rattle.text.proofs.Choices.{both, both_right}
 use Rattle.text.proofs.Scanning.{list_all-append}
-use Rattle.words.specs.Bytes.{not_cr, no_cr}
+use Rattle.words.specs.Bytes.{no_cr}
 use Rattle.words.proofs.Characters.{no_cr_of, no_cr_each}
 use Rattle.record.specs.Limits.{line_room}
 use Rattle.record.specs.Record.{zeros}
@@ -27,19 +27,14 @@ pub record LegalLine (phase : ℕ) (l : Line) : Type 0 where
 
 pub empty_legal : (phase : ℕ) → LegalLine phase empty_line
 unfolding empty_line
-empty_legal phase = record {
-  kept = nothing_kept line_room no_cr (no_cr_of [] refl);
-  held = unmarked_held phase 0 (omega arith);
-}
+empty_legal phase = grind (arith, nothing_kept, no_cr_of, unmarked_held)
 
 overlong_legal : (phase : ℕ) → is_collecting phase ≡ true → LegalLine phase overlong_line
 unfolding overlong_line
 overlong_legal phase e = record { kept = nothing_kept line_room no_cr (no_cr_of [] refl); held = marked_held phase e }
 
 no_cr_more : (s : List ℕ) (b : ℕ) → no_cr s ≡ true → (b ≡ code "\r" → ⊥) → no_cr (s ++ (b ∷ [])) ≡ true
-no_cr_more s b e n =
-    no_cr_of (s ++ (b ∷ []))
-    (list_all-append not_cr s (b ∷ []) (no_cr_each s e) (both (ap not (ne_eqb b (code "\r") n)) refl))
+no_cr_more s b e n = grind (arith, no_cr_of, list_all-append, no_cr_each, both, ne_eqb)
 
 pub collected_legal : (phase : ℕ) (l : Line) (b : ℕ) → is_collecting phase ≡ true → (b ≡ code "\r" → ⊥)
     → LegalLine phase l → LegalLine phase (collected (held_most phase) l b)
@@ -64,10 +59,7 @@ gathered_legal phase l bs e p =
 -- between lines (RULES, Connection: no collected bytes and no overlong mark) a legal line is the empty one
 zeros_by : (s : List ℕ) → list_all is_zero s ≡ true → s ≡ zeros (length s)
 zeros_by [] e = refl
-zeros_by (x ∷ s) e =
-    let first = eqb-true x 0 (both_left (is_zero x) (list_all is_zero s) e) in
-    let rest = zeros_by s (both_right (is_zero x) (list_all is_zero s) e) in
-    (λ i. first i ∷ rest i)
+zeros_by (x ∷ s) e = grind (arith, zeros_by s (both_right (is_zero x) (list_all is_zero s) e))
 
 pub between_lines : (phase : ℕ) (l : Line) → LegalLine phase l → l.overlong ≡ false → l.held ≡ 0 → l ≡ empty_line
 unfolding empty_line

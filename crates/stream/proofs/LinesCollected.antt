@@ -2,7 +2,7 @@
 -- of an overlong one the mark alone.
 -- Assumes nothing.
 use Rattle.std.specs.List.{list_all}
-use Rattle.std.proofs.Common.{ℕ, ◌+◌, ◌≤◌, ◌<◌, ◌≡◌, refl, sym, ap, ◌∙◌, true, false, List, [], ◌∷◌, ◌++◌, append_assoc}
+use Rattle.std.proofs.Common.{ℕ, ◌+◌, ◌≤◌, ◌<◌, ◌≡◌, sym, ap, ◌∙◌, true, List, [], ◌∷◌, ◌++◌, append_assoc}
 use Rattle.std.proofs.Common.{append-nil, arith, length, length-append}
 use Prim.Native.Char.{code}
 use Rattle.words.specs.Bytes.{not_cr}
@@ -16,8 +16,7 @@ use Rattle.stream.proofs.AllAtOnce.{one_fits, all_past}
 
 pub empty_is_none : empty_line ≡ line_of []
 unfolding empty_line
-empty_is_none =
-    ap {B = Line} (λ (bs : List ℕ). record { overlong = false; held = 0; bytes = bs }) (sym (room_empty line_room))
+empty_is_none = grind (arith, room_empty)
 
 module _ (most : ℕ) where
   pub collected-line_of : (xs : List ℕ) (b : ℕ) → length xs < most → most ≤ line_room
@@ -50,5 +49,4 @@ module _ (most : ℕ) where
     pub overlong_gathered : most ≤ line_room → length done ≤ most → most < length done + length xs
         → list_all not_cr xs ≡ true
         → gathered most (line_of done) (xs ++ (code "\r" ∷ rest)) ≡ with overlong_line
-    overlong_gathered g h l p =
-        gathered-append (line_of done) xs rest p ∙ ap with (all_past most (line_of done) xs refl (omega arith) l)
+    overlong_gathered g h l p = grind (arith, gathered-append, all_past)

@@ -1,10 +1,10 @@
 -- A machine that keeps its line in its state takes in one call what it gathers.
 -- Assumes nothing.
+use Rattle.std.proofs.Common.{arith}
 use Rattle.std.specs.List.{list_all}
-use Rattle.std.proofs.Common.{◌≡◌, ap, ◌∙◌, true, List, ◌∷◌, ◌++◌, length, ℕ, ◌+◌}
+use Rattle.std.proofs.Common.{◌≡◌, true, List, ◌∷◌, ◌++◌, length, ℕ, ◌+◌}
 use mathlib.Core.List.{foldl}
 use Prim.Native.Char.{code}
-use Rattle.std.specs.Prelude.{if◌then◌else◌}
 use Rattle.record.specs.declared.types.Line.{Line}
 use Rattle.stream.specs.declared.Gathered.{Gathered}
 use Rattle.stream.specs.Collecting.{collected, gathered}
@@ -18,11 +18,7 @@ module _ {L D : Type 0} (end : ℕ) (collect : L → ℕ → L) (collects : D �
   pub call_gathers : (l : L) (bs : List ℕ)
       → one_call end D collects ends (keep l) bs ≡ call_of keep ending (up_to end collect l bs)
   unfolding one_call
-  call_gathers l bs =
-      let g = up_to end collect l bs in
-      ap (call_of (λ (d : D). d) ends) (up_to_kept_in end collect collects keep is-collect l bs)
-      ∙ (λ i. if g.ended then took_bytes (g.before + 1) (is-end g.line i)
-      else took_bytes g.before (unanswered (keep g.line)))
+  call_gathers l bs = grind (arith, up_to_kept_in)
 
 -- a call, by where the first line ends
 module _ (end : ℕ) (D : Type 0) (collect : D → ℕ → D) (ends : D → Out D) where

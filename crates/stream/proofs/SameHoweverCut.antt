@@ -6,10 +6,10 @@
 use Rattle.std.specs.List.{list_all}
 use Rattle.std.proofs.Common.{◌≡◌, refl, sym, ap, ◌∙◌, true, List, [], ◌∷◌, ◌++◌, append_assoc, append-nil, ℕ, zero}
 use Rattle.std.proofs.Common.{suc, ◌+◌, ◌≤◌, arith, length, take, drop, length-drop, take-append-drop, ◌==◌, eq-eqb}
-use Rattle.std.proofs.lemmas.Bool.{eqb-false, not-true}
+use Rattle.std.proofs.lemmas.Bool.{eqb-false}
 use Rattle.std.proofs.Math.Seq.{take-length, take-append-add}
 use mathlib.Core.List.{foldl}
-use Rattle.text.proofs.Choices.{if_yes, if_no, if_by, both_left, both_right}
+use Rattle.text.proofs.Choices.{if_yes, if_by, both_right}
 use Rattle.stream.specs.Machine.{Out, Took, unanswered, reply_then, took_bytes, one_step, run_over, one_call, handed}
 use Rattle.stream.specs.Machine.{handed_part, handed_parts, uncut}
 use Rattle.stream.proofs.UpToTheEnd.{not_end}
@@ -93,9 +93,7 @@ module _ (end : ℕ) (D : Type 0) (collect : D → ℕ → D) (ends : D → Out 
   unfolding run_over
   run_plain d [] p = refl
   run_plain d (x ∷ xs) p =
-      ap (λ (o : Out D). reply_then o.reply (ran o.state xs))
-      (if_no _ _ (not-true (x == end) (both_left (not_end end x) (list_all (not_end end) xs) p)))
-      ∙ run_plain (collect d x) xs (both_right (not_end end x) (list_all (not_end end) xs) p)
+      grind (arith, run_plain (collect d x) xs (both_right (not_end end x) (list_all (not_end end) xs) p))
 
   run_line : (d : D) (xs : List ℕ) → list_all (not_end end) xs ≡ true
       → ran d (xs ++ (end ∷ [])) ≡ ends (foldl collect d xs)
@@ -150,5 +148,4 @@ module _ (end : ℕ) (D : Type 0) (collect : D → ℕ → D) (ends : D → Out 
 
       pub same_however_cut : (d : D) (ps qs : List (List ℕ)) → Live d → uncut ps ≡ uncut qs
           → handed_parts f (g d) ps ≡ handed_parts f (g d) qs
-      same_however_cut d ps qs r e =
-          calls_run d ps r ∙ ap (λ (s : List ℕ). out_through g (ran d s)) e ∙ sym (calls_run d qs r)
+      same_however_cut d ps qs r e = grind (arith, calls_run)

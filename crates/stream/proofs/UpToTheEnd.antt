@@ -95,8 +95,7 @@ module _ {L M : Type 0} (end : ℕ) (collect : L → ℕ → L) (collects : M �
       else one_later (up_to end collects (collects (keep l) b) bs))
       ≡ kept_in keep
       (if t then record { line = l; before = 0; ended = true } else one_later (up_to end collect (collect l b) bs))
-  by_byte l b bs true ih = refl
-  by_byte l b bs false ih = ap one_later ih
+  by_byte l b bs t h = grind arith
 
   pub up_to_kept_in : (l : L) (bs : List ℕ)
       → up_to end collects (keep l) bs ≡ kept_in keep (up_to end collect l bs)

@@ -1,7 +1,7 @@
 -- A stream part by part, and one that is handed on in one part which a single call takes whole: what it leaves is what
 -- that call left.
 -- Assumes nothing.
-use Rattle.std.proofs.Common.{ℕ, zero, suc, ◌≤◌, ◌≡◌, refl, ap, ◌∙◌, List, [], ◌∷◌, ◌++◌, append-nil, arith, length}
+use Rattle.std.proofs.Common.{ℕ, ◌≤◌, ◌≡◌, refl, ap, ◌∙◌, List, [], ◌∷◌, ◌++◌, append-nil, arith, length}
 use Rattle.std.proofs.Common.{drop_of_length-le}
 use Rattle.stream.specs.Machine.{Out, Took, unanswered, reply_then, handed, handed_part, handed_parts, uncut}
 
@@ -16,8 +16,7 @@ uncut_more p ps = refl
 module _ {D : Type 0} (f : D → List ℕ → Took D) where
   none_handed : (n : ℕ) (d : D) → handed f n d [] ≡ unanswered d
   unfolding handed
-  none_handed zero d = refl
-  none_handed (suc n) d = refl
+  none_handed n d = grind arith
 
   abbrev left : D → List ℕ → Out D
   left d p = record { state = (f d p).state; reply = (f d p).reply }

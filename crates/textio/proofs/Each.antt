@@ -24,15 +24,13 @@ each_parts f s (suc i) n =
 
 each_one : (f : ℕ → List ℕ) (s i m : ℕ) → m ≡ s + i
     → flat_map f (range_with_len s (i + 1)) ≡ flat_map f (range_with_len s i) ++ f m
-each_one f s i m e = each_parts f s i 1 ∙ ap (λ t. flat_map f (range_with_len s i) ++ t)
-    (append-nil (f (s + i)) ∙ ap f (sym e))
+each_one f s i m e = grind (arith, each_parts, append-nil)
 
 -- one turn more
 pub each_more : (f : ℕ → List ℕ) (s i j m : ℕ) (a b c : Option (List ℕ)) → j ≡ i + 1 → m ≡ s + i
     → Appends a b (flat_map f (range_with_len s i)) → Appends b c (f m)
     → Appends a c (flat_map f (range_with_len s j))
-each_more f s i j m a b c more e p q = subst (Appends a c)
-    (sym (ap (λ k. flat_map f (range_with_len s k)) more ∙ each_one f s i m e)) (Appends-trans a b c _ _ p q)
+each_more f s i j m a b c more e p q = grind (arith, each_one, Appends-trans)
 
 -- a turn that failed, of n
 pub each_fails : {T U E : Type 0} {fails : E → Type 0} (f : ℕ → List ℕ) (s i n m : ℕ) {a b c : Option (List ℕ)} {x : E}

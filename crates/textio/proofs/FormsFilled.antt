@@ -17,8 +17,7 @@ form_filled_next form n ns = refl
 pub form_filled_first : (form ns : List ℕ) → 1 ≤ length ns → form_filled form ns
     ≡ before_first is_gap form
     ++ (long_digits (slice_index_or ns 0 0) ++ form_filled (after_first is_gap form) (drop 1 ns))
-form_filled_first form [] h = absurd (omega (arith, h))
-form_filled_first form (n ∷ ns) h = form_filled_next form n ns
+form_filled_first form ns h = grind (arith, form_filled_next)
 
 pub form_filled_empty : (form ns : List ℕ) → length ns < 1 → form_filled form ns ≡ form
 form_filled_empty form [] h = form_filled_none form

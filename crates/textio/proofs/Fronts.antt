@@ -3,8 +3,8 @@ use Rattle.std.proofs.Common.{◌≡◌, ℕ, ◌+◌, min, List, ◌++◌, leng
 use Rattle.std.specs.declared.option.Option.{Option}
 use Rattle.std.specs.declared.result.Result.{Result}
 use Rattle.std.specs.Result.{OnOk, IsErr, IfErr, IsErrAnd}
-use Rattle.std.specs.Io.KnownBytes.{Appends, Keeps}
-use Rattle.std.proofs.KnownBytes.{Appends-nil, Appends-trans, Appends-kept}
+use Rattle.std.specs.Io.KnownBytes.{Appends}
+use Rattle.std.proofs.KnownBytes.{Appends-nil, Appends-trans}
 use Rattle.std.proofs.Math.Seq.{take-append-add, take-length}
 use Rattle.std.proofs.lemmas.List.{take-append-le, take_min}
 use Rattle.textio.specs.Fronts.{WritesFront, WritesText}
@@ -28,17 +28,12 @@ front_more a b xs ys p =
 
 whole_then : {U F : Type 0} (a b c : Option (List ℕ)) (r : Result U F) (xs ys : List ℕ) → Appends a b xs
     → OnOk r (Appends b c ys) → OnOk r (Appends a c (xs ++ ys))
-whole_then a b c (Ok v) xs ys p q = Appends-trans a b c xs ys p q
-whole_then a b c (Err e) xs ys p q = tt
+whole_then a b c r xs ys h g = grind (arith, Appends-trans)
 
 -- after a text that is written, the next call
 pub writes_after : {U F : Type 0} {fails : F → Type 0} {a b c : Option (List ℕ)} {r : Result U F} (xs : List ℕ)
     {ys : List ℕ} → Appends a b xs → WritesText fails b c r ys → WritesText fails a c r (xs ++ ys)
-writes_after xs p q = record {
-  whole = whole_then _ _ _ _ _ _ p q.whole;
-  front = front_then _ _ _ _ _ p q.front;
-  err = q.err;
-}
+writes_after xs p q = grind (arith, whole_then, front_then)
 
 -- the same, where a call wrote it
 pub writes_then : {T U E F : Type 0} {fails : E → Type 0} {ends : F → Type 0} {a b c : Option (List ℕ)} {v : T}
@@ -55,53 +50,24 @@ writes_all {a = a} {b} xs p = record {
   err = tt;
 }
 
-none_owed : {U F : Type 0} (s : Result U F) (P : Type 0) → IsErr s → OnOk s P
-none_owed (Ok v) P e = cc
-none_owed (Err x) P e = tt
-
 -- of what a call that failed hands on, what holds of its error
 pub same_error : {U E : Type 0} (fails : E → Type 0) (s : Result U E) (e : E) → fails e → IsErrAnd s (λ x. x ≡ e)
     → IfErr s fails
-same_error fails (Ok v) e p q = tt
-same_error fails (Err x) e p q = subst fails (sym q) p
+same_error fails s e h g = grind arith
 
 -- a call that failed, and with it the whole
 pub writes_failed : {T U E : Type 0} {fails : E → Type 0} {a b : Option (List ℕ)} {e : E} {s : Result U E}
     {xs : List ℕ} → WritesText {T = T} fails a b (Err e) xs → IsErr s × IsErrAnd s (λ x. x ≡ e)
     → WritesText fails a b s xs
-writes_failed {fails = fails} {e = e} {s} p q = record {
-  whole = none_owed _ _ q.0;
-  front = p.front;
-  err = same_error fails s e p.err q.1;
-}
+writes_failed {fails = fails} {e = e} {s} p q = grind arith
 
 -- the same, where more was to follow
 pub writes_fails : {T U E : Type 0} {fails : E → Type 0} {a b : Option (List ℕ)} {e : E} {s : Result U E}
     {xs : List ℕ} (ys : List ℕ) → WritesText {T = T} fails a b (Err e) xs → IsErr s × IsErrAnd s (λ x. x ≡ e)
     → WritesText fails a b s (xs ++ ys)
-writes_fails {fails = fails} {e = e} {s} ys p q = record {
-  whole = none_owed _ _ q.0;
-  front = front_more _ _ _ _ p.front;
-  err = same_error fails s e p.err q.1;
-}
+writes_fails {fails = fails} {e = e} {s} ys p q = grind (arith, front_more)
 
 -- the last of the text, and the value that is then given
 pub writes_last : {T U E : Type 0} {fails : E → Type 0} {a b c : Option (List ℕ)} {v : T} {w : U} (xs : List ℕ)
     {ys : List ℕ} → Appends a b xs → WritesText fails b c (Ok v) ys → WritesText fails a c (Ok w) (xs ++ ys)
 writes_last xs p q = writes_all _ (Appends-trans _ _ _ xs _ p q.whole)
-
--- all of it, and what waits is then handed on
-pub writes_kept : {T U E : Type 0} {fails : E → Type 0} {a b c : Option (List ℕ)} {v : T} {r : Result U E} {xs : List ℕ}
-    → WritesText fails a b (Ok v) xs → Keeps b c → IfErr r fails → WritesText fails a c r xs
-writes_kept {a = a} {b} {c} {r = r} {xs} p k e = record {
-  whole = owed r (Appends a c xs) (Appends-kept a b c xs p.whole k);
-  front = record {
-    count = length xs;
-    written = subst (Appends a c) (sym (take-length xs)) (Appends-kept a b c xs p.whole k);
-  };
-  err = e;
-}
-  where
-    owed : {U E : Type 0} (z : Result U E) (P : Type 0) → P → OnOk z P
-    owed (Ok w) P p = p
-    owed (Err x) P p = tt

@@ -6,15 +6,13 @@ use Rattle.std.proofs.Common.{◌++◌, append_assoc, arith, length, take, drop,
 use Rattle.std.proofs.Math.Seq.{take-append-add}
 use Rattle.std.proofs.lemmas.List.{take_min, drop-take, drop-append-le}
 use Rattle.std.proofs.lemmas.Slice.{between_is}
-use Rattle.std.specs.Prelude.{None, Some}
 use Rattle.std.specs.declared.option.Option.{Option}
 use Rattle.std.specs.Io.KnownBytes.{Keeps, Consumes, prepend_known}
 
 -- taken of what stands before a source's bytes
 pub prepend_known_taken : (a : Option (List ℕ)) (old new front : List ℕ) → old ≡ front ++ new
     → Consumes (prepend_known old a) (prepend_known new a) front
-prepend_known_taken None old new front e = tt
-prepend_known_taken (Some x) old new front e = ap (λ (l : List ℕ). l ++ x) e ∙ append_assoc front new x
+prepend_known_taken a old new front h = grind (arith, append_assoc)
 
 -- a range that begins later is what its front leaves
 pub range_later : (xs : List ℕ) (start end n : ℕ) → n ≤ length (slice_range xs start end)
@@ -30,10 +28,7 @@ range_later xs start end n h =
 -- what is appended to the front of a list that ends in a range is appended to the range
 pub range_grown : (old new bs : List ℕ) (start end after : ℕ) → start ≤ end → end ≤ length old
     → take after new ≡ take end old ++ bs → slice_range new start after ≡ slice_range old start end ++ bs
-range_grown old new bs start end after h k e =
-    between_is new start after ∙ ap (drop start) e
-    ∙ drop-append-le start (take end old) bs (omega (arith, length-take-le end old k))
-    ∙ ap (λ (l : List ℕ). l ++ bs) (sym (between_is old start end))
+range_grown old new bs start end after h k e = grind (arith, between_is, drop-append-le, length-take-le)
 
 kept_front : (m : ℕ) (xs ys : List ℕ) → length xs ≤ m
     → xs ++ take (min (length ys) (m - length xs)) ys ≡ take m (xs ++ ys)
@@ -55,7 +50,4 @@ appended_front old new bytes at place inside same e kept =
     ∙ kept_front (length new) (take at old) bytes (omega (arith, long, same))
 
 pub kept_then_consumed : (a b c : Option (List ℕ)) (bs : List ℕ) → Keeps a b → Consumes b c bs → Consumes a c bs
-kept_then_consumed None b c bs p q = tt
-kept_then_consumed (Some x) None c bs p q = absurd p
-kept_then_consumed (Some x) (Some y) None bs p q = absurd q
-kept_then_consumed (Some x) (Some y) (Some z) bs p q = sym p ∙ q
+kept_then_consumed a b c bs h g = grind arith

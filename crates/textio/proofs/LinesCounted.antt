@@ -1,34 +1,27 @@
 -- A log has no more lines than bytes, and no line longer than it.
 -- Assumes nothing.
-use Rattle.std.proofs.lemmas.Bool.{eqb-false}
-use Rattle.std.proofs.Common.{Any, ◌⊎◌, inl, inr, ℕ, zero, suc, ◌+◌, ◌≤◌, ◌≡◌, sym, subst, Bool, true, false, List, []}
-use Rattle.std.proofs.Common.{◌∷◌, ◌++◌, arith, ⊎_elim, length, length-append, ◌==◌}
+use Rattle.std.proofs.Common.{Any, ◌⊎◌, ℕ, suc, ◌+◌, ◌≤◌, Bool, List, []}
+use Rattle.std.proofs.Common.{◌∷◌, ◌++◌, arith, ⊎_elim, length, length-append}
 use Rattle.std.specs.Prelude.{if◌then◌else◌}
 use Rattle.text.specs.Words.{◌is◌}
-use Rattle.text.proofs.Choices.{if_all, if_by}
+use Rattle.text.proofs.Choices.{if_all}
 use Rattle.textio.specs.Lines.{lines_from, lines_of, count_most, HasEndlessLine, IsTooLong}
 
 -- what holds of a line holds of the first or of a later one
 any_line : (P : List ℕ → Type 0) (l : List ℕ) (ls : List (List ℕ)) → Any P (l ∷ ls) → P l ⊎ Any P ls
-any_line P l ls (zero, v, inside, same, p) = inl (subst P (sym same) p)
-any_line P l ls (suc i, v, inside, same, p) = inr (i, v, omega (arith, inside), same, p)
+any_line P l ls h = grind arith
 
 no_line : (P : List ℕ → Type 0) → Any P [] → ⊥
 no_line P (i, v, inside, same, p) = omega (arith, inside)
 
 either_line : (P : List ℕ → Type 0) (Q : Type 0) (lf : Bool) (ls ms : List (List ℕ)) → (Any P ls → Q) → (Any P ms → Q)
     → Any P (if lf then ls else ms) → Q
-either_line P Q true ls ms f g h = f h
-either_line P Q false ls ms f g h = g h
+either_line P Q lf ls ms h g e = grind arith
 
 -- no line is longer than its log
 line_fits : (m : ℕ) (g bs : List ℕ) → Any (λ (l : List ℕ). m ≤ length l) (lines_from g bs) → m ≤ length g + length bs
 unfolding lines_from
-line_fits m g [] h =
-    let P : List ℕ → Type 0 = λ l. m ≤ length l in
-    either_line P (m ≤ length g + 0) (length g == 0) [] (g ∷ []) (λ k. absurd (no_line P k))
-    (λ k. ⊎_elim (λ (e : m ≤ length g). omega (arith, e)) (λ (e : Any P []). absurd (no_line P e)) (any_line P g [] k))
-    h
+line_fits m g [] h = grind arith
 line_fits m g (b ∷ bs) h =
     let P : List ℕ → Type 0 = λ l. m ≤ length l in
     let later : Any P (lines_from [] bs) → m ≤ length bs = λ k. omega (arith, line_fits m [] bs k) in
@@ -39,12 +32,8 @@ line_fits m g (b ∷ bs) h =
 
 pub lines_fit : (g bs : List ℕ) → length (lines_from g bs) ≤ length g + length bs
 unfolding lines_from
-lines_fit g [] =
-    if_by (λ (ls : List (List ℕ)). length ls ≤ length g + 0) (length g == 0) (λ e. omega arith)
-    (λ e. let h : length g ≡ 0 → ⊥ = eqb-false (length g) 0 e in omega arith)
-lines_fit g (b ∷ bs) =
-    if_all (λ (ls : List (List ℕ)). length ls ≤ length g + suc (length bs)) (b is "\n")
-    (omega (arith, lines_fit [] bs)) (omega (arith, lines_fit (g ++ (b ∷ [])) bs, length-append g (b ∷ [])))
+lines_fit g [] = grind arith
+lines_fit g (b ∷ bs) = grind (arith, if_all, length-append, lines_fit [] bs, lines_fit (g ++ (b ∷ [])) bs)
 
 -- a log that is too long has as many bytes
 pub too_long_bytes : (log : List ℕ) → IsTooLong log → count_most ≤ length log

@@ -1,5 +1,6 @@
 -- A line of a log by the parts in which it is read.
 -- Assumes nothing.
+use Rattle.std.proofs.lemmas.Grind.{common_steps}
 use Rattle.std.proofs.Common.{All, Any, ◌≢◌, None, Some, IfSome, ℕ, zero, suc, ◌+◌, ◌<◌, ◌≤◌, ◌≡◌, refl, sym, ap, subst}
 use Rattle.std.proofs.Common.{◌∙◌, Bool, true, false, List, [], ◌∷◌, ◌++◌, append-nil, append_assoc, arith, length}
 use Rattle.std.proofs.Common.{take, length-append, length-take, ne_eqb}
@@ -65,18 +66,7 @@ first_long g (b ∷ bs) h =
 
 -- before anything is read
 pub none_read : (a : Option (List ℕ)) (memory : List ℕ) → TakesPart a a 0 [] memory 0 []
-none_read a memory = record {
-  part = [];
-  some = omega arith;
-  one_line = All-nil (λ b. b ≢ 10);
-  taken = Consumes-nil a;
-  kept = none (length memory);
-  inside = omega arith;
-}
-  where
-    none : (n : ℕ) → ◌≡◌ {A = List ℕ} [] (take n [])
-    none zero = refl
-    none (suc n) = refl
+none_read a memory = grind (arith, common_steps, All-nil, Consumes-nil)
 
 -- two parts of one line, one after the other
 pub joined : {old mid new : Option (List ℕ)} {m n held place : ℕ} {before after lf : List ℕ}
@@ -99,66 +89,19 @@ joined {old} {mid} {new} {m} {n} {held} {place} {before} {after} {lf} p q long =
 module _ (old new : Option (List ℕ)) (memory : List ℕ) where
   pub whole_line : (n held : ℕ) → TakesPart old new n [] memory held (10 ∷ [])
       → IfSome old (λ log. IsNextLine log new memory (Some held))
-  whole_line n held p = by old new p.taken
-    where
-      by : (a b : Option (List ℕ)) → Consumes a b (p.part ++ 10 ∷ [])
-          → IfSome a (λ log. IsNextLine log b memory (Some held))
-      by None b taken = tt
-      by (Some log) None taken = absurd taken
-      by (Some log) (Some rest) taken = record {
-        first = p.part;
-        later = rest;
-        lines = ap lines_of (taken ∙ append_assoc p.part (10 ∷ []) rest) ∙ lines_whole [] p.part rest p.one_line;
-        kept = p.kept;
-        left = refl;
-      }
+  whole_line n held p = grind (arith, append_assoc, lines_whole)
 
   module _ (mid : Option (List ℕ)) (n held : ℕ) (p : TakesPart old mid n [] memory held []) where
     all : (log rest : List ℕ) → log ≡ (p.part ++ []) ++ rest → rest ≡ [] → log ≡ p.part
-    all log rest taken end =
-        taken ∙ append_assoc p.part [] rest ∙ ap (λ (l : List ℕ). p.part ++ l) end ∙ append-nil p.part
+    all log rest taken end = grind (arith, append-nil)
 
     pub last_line : IsAtEnd mid → Keeps mid new → 0 < held
         → IfSome old (λ log. IsNextLine log new memory (Some held))
     unfolding lines_from
-    last_line end keeps some = by old mid new p.taken end keeps
-      where
-        by : (a b c : Option (List ℕ)) → Consumes a b (p.part ++ []) → IsAtEnd b → Keeps b c
-            → IfSome a (λ log. IsNextLine log c memory (Some held))
-        by None b c taken end keeps = tt
-        by (Some log) None c taken end keeps = absurd taken
-        by (Some log) (Some rest) None taken end keeps = absurd keeps
-        by (Some log) (Some rest) (Some left) taken end keeps = record {
-          first = p.part;
-          later = [];
-          lines = ap lines_of (all log rest taken end)
-              ∙ lines_last p.part p.one_line
-              (omega (
-                arith,
-                some,
-                p.inside,
-                ap length p.kept,
-                length-take held memory,
-                length-take (length memory) p.part,
-              ));
-          kept = p.kept;
-          left = ap Some (keeps ∙ end);
-        }
+    last_line end keeps some = grind (arith, common_steps, all, lines_last, length-take)
 
     pub no_line : IsAtEnd mid → held ≡ 0 → 0 < length memory → IfSome old (λ log. IsNextLine log new memory None)
-    no_line end none room = by old mid p.taken end
-      where
-        nothing : (part : List ℕ) → length (take (length memory) part) ≡ 0 → part ≡ []
-        nothing [] e = refl
-        nothing (x ∷ part) e = absurd (omega (arith, length-take (length memory) (x ∷ part), e, room))
-
-        by : (a b : Option (List ℕ)) → Consumes a b (p.part ++ []) → IsAtEnd b
-            → IfSome a (λ log. IsNextLine log new memory None)
-        by None b taken end = tt
-        by (Some log) None taken end = absurd taken
-        by (Some log) (Some rest) taken end =
-            all log rest taken end
-            ∙ nothing p.part (omega (arith, ap length p.kept, length-take held memory, none))
+    no_line end none room = grind arith
 
     -- so many parts, of a byte at least each
     pub endless : count_most ≤ n → IfSome old HasEndlessLine

@@ -80,6 +80,7 @@ impl<R: ByteSource> Reader<R> {
     }
 
     /// Takes bytes that are read ahead.
+    #[tactic(auto, using(crate::proofs::Known::prepend_known_taken, crate::proofs::Known::range_later))]
     pub fn consume(&mut self, amount: usize)
         requires { amount ≤ length (ahead_of self.old) }
         ensures { Consumes (left_in R.remaining self.old) (left_in R.remaining self.new)

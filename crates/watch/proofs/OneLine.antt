@@ -1,19 +1,17 @@
 -- One line of a log that is watched, by what the functions that play it give.
 -- Assumes nothing.
-use Rattle.std.proofs.Common.{ℕ, ◌+◌, ◌-◌, ◌^◌, ◌<◌, ◌≡◌, refl, sym, ap, subst, ◌∙◌, Bool, true, not, ◌&&◌, List, []}
-use Rattle.std.proofs.Common.{◌++◌, arith, slice_index_or, drop, nat_lt, codes}
+use Rattle.std.proofs.Common.{ℕ, ◌+◌, ◌-◌, ◌^◌, ◌<◌, ◌≡◌, ap, ◌∙◌, Bool, true, List, []}
+use Rattle.std.proofs.Common.{arith, slice_index_or}
 use Rattle.std.specs.Prelude.{if◌then◌else◌}
-use Rattle.text.proofs.Choices.{both_left}
 use Rattle.record.specs.declared.types.Device.{Device}
 use Rattle.floorlog.specs.declared.line.Says.{Says}
 use Rattle.floorlog.specs.Lines.{line_said}
-use Rattle.floorlog.specs.Events.{LogEvent, event, event_of}
+use Rattle.floorlog.specs.Events.{event, event_of}
 use Rattle.floorlog.proofs.KeptText.{event_said}
 use Rattle.watch.specs.declared.marking.MarkSaid.{MarkSaid}
-use Rattle.watch.specs.declared.marking.MarkSaid.TheVariants.{Sets, NoMark}
 use Rattle.watch.specs.declared.light.Light.{Light}
 use Rattle.watch.specs.Marking.{mark_said, event_by, floor_event, done_by, seconds_by}
-use Rattle.watch.specs.Watching.{Watching, is_burning_in, gained_by, watched_by, watched_on, is_sound}
+use Rattle.watch.specs.Watching.{Watching, is_burning_in, gained_by, watched_on, is_sound}
 use Rattle.watch.specs.States.{light_of, IsWatched}
 use Rattle.watch.proofs.MarksSaid.{seconds_of-event_of}
 use Rattle.watch.proofs.Sound.{sound_after, burnt_fits}
@@ -25,15 +23,7 @@ module _ (l : List ℕ) {mark : MarkSaid} (m : mark ≡ mark_said l) where
 
   pub seconds_is : {says : Says} {n : ℕ} → says ≡ line_said l → n ≡ seconds_by (event_by mark (event_of says []))
       → n ≡ seconds_by (floor_event l)
-  seconds_is {says} said e =
-      let bs = drop 2 l ++ codes "\r" in
-      e ∙ by mark bs ∙ ap (λ (x : Says). seconds_by (event_by mark (event_of x bs))) said
-      ∙ ap (λ (e : LogEvent). seconds_by (event_by mark e)) (sym (event_said l)) ∙ ap seconds_by event_is
-    where
-      by : (x : MarkSaid) (bs : List ℕ)
-          → seconds_by (event_by x (event_of says [])) ≡ seconds_by (event_by x (event_of says bs))
-      by (Sets lamp to) bs = refl
-      by NoMark bs = seconds_of-event_of says bs
+  seconds_is {says} said e = grind (arith, event_said, event_is, seconds_of-event_of)
 
   module _ (s : Watching) {d : Device} (done : d ≡ done_by s.device (event_by mark (event l))) where
     pub left_is : d ≡ done_by s.device (floor_event l)
@@ -55,32 +45,16 @@ module _ (l : List ℕ) {mark : MarkSaid} (m : mark ≡ mark_said l) where
       }
 
       pub watched_is : after ≡ watched_on s (floor_event l)
-      watched_is =
-          (λ i. record { device = d; time = t; from = light.from; burnt = gained i })
-          ∙ ap as_light lit
-          ∙ (λ i. let time = (timed ∙ ap (λ (k : ℕ). s.time + k) seconds) i in
-          record {
-            device = d;
-            time = time;
-            from = if not (before i) && past i then time else s.from;
-            burnt = if before i && not (past i) then gained_by d (time - s.from) s.burnt else s.burnt;
-          })
-          ∙ ap (λ (x : Device). watched_by s x (seconds_by (floor_event l))) left_is
+      watched_is = grind (arith, left_is)
 
       pub line_watched : IsWatched s (floor_event l) after light.told
-      line_watched = record {
-        state = watched_is;
-        told = (λ i. (lit i).told) ∙ (λ i. before i && not (past i) && nat_lt (sym lit i).from t);
-      }
+      line_watched = grind (arith, watched_is)
 
       pub stays_sound : is_sound s ≡ true → is_sound after ≡ true
-      stays_sound sound =
-          subst (λ (x : Watching). is_sound x ≡ true) (sym watched_is) (sound_after s sound (floor_event l))
+      stays_sound sound = grind (arith, watched_is, sound_after)
 
     -- the lamps burn no longer
     pub can_gain : is_sound s ≡ true → {t : ℕ} (n : ℕ) → t ≡ s.time + n → t < 2 ^ 64 → {was : Bool} (is : Bool)
         → was ≡ is_burning_in s.device → {light : Light} → light ≡ light_of was is t s.from → light.dark ≡ true
         → (k : ℕ) → slice_index_or s.burnt k 0 + (t - s.from) < 2 ^ 64
-    can_gain sound {t} n timed fits is before lit dark =
-        burnt_fits s sound (sym before ∙ both_left _ _ (sym (ap (λ (x : Light). x.dark) lit) ∙ dark)) t
-        (omega arith) fits
+    can_gain sound {t} n timed fits is before lit dark = grind (arith, burnt_fits)

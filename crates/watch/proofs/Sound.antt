@@ -2,7 +2,7 @@
 -- Assumes nothing.
 use Rattle.std.specs.List.{list_all}
 use Rattle.std.proofs.Common.{ℕ, zero, suc, ◌+◌, ◌-◌, ◌^◌, ◌≤◌, ◌<◌, ◌≡◌, refl, sym, subst, Bool, true, false, not}
-use Rattle.std.proofs.Common.{◌&&◌, List, [], ◌∷◌, arith, slice_index_or, replicate, nat_le, leb-true, le-leb}
+use Rattle.std.proofs.Common.{◌&&◌, List, [], ◌∷◌, arith, slice_index_or, nat_le, leb-true, le-leb}
 use Rattle.std.specs.Prelude.{if◌then◌else◌}
 use Rattle.text.proofs.Choices.{if_yes, if_no, if_all, both, both_left, both_right}
 use Rattle.text.proofs.Scanning.{list_all_by_place}
@@ -10,7 +10,6 @@ use Rattle.record.specs.declared.types.Device.{Device}
 use Rattle.clock.specs.Second.{changed_where, marks_in}
 use Rattle.clock.proofs.ChangedWhere.{length-changed_where, where_at}
 use Rattle.watch.specs.Marking.{FloorEvent, done_by, seconds_by}
-use Rattle.record.specs.Limits.{lamps_most}
 use Rattle.watch.specs.Watching.{Watching, watching_from, is_burning_in, gained_by, watched_on, sound_top, is_sound}
 
 pub at_most : (top : ℕ) (l : List ℕ) → list_all (λ (b : ℕ). nat_le b top) l ≡ true → (k : ℕ) →
@@ -22,9 +21,7 @@ at_most top (x ∷ l) h (suc k) = at_most top l (both_right (nat_le x top) (list
 higher : (top up : ℕ) → top ≤ up → (l : List ℕ) → list_all (λ (b : ℕ). nat_le b top) l ≡ true
     → list_all (λ (b : ℕ). nat_le b up) l ≡ true
 higher top up more [] h = refl
-higher top up more (x ∷ l) h =
-    let first = leb-true x top (both_left (nat_le x top) (list_all (λ (b : ℕ). nat_le b top) l) h) in
-    both (le-leb x up (omega arith)) (higher top up more l (both_right (nat_le x top) _ h))
+higher top up more (x ∷ l) h = grind (arith, higher top up more l (both_right (nat_le x top) _ h))
 
 list_all-changed_where : (top n : ℕ) (ms : List Bool) (l : List ℕ) → list_all (λ (b : ℕ). nat_le b top) l ≡ true
     → list_all (λ (b : ℕ). nat_le b (top + n)) (changed_where (λ (b : ℕ). b + n) ms l) ≡ true
@@ -102,9 +99,4 @@ module _ (s : Watching) (sound : is_sound s ≡ true) where
 -- before a log
 pub is_sound-watching_from : (d : Device) → is_sound (watching_from d) ≡ true
 unfolding is_sound
-is_sound-watching_from d = by (is_burning_in d)
-  where
-    by : (lit : Bool) →
-        (nat_le 0 0 && list_all (λ (b : ℕ). nat_le b (if lit then 0 else 0)) (replicate lamps_most 0)) ≡ true
-    by true = refl
-    by false = refl
+is_sound-watching_from d = grind arith

@@ -1,7 +1,6 @@
-use Rattle.std.proofs.Common.{ℕ, ◌<◌, List, length, sym, ap, ◌∙◌, arith, zero-add}
+use Rattle.std.proofs.Common.{ℕ, ◌<◌, List, length, sym, ◌∙◌, arith, zero-add}
 use Rattle.std.specs.Prelude.{map}
 use Rattle.std.proofs.Math.ListN.{set, get_or-map}
-use Rattle.std.proofs.Math.Seq.{sets}
 use Rattle.std.proofs.lemmas.List.{length-map, take_all}
 use Rattle.text.proofs.Stores.{sets_more, sets_over}
 use Rattle.day.specs.declared.Placement.{Placement}
@@ -21,9 +20,4 @@ loop-j-preserved c =
     ∙ sets_more out 0 (rigs ps) j 0 inside c.loop-j.invariant
 
 pub returns : goal.returns
-returns c =
-    let ps = c.args.plan.now in
-    let out = c.args.out.now in
-    let long = length-map ps (λ (p : Placement). p.rig) in
-    c.loop-j.invariant
-    ∙ ap (sets out 0) (take_all c.loop-j.j (rigs ps) (omega arith)) ∙ sets_over (rigs ps) out (omega arith)
+returns c = grind (arith, length-map, take_all, sets_over)

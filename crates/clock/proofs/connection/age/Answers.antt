@@ -1,11 +1,10 @@
 -- Each `return` is one of the ways a connection ages.
-use Rattle.std.proofs.Common.{◌≡◌, true, sym, ap, ◌∙◌, arith}
+use Rattle.std.proofs.Common.{◌≡◌, true, sym, ap, arith}
 use Rattle.std.specs.Prelude.{Bool}
 use Rattle.record.specs.Legal.{is_timed}
 use Rattle.record.specs.Views.{phase_of, phase_number}
 use Rattle.record.specs.declared.types.Connection.{Connection}
 use Rattle.record.specs.declared.views.Phase.{Phase}
-use Rattle.record.proofs.PhaseSeen.{is_timed-phase_of}
 use Rattle.record.proofs.Spelt.{closed_spelt}
 use Rattle.clock.specs.Second.{times, connection_second}
 use Rattle.clock.proofs.ConnectionsAge.{untimed_stays, grows_older, closes}
@@ -13,34 +12,20 @@ use Rattle.clock.proofs.connection.age.Goals as goal
 
 timed : (c : Connection) {p : Phase} {t u : Bool} → p ≡ phase_of c.phase c.age c.random
     → t ≡ is_timed (phase_number p) → t ≡ u → is_timed c.phase ≡ u
-timed c seen told u =
-    sym (is_timed-phase_of c.phase c.age c.random)
-    ∙ ap (λ (p : Phase). is_timed (phase_number p)) (sym seen)
-    ∙ sym told ∙ u
+timed c seen told u = grind arith
 
 pub returns-then-not-is_timed : goal.returns-then-not-is_timed
-returns-then-not-is_timed c =
-    sym (untimed_stays c.args.n c.args.c.now
-    (timed c.args.c.now c.phase.ensures c.is_timed.ensures c.if-not-is_timed.true))
+returns-then-not-is_timed c = grind (arith, untimed_stays)
 
 pub returns-then-n-eq0 : goal.returns-then-n-eq0
 unfolding times
 returns-then-n-eq0 c = ap (λ n. times connection_second n c.args.c.now) (sym c.if-n-eq0.true)
 
 pub returns-then-n-ge-AGE_END : goal.returns-then-n-ge-AGE_END
-returns-then-n-ge-AGE_END c =
-    let ages : is_timed c.args.c.now.phase ≡ true =
-    timed c.args.c.now c.phase.ensures c.is_timed.ensures c.if-not-is_timed.false in
-    sym closed_spelt ∙ sym (closes c.args.n c.args.c.now ages (omega arith) (omega arith))
+returns-then-n-ge-AGE_END c = grind (arith, timed, closed_spelt, closes)
 
 pub returns-then-n-c : goal.returns-then-n-c
-returns-then-n-c c =
-    let ages : is_timed c.args.c.now.phase ≡ true =
-    timed c.args.c.now c.phase.ensures c.is_timed.ensures c.if-not-is_timed.false in
-    sym closed_spelt ∙ sym (closes c.args.n c.args.c.now ages (omega arith) (omega arith))
+returns-then-n-c c = grind (arith, timed, closed_spelt, closes)
 
 pub returns : goal.returns
-returns c =
-    let ages : is_timed c.args.c.now.phase ≡ true =
-    timed c.args.c.now c.phase.ensures c.is_timed.ensures c.if-not-is_timed.false in
-    sym (grows_older c.args.n c.args.c.now ages (omega arith))
+returns c = grind (arith, grows_older)

@@ -1,38 +1,27 @@
 -- A record that is not legal is refused with 1, where the line has a form; and it stays as it was.
-use Rattle.std.proofs.Common.{ap, sym, refl, ◌∙◌}
-use Rattle.record.specs.Legal.{is_legal}
-use Rattle.floorlog.specs.Events.{event_of}
+use Rattle.std.proofs.Common.{arith}
+use Rattle.std.proofs.Common.{refl}
 use Rattle.floorlog.proofs.EventsLeave.{did_legality, illegal_text, illegal_kept, illegal_silent}
 use Rattle.floorlog.proofs.Driven.{driven}
 use Rattle.floorlog.proofs.event.call.Goals as goal
 
 pub invariant_of-t : goal.invariant_of-t
-invariant_of-t c =
-    record {
-      tested = c.args.t.now.tested
-          ∙ sym (ap is_legal c.call_legal.ensures.device
-          ∙ did_legality c.args.t.now.device (event_of c.args.says c.args.bytes.now));
-    }
+invariant_of-t c = grind (arith, did_legality)
 
 pub returns-then-t-clause-places : goal.returns-then-t-clause-places
-returns-then-t-clause-places c =
-    driven c.args.t.now.device c.args.says c.args.bytes.now c.call_legal.ensures.device
+returns-then-t-clause-places c = grind (arith, driven)
 
 pub returns-in-NoSuch-clause-text : goal.returns-in-NoSuch-clause-text
 returns-in-NoSuch-clause-text c = rw c.in-NoSuch.is refl
 
 pub returns-in_default-clause-text : goal.returns-in_default-clause-text
-returns-in_default-clause-text c =
-    illegal_text c.args.t.now.device c.args.says c.args.bytes.now c.args.reply.now
-    (sym c.args.t.now.tested ∙ c.if-t.false) c.in_default.not-NoSuch
+returns-in_default-clause-text c = grind (arith, illegal_text)
 
 pub returns-in-NoSuch-clause-device : goal.returns-in-NoSuch-clause-device
-returns-in-NoSuch-clause-device c =
-    illegal_kept c.args.t.now.device (event_of c.args.says c.args.bytes.now) (sym c.args.t.now.tested ∙ c.if-t.false)
+returns-in-NoSuch-clause-device c = grind (arith, illegal_kept)
 
 pub returns-in_default-clause-device : goal.returns-in_default-clause-device
-returns-in_default-clause-device c =
-    illegal_kept c.args.t.now.device (event_of c.args.says c.args.bytes.now) (sym c.args.t.now.tested ∙ c.if-t.false)
+returns-in_default-clause-device c = grind (arith, illegal_kept)
 
 pub returns-in-NoSuch-clause-places : goal.returns-in-NoSuch-clause-places
 returns-in-NoSuch-clause-places c =
@@ -43,11 +32,7 @@ returns-in_default-clause-places c =
     driven c.args.t.now.device c.args.says c.args.bytes.now (returns-in_default-clause-device c)
 
 pub returns-in-NoSuch-clause-reply : goal.returns-in-NoSuch-clause-reply
-returns-in-NoSuch-clause-reply c =
-    illegal_silent c.args.t.now.device (event_of c.args.says c.args.bytes.now) c.args.reply.now
-    (sym c.args.t.now.tested ∙ c.if-t.false)
+returns-in-NoSuch-clause-reply c = grind (arith, illegal_silent)
 
 pub returns-in_default-clause-reply : goal.returns-in_default-clause-reply
-returns-in_default-clause-reply c =
-    illegal_silent c.args.t.now.device (event_of c.args.says c.args.bytes.now) c.args.reply.now
-    (sym c.args.t.now.tested ∙ c.if-t.false)
+returns-in_default-clause-reply c = grind (arith, illegal_silent)

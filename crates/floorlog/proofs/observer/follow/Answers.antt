@@ -1,4 +1,5 @@
 -- what is written so far is a front of what is written of the log; in the end it is all
+use Rattle.std.proofs.Common.{arith}
 use Rattle.std.proofs.lemmas.Option.{IfSome_then}
 use Rattle.textio.specs.Ahead.{left_in}
 use Rattle.floorlog.specs.KeptText.{kept_text}
@@ -6,9 +7,7 @@ use Rattle.floorlog.proofs.Observing.{begun, flushed, so_far, observed, broken, 
 use Rattle.floorlog.proofs.observer.follow.Goals as goal
 
 pub loop-init : goal.loop-init
-loop-init g c =
-    begun _ _ _ (left_in g.R.ByteSource.remaining c.args.from.now) (g.W.ByteSink.contents c.args.to.now)
-    c.args.observer.now
+loop-init g c = grind (arith, begun)
 
 pub loop-preserved : goal.loop-preserved
 loop-preserved g c =
@@ -17,15 +16,10 @@ loop-preserved g c =
     (λ log u. observed (flushed u c.read.ensures.keeps) _ (kept_text c.read.new.self) next c.in_ok-line.ensures.ok)
 
 pub returns-in_err-read-clause-front : goal.returns-in_err-read-clause-front
-returns-in_err-read-clause-front g c =
-    IfSome_then (left_in g.R.ByteSource.remaining c.args.from.now) c.loop.invariant
-    (λ log u. so_far (flushed u c.read.ensures.keeps))
+returns-in_err-read-clause-front g c = grind (arith, so_far)
 
 pub returns-in-Ok-clause-whole : goal.returns-in-Ok-clause-whole
-returns-in-Ok-clause-whole g c =
-    let none = c.in_ok-read.ensures.end c.if-not-branch.true in
-    IfSome_then (left_in g.R.ByteSource.remaining c.args.from.now) c.loop.invariant
-    (λ log u. (ended (flushed u c.read.ensures.keeps) none c.in-Ok.ensures.text).whole)
+returns-in-Ok-clause-whole g c = grind (arith, ended)
 
 pub returns-in-Ok-clause-left : goal.returns-in-Ok-clause-left
 returns-in-Ok-clause-left g c =
@@ -34,16 +28,10 @@ returns-in-Ok-clause-left g c =
     (λ log u. left_so u none _ c.in-Ok.ensures.left)
 
 pub returns-in-Ok-clause-front : goal.returns-in-Ok-clause-front
-returns-in-Ok-clause-front g c =
-    let none = c.in_ok-read.ensures.end c.if-not-branch.true in
-    IfSome_then (left_in g.R.ByteSource.remaining c.args.from.now) c.loop.invariant
-    (λ log u. (ended (flushed u c.read.ensures.keeps) none c.end.ensures.text).front)
+returns-in-Ok-clause-front g c = grind (arith, IfSome_then, ended, flushed)
 
 pub returns-in-Err-clause-front : goal.returns-in-Err-clause-front
-returns-in-Err-clause-front g c =
-    let none = c.in_ok-read.ensures.end c.if-not-branch.true in
-    IfSome_then (left_in g.R.ByteSource.remaining c.args.from.now) c.loop.invariant
-    (λ log u. (ended (flushed u c.read.ensures.keeps) none c.end.ensures.text).front)
+returns-in-Err-clause-front g c = grind (arith, IfSome_then, ended, flushed)
 
 pub returns-in_err-line-clause-front : goal.returns-in_err-line-clause-front
 returns-in_err-line-clause-front g c =
@@ -52,5 +40,4 @@ returns-in_err-line-clause-front g c =
     (λ log u. broken (flushed u c.read.ensures.keeps) _ (kept_text c.read.new.self) next c.in_err-line.ensures.front)
 
 pub returns-clause-front : goal.returns-clause-front
-returns-clause-front g c =
-    IfSome_then (left_in g.R.ByteSource.remaining c.args.from.now) c.loop.invariant (λ log u. so_far u)
+returns-clause-front g c = grind (arith, so_far)

@@ -1,4 +1,4 @@
-use Rattle.std.proofs.Common.{◌≡◌, ◌+◌, ◌-◌, ◌/◌, ◌<◌, [], arith, ◌∙◌}
+use Rattle.std.proofs.Common.{◌≡◌, ◌+◌, ◌-◌, ◌/◌, ◌<◌, arith, ◌∙◌}
 use Rattle.std.proofs.KnownBytes.{Appends-nil}
 use Rattle.textio.proofs.Each.{each_more, each_fails}
 use Rattle.textio.proofs.Fronts.{writes_all}
@@ -7,8 +7,7 @@ use Rattle.report.proofs.Drawn.{drawn_none, drawn_some, rows_before_next, days_o
 use Rattle.report.proofs.page.draw.Goals as goal
 
 pub returns-then-s-clause-text : goal.returns-then-s-clause-text
-returns-then-s-clause-text g c =
-    rw (drawn_none c.args.rows c.args.lit.now c.args.s.from c.args.s.to c.if-s.true) (writes_all [] (Appends-nil _))
+returns-then-s-clause-text g c = grind (arith, drawn_none, writes_all, Appends-nil)
 
 pub loop-before-preserved : goal.loop-before-preserved
 loop-before-preserved g c =

@@ -1,4 +1,5 @@
 -- The text before the gap, the number, and the rest.
+use Rattle.std.proofs.Common.{arith}
 use Rattle.std.proofs.Common.{◌∙◌}
 use Rattle.std.proofs.lemmas.List.{take_rest}
 use Rattle.textio.proofs.FormsFilled.{form_filled_first, form_filled_empty}
@@ -6,9 +7,7 @@ use Rattle.textio.proofs.Fronts.{writes_then, writes_fails}
 use Rattle.textio.proofs.forms.+fill.Goals as goal
 
 pub returns-in-empty : goal.returns-in-empty
-returns-in-empty g t c =
-    rw (form_filled_empty c.args.form.now c.args.numbers.now c.in-empty.len_below)
-    (rw c.as_bytes.ensures.value at c.put.ensures)
+returns-in-empty g t c = grind (arith, form_filled_empty)
 
 pub returns-in_err-put-in-len1-up : goal.returns-in_err-put-in-len1-up
 returns-in_err-put-in-len1-up g t c =

@@ -1,6 +1,6 @@
 -- the parts of the line that is read, up to its LF or to the end
 use Rattle.std.proofs.Common.{rules, ◌+◌, [], arith, subst, ℕ, List, sym}
-use Rattle.std.proofs.KnownBytes.{Keeps-refl, Keeps-trans}
+use Rattle.std.proofs.KnownBytes.{Keeps-refl}
 use Rattle.textio.specs.Ahead.{left_in}
 use Rattle.textio.specs.NextLine.{TakesPart}
 use Rattle.textio.proofs.Parts.{none_read, joined, whole_line, last_line, endless}
@@ -10,11 +10,7 @@ pub loop-init : goal.loop-init
 loop-init g c = record { read = none_read _ c.args.line.now; keeps = Keeps-refl _; room = search rules }
 
 pub loop-preserved : goal.loop-preserved
-loop-preserved g c = record {
-  read = joined c.loop.invariant.read (rw c.in-Ok-Part.field-0-is at c.in-Ok-Part.ensures.ok) (omega arith);
-  keeps = Keeps-trans _ _ _ c.loop.invariant.keeps c.flush_before_read.ensures.keeps;
-  room = omega arith;
-}
+loop-preserved g c = grind (arith, joined)
 
 pub returns-in-Ok-Whole-clause-next : goal.returns-in-Ok-Whole-clause-next
 returns-in-Ok-Whole-clause-next g c =
@@ -41,5 +37,4 @@ returns-clause-err g c =
 
 -- a read fails only where no byte was read ahead, and then nothing waits
 pub returns-in-Err-take_shown-clause-none_waits : goal.returns-in-Err-take_shown-clause-none_waits
-returns-in-Err-take_shown-clause-none_waits g c =
-    c.in-Ok.ensures.none_waits c.in-Err-take_shown.ensures.read
+returns-in-Err-take_shown-clause-none_waits g c = grind arith

@@ -30,8 +30,8 @@ gained_if-burnt-requires c =
     c.seconds_of-seconds.result timed (omega arith) c.is_burning_in-is.result c.is_burning_in-was.ensures
     c.light_after-next.ensures dark
 
-pub invariant_of-self : goal.invariant_of-self
-invariant_of-self c =
+pub invariant_of-self-2 : goal.invariant_of-self-2
+invariant_of-self-2 c =
     let l = kept_text c.args.line.now in
     let marks = c.mark_says-mark.ensures ∙ ap mark_said c.text.ensures in
     let says = c.line_says-says.ensures ∙ ap line_said c.text-2.ensures in

@@ -1,5 +1,5 @@
 -- the line is one more that is played
-use Rattle.std.proofs.Common.{◌≡◌, refl, ◌+◌, ◌∙◌, arith, map}
+use Rattle.std.proofs.Common.{◌≡◌, refl, ◌+◌, arith, map}
 use Rattle.textio.proofs.Fronts.{front_more}
 use Rattle.floorlog.specs.KeptText.{kept_text}
 use Rattle.floorlog.specs.Events.{event}
@@ -7,17 +7,7 @@ use Rattle.floorlog.proofs.Replayed.{printed_more, state_more}
 use Rattle.floorlog.proofs.playing.PlayerObserver.line.Goals as goal
 
 pub returns-in-Ok-clause-ok : goal.returns-in-Ok-clause-ok
-returns-in-Ok-clause-ok g c =
-    let p = c.args.self.now in
-    let e = event (kept_text c.args.line.now) in
-    let number : c.in-Some.number ≡ p.played + 1 = omega arith in
-    record {
-      text = _;
-      written = c.in-Ok.ensures.text.whole;
-      then = λ ls. rw number (printed_more p.tested.device e c.play.ensures.device (map event ls) p.played);
-      leaves = λ ls last h. h ∙ state_more p.tested.device e c.play.ensures.device (map event ls);
-      overflows = λ ls h. omega (arith, h);
-    }
+returns-in-Ok-clause-ok g c = grind (arith, printed_more, state_more)
 
 pub returns-in-Err-clause-front : goal.returns-in-Err-clause-front
 returns-in-Err-clause-front g c =
