@@ -1,8 +1,8 @@
 -- What a log prints and leaves, by what comes: no line any more, or a line and the rest.
 -- Assumes nothing.
 use Rattle.std.proofs.Common.{IfSome, ℕ, ◌+◌, ◌^◌, ◌≤◌, ◌≡◌, refl, ap, List, [], ◌∷◌, ◌++◌}
-use Rattle.std.proofs.Common.{◌⊎◌, append_assoc, arith, length, map}
-use Rattle.std.proofs.lemmas.List.{length-map}
+use Rattle.std.proofs.Common.{◌⊎◌, append_assoc, append-nil, subst, sym, ◌∙◌, arith, length, map}
+use Rattle.std.proofs.lemmas.List.{length-map, append_cancel_right}
 use Rattle.std.specs.declared.option.Option.{Option}
 use Rattle.std.specs.Io.KnownBytes.{Appends}
 use Rattle.record.specs.declared.types.Device.{Device}
@@ -12,7 +12,9 @@ use Rattle.floorlog.specs.LastLine.{last_device_line}
 use Rattle.floorlog.specs.Events.{LogEvent, event}
 use Rattle.floorlog.specs.Doing.{did, printed}
 use Rattle.floorlog.specs.Playing.{state_after, lines_printed, replayed}
-use Rattle.floorlog.specs.Replaying.{IsReplayed}
+use Rattle.floorlog.specs.Replaying.{IsReplayed, IsPlayedSoFar}
+use Rattle.floorlog.specs.Observing.{BreaksOff}
+use Rattle.floorlog.specs.declared.playing.Player.{Player}
 use Rattle.floorlog.proofs.KeptText.{events_kept}
 
 abbrev pub printed_from : ℕ → Device → List LogEvent → List ℕ
@@ -51,3 +53,34 @@ module _ {begun d : Device} {n : ℕ} (first : n ≡ 0) (is : d ≡ begun) where
 
   pub too_long : (log : List ℕ) → IsTooLong log ⊎ (2 ^ 64 ≤ n + length (kept_lines log)) → IsTooLong log
   too_long log h = grind (arith, length-map)
+
+-- where a read fails
+pub played_so_far : {p after : Player} {begun : Device} {log left : List ℕ} {old new : Option (List ℕ)} → p.played ≡ 0
+    → p.tested.device ≡ begun
+    → BreaksOff (λ (q : Player) ls. printed_from q.played q.tested.device (map event ls))
+      (λ (q : Player) ls (last : Player). last.tested.device ≡ state_after q.tested.device (map event ls))
+      p after log left old new
+    → IsPlayedSoFar begun log left old new
+played_so_far {p} {after} {begun} {log} {left} {old} {new} first is b = record {
+  told = b.told;
+  part = b.part;
+  one_line = b.one_line;
+  lines = b.lines;
+  printed = subst (Appends old new) (sym text ∙ (λ i. lines_printed (first i) (is i) es)) b.written;
+}
+  where
+    es : List LogEvent
+    es = map event b.told
+
+    end : List ℕ
+    end = last_device_line (state_after p.tested.device es)
+
+    left_at : after.tested.device ≡ state_after p.tested.device es
+    left_at = b.leaves after (sym (state_none after.tested.device))
+
+    text : lines_printed p.played p.tested.device es ≡ b.text
+    text =
+        append_cancel_right _ _ end
+        (ap (λ ls. printed_from p.played p.tested.device (map event ls)) (sym (append-nil b.told)) ∙ b.then []
+        ∙ ap (λ (t : List ℕ). b.text ++ t)
+        (printed_none after.tested.device after.played ∙ ap last_device_line left_at))

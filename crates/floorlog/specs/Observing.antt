@@ -1,10 +1,13 @@
 -- A log observed line by line, by someone of whom `output`, `Leaves` and `Overflows` are known.
 --   Observes .. before after line old new    a line leaves `after` of `before`: a text is written, and with it what
 --                                            comes then is what would have come with the line
+--   BreaksOff .. before after log left old new
+--                                            all lines are told that have ended in what was read of the log, where this is
+--                                            left: what comes of them is written, and after them nothing
 --   FailsOn fails over f                     the failure f of a line is an error of the sink, or what comes overflows
 --   CannotFollow Overflows s log             the log is too long, or has more in it than can be counted
 -- Assumes nothing.
-use Rattle.std.specs.Prelude.{ℕ, ◌≡◌, ◌⊎◌, List, ◌∷◌, ◌++◌}
+use Rattle.std.specs.Prelude.{ℕ, ◌≡◌, ◌≢◌, ◌⊎◌, All, List, [], ◌∷◌, ◌++◌}
 use Rattle.std.specs.declared.option.Option.{Option}
 use Rattle.std.specs.declared.io.Error.{Error}
 use Rattle.std.specs.Io.KnownBytes.{Appends}
@@ -21,6 +24,17 @@ pub record Observes {S : Type 0} (output : S → List (List ℕ) → List ℕ) (
   pub then : (ls : List (List ℕ)) → output before (line ∷ ls) ≡ text ++ output after ls
   pub leaves : (ls : List (List ℕ)) (last : S) → Leaves after ls last → Leaves before (line ∷ ls) last
   pub overflows : (ls : List (List ℕ)) → Overflows after ls → Overflows before (line ∷ ls)
+
+pub record BreaksOff {S : Type 0} (output : S → List (List ℕ) → List ℕ) (Leaves : S → List (List ℕ) → S → Type 0)
+    (before after : S) (log left : List ℕ) (old new : Option (List ℕ)) : Type 0 where
+  pub told : List (List ℕ)
+  pub part : List ℕ
+  pub one_line : All (λ b. b ≢ 10) part
+  pub lines : kept_lines log ≡ told ++ kept_lines (part ++ left)
+  pub text : List ℕ
+  pub written : Appends old new text
+  pub then : (ls : List (List ℕ)) → output before (told ++ ls) ≡ text ++ output after ls
+  pub leaves : (last : S) → Leaves after [] last → Leaves before told last
 
 abbrev pub FailsOn : (Error → Type 0) → Type 0 → Failure → Type 0
 FailsOn fails over (Read e) = ⊥

@@ -1,13 +1,23 @@
 -- A whole log played back (RULES, Floor log).
 --   IsReplayed d log ..   the sink got all that is printed for the log from the device d, and so the device is after it
+--   IsPlayedSoFar d log left ..   the sink got what is printed for each line that has ended in what was read of the log,
+--                                 where this is left, and nothing after them
 -- Assumes nothing.
-use Rattle.std.specs.Prelude.{ℕ, List, ◌≡◌}
+use Rattle.std.specs.Prelude.{ℕ, List, ◌≡◌, ◌≢◌, ◌++◌, All, map}
 use Rattle.std.specs.declared.option.Option.{Option}
 use Rattle.std.specs.Io.KnownBytes.{Appends}
 use Rattle.record.specs.declared.types.Device.{Device}
-use Rattle.floorlog.specs.Events.{events}
-use Rattle.floorlog.specs.Playing.{state_after, replayed}
+use Rattle.floorlog.specs.Kept.{kept_lines}
+use Rattle.floorlog.specs.Events.{event, events}
+use Rattle.floorlog.specs.Playing.{state_after, lines_printed, replayed}
 
 pub record IsReplayed (d : Device) (log : List ℕ) (old new : Option (List ℕ)) (after : Device) : Type 0 where
   pub printed : Appends old new (replayed d log)
   pub device : after ≡ state_after d (events log)
+
+pub record IsPlayedSoFar (d : Device) (log left : List ℕ) (old new : Option (List ℕ)) : Type 0 where
+  pub told : List (List ℕ)
+  pub part : List ℕ
+  pub one_line : All (λ b. b ≢ 10) part
+  pub lines : kept_lines log ≡ told ++ kept_lines (part ++ left)
+  pub printed : Appends old new (lines_printed 0 d (map event told))

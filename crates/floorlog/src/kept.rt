@@ -3,7 +3,7 @@ ghost use Rattle.std.specs.Prelude.{[], ◌≡◌, ◌≤◌, ◌++◌, take, dr
 ghost use Rattle.std.specs.Io.KnownBytes.{Keeps};
 ghost use Rattle.textio.specs.Lines.{HasEndlessLine};
 ghost use Rattle.textio.specs.Ahead.{left_in};
-ghost use Rattle.textio.specs.NextLine.{IsLine, FailureComesOf, OnFailedRead};
+ghost use Rattle.textio.specs.NextLine.{ReadsPart, IsLine, FailureComesOf, OnFailedRead};
 ghost use Rattle.floorlog.specs.Kept.{kept_most};
 
 use crate::line::LINE_MOST;
@@ -32,6 +32,8 @@ fn read_line<R: ByteSource, W: ByteSink>(
     ensures err { IfErr result
         (FailureComesOf R.fails_with W.fails_with HasEndlessLine (left_in R.remaining from.old)) }
     ensures none_waits { IfErr result (OnFailedRead (W.waiting to.new ≡ [])) }
+    ensures part { IfErr result
+        (OnFailedRead (ReadsPart (left_in R.remaining from.old) (left_in R.remaining from.new))) }
 {
     lines::next_line(from, to, &mut line[..KEPT_MOST])
 }
@@ -86,6 +88,8 @@ impl KeptLine {
         ensures err { IfErr result
             (FailureComesOf R.fails_with W.fails_with HasEndlessLine (left_in R.remaining from.old)) }
         ensures none_waits { IfErr result (OnFailedRead (W.waiting to.new ≡ [])) }
+        ensures part { IfErr result
+            (OnFailedRead (ReadsPart (left_in R.remaining from.old) (left_in R.remaining from.new))) }
     {
         match read_line(from, to, &mut self.bytes)? {
             Some(held) => {

@@ -22,7 +22,7 @@ ghost use Rattle.textio.specs.Fronts.{WritesFront};
 ghost use Rattle.textio.specs.Ahead.{left_in};
 ghost use Rattle.textio.specs.NextLine.{FailureComesOf, OnFailedRead};
 ghost use Rattle.floorlog.specs.Playing.{sample_device, replayed};
-ghost use Rattle.floorlog.specs.Replaying.{IsReplayed};
+ghost use Rattle.floorlog.specs.Replaying.{IsReplayed, IsPlayedSoFar};
 
 use crate::playing::Player;
 use record::types::Device;
@@ -71,6 +71,9 @@ pub fn replay<R: ByteSource, W: ByteSink>(
         WritesFront (W.contents to.old) (W.contents to.new) (replayed begun log)) }
     ensures none_waits { OnOk result (W.waiting to.new ≡ []) }
     ensures read { IfErr result (OnFailedRead (W.waiting to.new ≡ [])) }
+    ensures broken { IfErr result (OnFailedRead (IfSome (left_in R.remaining from.old) (λ log.
+        IfSome (left_in R.remaining from.new) (λ left.
+        IsPlayedSoFar begun log left (W.contents to.old) (W.contents to.new))))) }
     ensures err { IfErr result
         (FailureComesOf R.fails_with W.fails_with IsTooLong (left_in R.remaining from.old)) }
     ensures short { IfSome (left_in R.remaining from.old) (λ log. length log < count_most

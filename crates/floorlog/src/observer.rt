@@ -7,7 +7,7 @@ ghost use Rattle.textio.specs.Ahead.{left_in};
 ghost use Rattle.textio.specs.NextLine.{FailureComesOf, OnFailedRead};
 ghost use Rattle.floorlog.specs.Kept.{kept_lines};
 ghost use Rattle.floorlog.specs.KeptText.{kept_text};
-ghost use Rattle.floorlog.specs.Observing.{Observes, FailsOn, CannotFollow};
+ghost use Rattle.floorlog.specs.Observing.{Observes, BreaksOff, FailsOn, CannotFollow};
 
 use crate::kept::KeptLine;
 use std::io;
@@ -66,6 +66,9 @@ pub fn follow<R: ByteSource, W: ByteSink, O: Observer>(
         (W.contents to.new) (O.output observer.old (kept_lines log))) }
     ensures none_waits { OnOk result (W.waiting to.new ≡ []) }
     ensures read { IfErr result (OnFailedRead (W.waiting to.new ≡ [])) }
+    ensures broken { IfErr result (OnFailedRead (IfSome (left_in R.remaining from.old) (λ log.
+        IfSome (left_in R.remaining from.new) (λ left. BreaksOff O.output O.leaves observer.old observer.new log left
+        (W.contents to.old) (W.contents to.new))))) }
     ensures err { IfErr result (FailureComesOf R.fails_with W.fails_with
         (λ log. CannotFollow O.overflows observer.old log) (left_in R.remaining from.old)) }
 {

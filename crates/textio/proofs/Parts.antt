@@ -6,13 +6,13 @@ use Rattle.std.proofs.Common.{◌∙◌, Bool, true, false, List, [], ◌∷◌,
 use Rattle.std.proofs.Common.{take, length-append, length-take, ne_eqb}
 use Rattle.std.specs.declared.option.Option.{Option}
 use Rattle.std.specs.Io.KnownBytes.{Keeps, Consumes, IsAtEnd}
-use Rattle.std.proofs.KnownBytes.{Consumes-nil, Consumes-trans}
+use Rattle.std.proofs.KnownBytes.{Consumes-nil, Consumes-kept, Consumes-trans}
 use Rattle.std.proofs.lemmas.List.Elements.{All-nil, All-head, All-tail, All-append}
 use Rattle.std.specs.Prelude.{if◌then◌else◌}
 use Rattle.text.specs.Words.{◌is◌}
 use Rattle.text.proofs.Choices.{if_no}
 use Rattle.textio.specs.Lines.{lines_from, lines_of, count_most, HasEndlessLine}
-use Rattle.textio.specs.NextLine.{TakesPart, IsNextLine}
+use Rattle.textio.specs.NextLine.{TakesPart, ReadsPart, IsNextLine}
 
 abbrev NoLf : List ℕ → Type 0
 NoLf = All (λ b. b ≢ 10)
@@ -85,6 +85,15 @@ joined {old} {mid} {new} {m} {n} {held} {place} {before} {after} {lf} p q long =
           ∙ take_kept (length after) p.part q.part;
       inside = q.inside;
     }
+
+-- where the next read fails
+pub read_part : {old mid new : Option (List ℕ)} {n held : ℕ} {before after : List ℕ}
+    → TakesPart old mid n before after held [] → Keeps mid new → ReadsPart old new
+read_part {old} {mid} {new} p kept = record {
+  part = p.part;
+  one_line = p.one_line;
+  taken = Consumes-kept old mid new p.part (subst (Consumes old mid) (append-nil p.part) p.taken) kept;
+}
 
 module _ (old new : Option (List ℕ)) (memory : List ℕ) where
   pub whole_line : (n held : ℕ) → TakesPart old new n [] memory held (10 ∷ [])

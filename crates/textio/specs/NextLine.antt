@@ -2,6 +2,7 @@
 --   TakesPart ..        of a line whose bytes `before` are kept so many more are taken, all but the LF that may come
 --                       after them: at least `least`; what is then kept has as many bytes as there is memory
 --   ShowsPart ..        what is taken of a line at once, by how far it came
+--   ReadsPart old new   of the line that has begun a part was read, and no LF
 --   IsNextLine ..       whether there is another line in a log, and what is kept of it
 --   FailureComesOf ..   why a log is not read to its end: an error that its source gives, or the sink of what is
 --                       printed for it, or that it is so long
@@ -37,6 +38,11 @@ pub record IsLine (log : List ℕ) (new : Option (List ℕ)) (most : ℕ) (line 
   pub lines : lines_of log ≡ first ∷ lines_of later
   pub kept : line ≡ take most first
   pub left : new ≡ Some later
+
+pub record ReadsPart (old new : Option (List ℕ)) : Type 0 where
+  pub part : List ℕ
+  pub one_line : All (λ b. b ≢ 10) part
+  pub taken : Consumes old new part
 
 abbrev pub IsNextLine : List ℕ → Option (List ℕ) → List ℕ → Option ℕ → Type 0
 IsNextLine log new memory (Some held) = IsLine log new (length memory) (take held memory)

@@ -4,7 +4,7 @@ ghost use Rattle.std.specs.Prelude.{OnErr, OnOk, IfOk, IfErr, IfSome};
 ghost use Rattle.std.specs.Io.KnownBytes.{Keeps};
 ghost use Rattle.textio.specs.Lines.{HasEndlessLine};
 ghost use Rattle.textio.specs.Ahead.{ahead_of, left_in};
-ghost use Rattle.textio.specs.NextLine.{ShowsPart, IsNextLine, FailureComesOf, OnFailedRead};
+ghost use Rattle.textio.specs.NextLine.{ShowsPart, ReadsPart, IsNextLine, FailureComesOf, OnFailedRead};
 
 use crate::memory;
 use crate::reader::{ByteSource, Reader};
@@ -49,6 +49,7 @@ fn take_shown<R: ByteSource>(from: &mut Reader<R>, line: &mut [u8], at: usize) -
         (ShowsPart (left_in R.remaining from.old) (left_in R.remaining from.new) line.old at line.new) }
     ensures err { IfErr result R.fails_with }
     ensures read { OnErr result (length (ahead_of from.old) ≡ 0) }
+    ensures kept { OnErr result (Keeps (left_in R.remaining from.old) (left_in R.remaining from.new)) }
 {
     from.fill()?;
     let shown = from.ahead();
@@ -94,6 +95,8 @@ pub fn next_line<R: ByteSource, W: ByteSink>(
     ensures err { IfErr result
         (FailureComesOf R.fails_with W.fails_with HasEndlessLine (left_in R.remaining from.old)) }
     ensures none_waits { IfErr result (OnFailedRead (W.waiting to.new ≡ [])) }
+    ensures part { IfErr result
+        (OnFailedRead (ReadsPart (left_in R.remaining from.old) (left_in R.remaining from.new))) }
 {
     let mut held = 0;
     for _ in 0..u64::MAX {

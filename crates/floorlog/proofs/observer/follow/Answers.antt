@@ -2,8 +2,9 @@
 use Rattle.std.proofs.Common.{arith}
 use Rattle.std.proofs.lemmas.Option.{IfSome_then}
 use Rattle.textio.specs.Ahead.{left_in}
+use Rattle.textio.proofs.Fronts.{same_error}
 use Rattle.floorlog.specs.KeptText.{kept_text}
-use Rattle.floorlog.proofs.Observing.{begun, flushed, so_far, observed, broken, ended, left_so}
+use Rattle.floorlog.proofs.Observing.{begun, flushed, so_far, observed, broken, breaks, on_failed, ended, left_so}
 use Rattle.floorlog.proofs.observer.follow.Goals as goal
 
 pub loop-init : goal.loop-init
@@ -41,3 +42,10 @@ returns-in_err-line-clause-front g c =
 
 pub returns-clause-front : goal.returns-clause-front
 returns-clause-front g c = grind (arith, so_far)
+
+pub returns-in_err-read-clause-broken : goal.returns-in_err-read-clause-broken
+returns-in_err-read-clause-broken g c =
+    same_error _ c.from_residual.result _
+    (on_failed _ (λ p. IfSome_then (left_in g.R.ByteSource.remaining c.args.from.now) c.loop.invariant
+    (λ log u. breaks u _ _ p c.read.ensures.keeps)) c.in_err-read.ensures.part)
+    c.from_residual.ensures.1

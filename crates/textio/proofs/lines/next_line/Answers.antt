@@ -3,7 +3,7 @@ use Rattle.std.proofs.Common.{rules, ◌+◌, [], arith, subst, ℕ, List, sym}
 use Rattle.std.proofs.KnownBytes.{Keeps-refl}
 use Rattle.textio.specs.Ahead.{left_in}
 use Rattle.textio.specs.NextLine.{TakesPart}
-use Rattle.textio.proofs.Parts.{none_read, joined, whole_line, last_line, endless}
+use Rattle.textio.proofs.Parts.{none_read, joined, read_part, whole_line, last_line, endless}
 use Rattle.textio.proofs.lines.next_line.Goals as goal
 
 pub loop-init : goal.loop-init
@@ -38,3 +38,6 @@ returns-clause-err g c =
 -- a read fails only where no byte was read ahead, and then nothing waits
 pub returns-in-Err-take_shown-clause-none_waits : goal.returns-in-Err-take_shown-clause-none_waits
 returns-in-Err-take_shown-clause-none_waits g c = grind arith
+
+pub returns-in-Err-take_shown-clause-part : goal.returns-in-Err-take_shown-clause-part
+returns-in-Err-take_shown-clause-part g c = read_part c.loop.invariant.read c.in-Err-take_shown.ensures.kept
