@@ -1,7 +1,7 @@
 -- A log told line by line: what a line gives, and what the log gives that follows it, are what the log with it gives.
 -- Assumes nothing.
 use Rattle.std.proofs.Common.{None, Some, IfSome, ℕ, ◌+◌, ◌^◌, ◌≤◌, ◌≡◌, refl, sym, subst, ap, ◌∙◌, Bool, ◌&&◌}
-use Rattle.std.proofs.Common.{List, [], ◌∷◌, ◌++◌, map, ◌⊎◌, ⊎_elim, arith, length, inl, inr}
+use Rattle.std.proofs.Common.{append_assoc, List, [], ◌∷◌, ◌++◌, map, ◌⊎◌, ⊎_elim, arith, length, inl, inr}
 use Rattle.std.proofs.lemmas.Option.{IfSome_then}
 use Rattle.std.specs.declared.option.Option.{Option}
 use Rattle.std.specs.Io.KnownBytes.{Appends}
@@ -12,15 +12,17 @@ use Rattle.textio.specs.Fronts.{WritesFront}
 use Rattle.textio.proofs.LinesCounted.{lines_fit, too_long_bytes}
 use Rattle.textio.proofs.Fronts.{front_then, front_more}
 use Rattle.floorlog.specs.Kept.{kept_lines}
+use Rattle.floorlog.specs.Observing.{BreaksOff}
 use Rattle.watch.specs.Marking.{FloorEvent, floor_event, seconds_by}
 use Rattle.watch.specs.Watching.{Watching, watching_from, dark_with, is_long}
-use Rattle.watch.specs.Telling.{floor_events, told_on, telling_if, seconds_together}
-use Rattle.watch.specs.States.{IsWatched}
+use Rattle.watch.specs.Telling.{floor_events, told_on, telling_if, after_log, seconds_together}
+use Rattle.watch.specs.States.{IsWatched, state_of}
 use Rattle.watch.proofs.LinesKept.{floor_events_kept}
-use Rattle.watch.proofs.TellingsSpelt.{seconds_together-cons, seconds_most_lem}
+use Rattle.watch.proofs.TellingsSpelt.{after_none, after_more, seconds_together-cons, seconds_most_lem}
 use Rattle.report.specs.Reports.{report_new, begun_text}
 use Rattle.report.specs.declared.Report.{Report}
-use Rattle.burnt.specs.Told.{tellings_text, report_after, told_from, log_told, IsUntold}
+use Rattle.burnt.specs.Told.{tellings_text, report_after, told_from, log_told, IsUntold, IsToldSoFar}
+use Rattle.burnt.specs.declared.telling.Teller.{Teller}
 use Rattle.burnt.proofs.TellingsTold.{told_more}
 
 module _ (s : Watching) (e : FloorEvent) (es : List FloorEvent) where
@@ -31,6 +33,9 @@ module _ (s : Watching) (e : FloorEvent) (es : List FloorEvent) where
   module _ {after : Watching} {ended : Bool} (w : IsWatched s e after ended) where
     pub line_counted : 2 ^ 64 ≤ after.time + seconds_together es → 2 ^ 64 ≤ s.time + seconds_together (e ∷ es)
     line_counted h = omega (arith, h, seconds_together-cons e es, ap (λ (x : Watching). x.time) w.state)
+
+    pub line_left : after_log after es ≡ after_log s (e ∷ es)
+    line_left = ap (λ (x : Watching). after_log x es) w.state ∙ sym (after_more s e es)
 
     told_is : telling_if ended after ≡ told_on s e
     told_is =
@@ -91,3 +96,36 @@ module _ {begun : Device} (drawn : Bool) {r : Report} {s : Watching} (new : r �
       → IfSome a (λ log. WritesFront old now (log_told begun drawn log))
   log_cut None old now f = tt
   log_cut (Some log) old now f = subst (WritesFront old now) (log_text log) (front_more old now _ _ f)
+
+-- where a read fails
+pub told_so_far : {begun : Device} {drawn : Bool} {t after : Teller} {log left : List ℕ} {old mid now : Option (List ℕ)}
+    → t.starts ≡ begun.own.lamps
+    → t.report ≡ report_new drawn
+    → state_of t.watch ≡ watching_from begun
+    → Appends old mid (begun_text (report_new drawn))
+    → BreaksOff (λ (x : Teller) ls. told_from x.starts x.report (state_of x.watch) (map floor_event ls))
+    (λ (x : Teller) ls (last : Teller). (last.starts ≡ x.starts)
+    × (state_of last.watch ≡ after_log (state_of x.watch) (map floor_event ls)))
+    t after log left mid now
+    → IsToldSoFar begun drawn log left old now
+told_so_far {begun} {drawn} {t} {after} {log} {left} {old} {mid} {now} starts report watch w b = record {
+  told = b.told;
+  part = b.part;
+  one_line = b.one_line;
+  lines = b.lines;
+  report = after.report;
+  text = begun_text (report_new drawn) ++ b.text;
+  written = Appends-trans old mid now _ _ w b.written;
+  then = λ ls.
+      ap (λ (x : List ℕ). begun_text (report_new drawn) ++ x)
+      ((λ i. told_from (sym starts i) (sym report i) (sym watch i) (map floor_event (b.told ++ ls))) ∙ b.then ls
+      ∙ (λ i. b.text ++ told_from ((at.0 ∙ starts) i) after.report
+      ((at.1 ∙ ap (λ (s : Watching). after_log s es) watch) i) (map floor_event ls)))
+      ∙ sym (append_assoc (begun_text (report_new drawn)) b.text _);
+}
+  where
+    es : List FloorEvent
+    es = map floor_event b.told
+
+    at : (after.starts ≡ t.starts) × (state_of after.watch ≡ after_log (state_of t.watch) es)
+    at = b.leaves after (refl, sym (after_none (state_of after.watch)))

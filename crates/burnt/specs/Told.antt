@@ -6,12 +6,17 @@
 --   told_from starts r s es  what is written of the events es, from the state s on, and at their end
 --   log_told d drawn log     what is written of a whole log that begins with the device d, on a page or as lines
 --   IsUntold log             a log has more lines, or more bytes in one, or lets more seconds pass, than 64 bits count
+--   IsToldSoFar d drawn log left ..   the sink got what is told by the lines that have ended in what was read of the
+--                            log, where this is left: whatever comes after them, the rest of what is told comes of it
 -- Assumes nothing.
-use Rattle.std.specs.Prelude.{ℕ, ◌⊎◌, min, Bool, List, [], ◌∷◌, ◌++◌}
+use Rattle.std.specs.Prelude.{ℕ, ◌≡◌, ◌≢◌, ◌⊎◌, min, Bool, List, [], ◌∷◌, ◌++◌, All, map}
+use Rattle.std.specs.declared.option.Option.{Option}
+use Rattle.std.specs.Io.KnownBytes.{Appends}
 use Rattle.record.specs.declared.types.Device.{Device}
 use Rattle.clock.specs.Second.{marks_in}
 use Rattle.textio.specs.Lines.{IsTooLong}
-use Rattle.watch.specs.Marking.{FloorEvent}
+use Rattle.floorlog.specs.Kept.{kept_lines}
+use Rattle.watch.specs.Marking.{FloorEvent, floor_event}
 use Rattle.watch.specs.Watching.{Watching, watching_from, burnt_by}
 use Rattle.watch.specs.Telling.{floor_events, Telling, tellings, after_log, IsUncounted}
 use Rattle.report.specs.Reports.{report_new, begun_text, report_told, told_text, ended_text}
@@ -40,3 +45,15 @@ log_told d drawn log =
 
 abbrev pub IsUntold : List ℕ → Type 0
 IsUntold log = IsTooLong log ⊎ IsUncounted log
+
+pub record IsToldSoFar (d : Device) (drawn : Bool) (log left : List ℕ) (old new : Option (List ℕ)) : Type 0 where
+  pub told : List (List ℕ)
+  pub part : List ℕ
+  pub one_line : All (λ b. b ≢ 10) part
+  pub lines : kept_lines log ≡ told ++ kept_lines (part ++ left)
+  pub report : Report
+  pub text : List ℕ
+  pub written : Appends old new text
+  pub then : (ls : List (List ℕ)) → let r = report_new drawn in
+      begun_text r ++ told_from d.own.lamps r (watching_from d) (map floor_event (told ++ ls))
+      ≡ text ++ told_from d.own.lamps report (after_log (watching_from d) (map floor_event told)) (map floor_event ls)

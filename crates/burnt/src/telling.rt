@@ -1,14 +1,15 @@
 // A log read to its end, of which is told which lamp burnt when.
-ghost use Rattle.std.specs.Prelude.{[], ⊤, ◌≡◌, ◌≢◌, ◌+◌, ◌≤◌, ◌<◌, ◌^◌, map, take, length, Err};
+ghost use Rattle.std.specs.Prelude.{[], ◌≡◌, ◌≢◌, ◌+◌, ◌≤◌, ◌<◌, ◌^◌, map, take, length, Err};
 ghost use Rattle.std.specs.Prelude.{IfErr, OnOk, IfSome};
 ghost use Rattle.std.specs.Io.KnownBytes.{Appends};
 ghost use Rattle.textio.specs.Fronts.{WritesFront, WritesText};
 ghost use Rattle.textio.specs.Ahead.{left_in};
 ghost use Rattle.textio.specs.NextLine.{FailureComesOf, OnFailedRead};
 ghost use Rattle.watch.specs.Marking.{floor_event};
-ghost use Rattle.watch.specs.Telling.{seconds_together, telling_if};
+ghost use Rattle.watch.specs.Telling.{seconds_together, telling_if, after_log};
 ghost use Rattle.watch.specs.States.{state_of};
 ghost use Rattle.burnt.specs.Told.{tellings_text, report_after, totals_text, told_from, log_told, IsUntold};
+ghost use Rattle.burnt.specs.Told.{IsToldSoFar};
 
 use floorlog::kept::KeptLine;
 use floorlog::observer;
@@ -86,7 +87,8 @@ struct Teller {
 impl Observer for Teller {
     ghost output = { λ t ls. told_from t.starts t.report (state_of t.watch) (map floor_event ls) };
 
-    ghost leaves = { λ _ _ _. ⊤ };
+    ghost leaves = { λ t ls last. (last.starts ≡ t.starts)
+        × (state_of last.watch ≡ after_log (state_of t.watch) (map floor_event ls)) };
 
     ghost overflows = { λ t ls. 2 ^ 64 ≤ t.watch.time + seconds_together (map floor_event ls) };
 
@@ -122,6 +124,9 @@ pub fn tell_log<R: ByteSource, W: ByteSink>(
         (W.contents to.new) (log_told begun drawn log)) }
     ensures none_waits { OnOk result (W.waiting to.new ≡ []) }
     ensures read { IfErr result (OnFailedRead (W.waiting to.new ≡ [])) }
+    ensures broken { IfErr result (OnFailedRead (IfSome (left_in R.remaining from.old) (λ log.
+        IfSome (left_in R.remaining from.new) (λ left.
+        IsToldSoFar begun drawn log left (W.contents to.old) (W.contents to.new))))) }
     ensures err { IfErr result
         (FailureComesOf R.fails_with W.fails_with IsUntold (left_in R.remaining from.old)) }
     ensures short { IfSome (left_in R.remaining from.old) (λ log. length log < 2 ^ 32

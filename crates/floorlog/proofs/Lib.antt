@@ -11,6 +11,6 @@ pub mod Driven
 pub mod EventSeconds
 pub mod KeptText
 mod NextKept
-mod Observing
+pub mod Observing
 mod Replayed
 pub mod Samples

@@ -58,8 +58,8 @@ module _ {begun d : Device} {n : ℕ} (first : n ≡ 0) (is : d ≡ begun) where
 pub played_so_far : {p after : Player} {begun : Device} {log left : List ℕ} {old new : Option (List ℕ)} → p.played ≡ 0
     → p.tested.device ≡ begun
     → BreaksOff (λ (q : Player) ls. printed_from q.played q.tested.device (map event ls))
-      (λ (q : Player) ls (last : Player). last.tested.device ≡ state_after q.tested.device (map event ls))
-      p after log left old new
+    (λ (q : Player) ls (last : Player). last.tested.device ≡ state_after q.tested.device (map event ls))
+    p after log left old new
     → IsPlayedSoFar begun log left old new
 played_so_far {p} {after} {begun} {log} {left} {old} {new} first is b = record {
   told = b.told;

@@ -2,8 +2,8 @@
 --   Observes .. before after line old new    a line leaves `after` of `before`: a text is written, and with it what
 --                                            comes then is what would have come with the line
 --   BreaksOff .. before after log left old new
---                                            all lines are told that have ended in what was read of the log, where this is
---                                            left: what comes of them is written, and after them nothing
+--                                            all lines are told that have ended in what was read of the log, where this
+--                                            is left: what comes of them is written, and after them nothing
 --   FailsOn fails over f                     the failure f of a line is an error of the sink, or what comes overflows
 --   CannotFollow Overflows s log             the log is too long, or has more in it than can be counted
 -- Assumes nothing.

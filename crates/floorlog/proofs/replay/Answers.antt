@@ -33,5 +33,6 @@ returns-in_err-follow-clause-broken g c =
     same_error _ c.from_residual.result _
     (on_failed _ (λ p. IfSome_then (left_in g.R.ByteSource.remaining c.args.from.now) p
     (λ log q. IfSome_then (left_in g.R.ByteSource.remaining c.follow.new.from) q
-    (λ left b. played_so_far c.new-player.ensures.played c.new-player.ensures.device b))) c.in_err-follow.ensures.broken)
+    (λ left b. played_so_far c.new-player.ensures.played c.new-player.ensures.device b)))
+    c.in_err-follow.ensures.broken)
     c.from_residual.ensures.1

@@ -1,11 +1,15 @@
 -- what stands before the first stretch, and then what is told of the log
-use Rattle.std.proofs.Common.{ap, ◌^◌}
+use Rattle.std.proofs.Common.{ap, refl, subst, ◌^◌}
+use Rattle.std.proofs.lemmas.Option.{IfSome_then}
 use Rattle.std.proofs.lemmas.Result.{on_ok_weaker, IfErr-weaker}
+use Rattle.std.specs.Io.KnownBytes.{Appends}
 use Rattle.textio.specs.Ahead.{left_in}
 use Rattle.textio.proofs.Failures.{comes_of, short_enough}
+use Rattle.floorlog.proofs.Observing.{on_failed}
+use Rattle.report.specs.Reports.{begun_text}
 use Rattle.watch.specs.Watching.{Watching}
 use Rattle.burnt.specs.Told.{IsUntold}
-use Rattle.burnt.proofs.LinesTold.{log_whole, log_front, log_cut, untold, untold_bytes}
+use Rattle.burnt.proofs.LinesTold.{log_whole, log_front, log_cut, told_so_far, untold, untold_bytes}
 use Rattle.burnt.proofs.telling.tell_log.Goals as goal
 
 pub returns-in-Ok-clause-whole : goal.returns-in-Ok-clause-whole
@@ -36,3 +40,12 @@ pub returns-in-Err-clause-front : goal.returns-in-Err-clause-front
 returns-in-Err-clause-front g c =
     log_cut c.args.drawn c.new-report.ensures c.new-watch.ensures (left_in g.R.ByteSource.remaining c.args.from.now) _ _
     c.in-Err.ensures.front
+
+pub returns-in-Ok-clause-broken : goal.returns-in-Ok-clause-broken
+returns-in-Ok-clause-broken g c =
+    IfErr-weaker c.follow.result _ _
+    (λ f h. on_failed f (λ p. IfSome_then (left_in g.R.ByteSource.remaining c.args.from.now) p
+    (λ log q. IfSome_then (left_in g.R.ByteSource.remaining c.follow.new.from) q
+    (λ left b. told_so_far refl c.new-report.ensures c.new-watch.ensures
+    (subst (Appends _ _) (ap begun_text c.new-report.ensures) c.in-Ok.ensures.whole) b))) h)
+    c.follow.ensures.broken

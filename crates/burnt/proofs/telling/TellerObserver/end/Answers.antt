@@ -1,7 +1,8 @@
-use Rattle.std.proofs.Common.{sym, subst}
+use Rattle.std.proofs.Common.{arith, sym, subst}
 use Rattle.textio.specs.Fronts.{WritesText}
 use Rattle.textio.proofs.Fronts.{writes_then, writes_fails}
 use Rattle.watch.specs.States.{state_of}
+use Rattle.watch.proofs.TellingsSpelt.{after_none}
 use Rattle.burnt.proofs.TellingsTold.{told_none}
 use Rattle.burnt.proofs.telling.TellerObserver.end.Goals as goal
 
@@ -17,3 +18,6 @@ returns-clause-text g c =
     subst (WritesText _ _ _ _) (sym (told_none t.starts t.report (state_of t.watch)))
     (writes_then (rw c.is_underway.ensures at c.in_ok-tell_ended.ensures.text)
     (rw (c.in_ok-tell_ended.ensures.report, c.is_underway.ensures) at c.tell_totals.ensures))
+
+pub returns-clause-left : goal.returns-clause-left
+returns-clause-left g c = grind (arith, after_none)
