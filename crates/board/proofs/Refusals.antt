@@ -14,7 +14,7 @@ use Rattle.controller.specs.Reading.{reading_outcome_number, saying, read_reply}
 use Rattle.controller.proofs.Cases.{reply_by}
 use Rattle.controller.proofs.Refusals.{refusal_writes_nothing, written_number}
 use Rattle.codes.specs.Commands.{coded_command}
-use Rattle.codes.specs.Readings.{meaningless, flat}
+use Rattle.codes.specs.Readings.{no_reading, flat_reading}
 use Rattle.codes.specs.ByCode.{written_by, read_by}
 use Rattle.codes.specs.declared.command.Coded.{Coded}
 use Rattle.board.specs.Writable.{is_writable_by}
@@ -32,19 +32,20 @@ module _ (secured : Bool) (random : ℕ) (password : List ℕ) (room : ℕ) wher
       → written_by (coded_command k) secured random password room ≡ nothing_written 3
   no_command_written k e enough = grind arith
 
-pub no_command_read : (k : Coded) (l : List ℕ) → coded_command k ≡ None → read_by (coded_command k) l ≡ meaningless 3
+pub no_command_read : (k : Coded) (l : List ℕ) → coded_command k ≡ None → read_by (coded_command k) l ≡ no_reading 3
 no_command_read k l e = ap (λ (m : Option Command). read_by m l) e
 
 -- the number of a reading is its outcome's
-saying-number : (m : Said) → (flat (saying m)).number ≡ reading_outcome_number (saying m).outcome
+saying-number : (m : Said) → (flat_reading (saying m)).number ≡ reading_outcome_number (saying m).outcome
 saying-number m = grind arith
 
 pub read_number : (c : Command) (l : List ℕ) →
     (read_by (Some c) l).number ≡ reading_outcome_number (read_reply c l).outcome
 read_number c l =
-    reply_by c l (λ r. (flat r).number ≡ reading_outcome_number r.outcome) (λ e. refl) (λ e f. refl) (λ f b. refl)
+    reply_by c l (λ r. (flat_reading r).number ≡ reading_outcome_number r.outcome) (λ e. refl) (λ e f. refl)
+    (λ f b. refl)
     (λ f b. saying-number (read_parameter c (reply_parameter l)))
 
 pub refused_means_nothing : (m : Option Command) (l : List ℕ) → ((read_by m l).number ≡ 0 → ⊥)
-    → read_by m l ≡ meaningless (read_by m l).number
+    → read_by m l ≡ no_reading (read_by m l).number
 refused_means_nothing m l h = grind arith

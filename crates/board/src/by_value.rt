@@ -8,8 +8,8 @@ ghost use Rattle.record.specs.SetUp.{set_up};
 ghost use Rattle.record.specs.HostCalls.{fault_set, errors_set, mark_set};
 ghost use Rattle.record.specs.Given.{given_by, set_up_given};
 ghost use Rattle.setup.specs.Lent.{wanted_settings};
-ghost use Rattle.clock.specs.Passing.{passed};
-ghost use Rattle.device.specs.Calls.{received, opened_by, place_taken, closed_by};
+ghost use Rattle.clock.specs.Passing.{time_passed};
+ghost use Rattle.device.specs.Calls.{received_at, opened_by, place_taken, closed_by};
 ghost use Rattle.board.specs.Results.{received_of, opened_of, changed_of, closing_given};
 
 use crate::projector;
@@ -142,8 +142,8 @@ pub extern "C" fn pj_close(d: Device, place: usize) -> Changed
 
 #[unsafe(no_mangle)]
 pub extern "C" fn pj_receive(d: Device, place: usize, bytes: &[u8], out: &mut [u8]) -> Received
-    ensures says { result ≡ received_of (received d place bytes.now (length out.old)) }
-    ensures written { out.new ≡ over (received d place bytes.now (length out.old)).reply
+    ensures says { result ≡ received_of (received_at d place bytes.now (length out.old)) }
+    ensures written { out.new ≡ over (received_at d place bytes.now (length out.old)).reply
         out.old }
 {
     let mut device = d;
@@ -189,7 +189,7 @@ pub extern "C" fn pj_set_mark(d: Device, lamp: usize, enabled: bool) -> Changed
 
 #[unsafe(no_mangle)]
 pub extern "C" fn pj_pass(d: Device, seconds: u32) -> Changed
-    ensures { result ≡ changed_of (given_by d (passed d seconds)) }
+    ensures { result ≡ changed_of (given_by d (time_passed d seconds)) }
 {
     let mut device = d;
     let number = projector::pj_pass_in_place(&mut device, seconds);

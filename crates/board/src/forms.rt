@@ -3,7 +3,7 @@ ghost use Rattle.std.specs.Prelude.{◌≡◌, length};
 ghost use Rattle.text.specs.Words.{over};
 ghost use Rattle.stored.specs.Form.{stored_by};
 ghost use Rattle.stored.specs.Told.{told_stored, storing_told};
-ghost use Rattle.stored.specs.Loading.{loaded};
+ghost use Rattle.stored.specs.Loading.{loaded_from};
 ghost use Rattle.board.specs.Results.{changed_of, storing_of};
 
 use crate::results::Changed;
@@ -47,8 +47,8 @@ pub extern "C" fn pj_store(d: Device, out: &mut [u8]) -> Written
 /// The device that the form is of, into the record; the blank one where it is refused, with 20 to 23.
 #[unsafe(no_mangle)]
 pub extern "C" fn pj_load_in_place(device: &mut Device, bytes: &[u8]) -> u32
-    ensures number { result ≡ (loaded bytes.now).number }
-    ensures device { device.new ≡ (loaded bytes.now).device }
+    ensures number { result ≡ (loaded_from bytes.now).number }
+    ensures device { device.new ≡ (loaded_from bytes.now).device }
 {
     match loading::load_in(device, bytes) {
         Ok(()) => 0,
@@ -59,7 +59,7 @@ pub extern "C" fn pj_load_in_place(device: &mut Device, bytes: &[u8]) -> u32
 /// The same, by value.
 #[unsafe(no_mangle)]
 pub extern "C" fn pj_load(bytes: &[u8]) -> Changed
-    ensures { result ≡ changed_of (loaded bytes.now) }
+    ensures { result ≡ changed_of (loaded_from bytes.now) }
 {
     let mut changed = Changed {
         number: 0,

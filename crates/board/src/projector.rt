@@ -11,9 +11,9 @@ ghost use Rattle.record.specs.Refusals.{outcome_number};
 ghost use Rattle.record.specs.SetUpErrors.{set_up_number};
 ghost use Rattle.record.specs.Given.{left_by};
 ghost use Rattle.setup.specs.Lent.{wanted_settings};
-ghost use Rattle.clock.specs.Passing.{passed};
-ghost use Rattle.device.specs.Calls.{received, opened_by, place_taken, closed_by};
-ghost use Rattle.device.specs.Outcomes.{told};
+ghost use Rattle.clock.specs.Passing.{time_passed};
+ghost use Rattle.device.specs.Calls.{received_at, opened_by, place_taken, closed_by};
+ghost use Rattle.device.specs.Outcomes.{result_told};
 ghost use Rattle.board.specs.Results.{receiving_of, opening_of};
 
 use crate::results::{Opening, Receiving};
@@ -132,7 +132,7 @@ pub extern "C" fn pj_legal_in_place(device: &Device) -> bool
 /// A new connection, greeted: 1, 2 and 6 in that order.
 #[unsafe(no_mangle)]
 pub extern "C" fn pj_open_in_place(device: &mut Device, random: u32, out: &mut [u8]) -> Opening
-    ensures says { result ≡ opening_of (told (opened_by device.old random (length out.old)))
+    ensures says { result ≡ opening_of (result_told (opened_by device.old random (length out.old)))
         (place_taken device.old (length out.old)) }
     ensures device { device.new ≡ (opened_by device.old random (length out.old)).device }
     ensures reply { out.new ≡ over (opened_by device.old random (length out.old)).reply
@@ -158,10 +158,10 @@ pub extern "C" fn pj_receive_in_place(
     bytes: &[u8],
     out: &mut [u8],
 ) -> Receiving
-    ensures says { result ≡ receiving_of (told (received device.old place bytes.now
+    ensures says { result ≡ receiving_of (result_told (received_at device.old place bytes.now
         (length out.old))) }
-    ensures device { device.new ≡ (received device.old place bytes.now (length out.old)).device }
-    ensures reply { out.new ≡ over (received device.old place bytes.now (length out.old)).reply
+    ensures device { device.new ≡ (received_at device.old place bytes.now (length out.old)).device }
+    ensures reply { out.new ≡ over (received_at device.old place bytes.now (length out.old)).reply
         out.old }
 {
     Receiving::of(calls::receive(device, place, bytes, out))
@@ -201,8 +201,8 @@ pub extern "C" fn pj_set_mark_in_place(device: &mut Device, lamp: usize, enabled
 #[unsafe(no_mangle)]
 #[tactic(auto, using(crate::proofs::Gives::number_as, crate::proofs::Gives::device_as))]
 pub extern "C" fn pj_pass_in_place(device: &mut Device, seconds: u32) -> u32
-    ensures number { result ≡ outcome_number (passed device.old seconds) }
-    ensures device { device.new ≡ left_by device.old (passed device.old seconds) }
+    ensures number { result ≡ outcome_number (time_passed device.old seconds) }
+    ensures device { device.new ≡ left_by device.old (time_passed device.old seconds) }
 {
     refusal::number_of(pass::pass(device, seconds))
 }

@@ -8,7 +8,7 @@ ghost use Rattle.codes.specs.Commands.{coded_command};
 ghost use Rattle.controller.specs.Writing.{nothing_written, command_room, told_written};
 ghost use Rattle.controller.specs.Reading.{reading_outcome_number, read_reply};
 ghost use Rattle.codes.specs.ByCode.{written_by, read_by};
-ghost use Rattle.codes.specs.Readings.{flat_greeting, meaningless};
+ghost use Rattle.codes.specs.Readings.{flat_greeting, no_reading};
 ghost use Rattle.controller.specs.Greetings.{read_greeting};
 ghost use Rattle.day.specs.declared.check.CheckError.{CheckError};
 ghost use Rattle.day.specs.declared.plan.PlanError.{PlanError};
@@ -19,7 +19,7 @@ ghost use Rattle.board.specs.declared.lamps.Report.{Report};
 ghost use Rattle.board.specs.Results.{writing_of, panel_changed_of, panel_sent_of};
 ghost use Rattle.board.specs.declared.results.PanelChanged.{PanelChanged};
 ghost use Rattle.board.specs.declared.results.PanelSent.{PanelSent};
-ghost use Rattle.panel.specs.PanelCalls.{panel_made, no_panel, added_to, commanded, stepped_at, lost_at};
+ghost use Rattle.panel.specs.PanelCalls.{panel_made, no_panel, added_to, command_at, stepped_at, lost_at};
 ghost use Rattle.panel.specs.declared.types.Panel.{Panel};
 ghost use Rattle.record.specs.declared.types.Setting.{Setting};
 ghost use Rattle.board.specs.Which.{setting_number};
@@ -59,9 +59,9 @@ pub fn a_refusal_has_its_number_only()
     ensures read_number { (c : Command) (l : List ℕ)
         → (read_by (Some c) l).number ≡ reading_outcome_number (read_reply c l).outcome }
     ensures nothing_meant { (m : Option Command) (l : List ℕ)
-        → (read_by m l).number ≢ 0 → read_by m l ≡ meaningless (read_by m l).number }
+        → (read_by m l).number ≢ 0 → read_by m l ≡ no_reading (read_by m l).number }
     ensures no_command_read { (k : Coded) (l : List ℕ)
-        → coded_command k ≡ None → read_by (coded_command k) l ≡ meaningless 3 }
+        → coded_command k ≡ None → read_by (coded_command k) l ≡ no_reading 3 }
 {}
 
 /// Of a set-up: the setting told is 0 exactly where set-up gives 0; where it gives 3 it is the first that is out of its
@@ -99,7 +99,7 @@ pub fn one_result()
     ensures projector_added { (p : Panel) (password : List ℕ) (r s : PanelChanged)
         → r ≡ panel_changed_of (added_to p password) → s ≡ panel_changed_of (added_to p password) → r ≡ s }
     ensures command_sent { (p : Panel) (i : ℕ) (k : Coded) (out : List ℕ) (r s : PanelSent) (m n : List ℕ)
-        → let c = commanded p i k (length out) in
+        → let c = command_at p i k (length out) in
         (r ≡ panel_sent_of c) × (m ≡ over c.line out)
         → (s ≡ panel_sent_of c) × (n ≡ over c.line out) → (r ≡ s) × (m ≡ n) }
     ensures line_heard { (p : Panel) (i : ℕ) (l : List ℕ) (r s : PanelChanged)

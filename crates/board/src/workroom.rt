@@ -2,7 +2,7 @@
 // panel's own call on a copy.
 ghost use Rattle.std.specs.Prelude.{◌≡◌, length};
 ghost use Rattle.text.specs.Words.{over};
-ghost use Rattle.panel.specs.PanelCalls.{panel_made, no_panel, added_to, commanded, stepped_at, lost_at};
+ghost use Rattle.panel.specs.PanelCalls.{panel_made, no_panel, added_to, command_at, stepped_at, lost_at};
 ghost use Rattle.board.specs.Results.{panel_changed_of, panel_sent_of};
 
 use crate::results::{PanelChanged, PanelSent};
@@ -39,8 +39,8 @@ pub extern "C" fn pj_panel_command(
     k: Coded,
     out: &mut [u8],
 ) -> PanelSent
-    ensures says { result ≡ panel_sent_of (commanded p projector k (length out.old)) }
-    ensures written { out.new ≡ over (commanded p projector k (length out.old)).line
+    ensures says { result ≡ panel_sent_of (command_at p projector k (length out.old)) }
+    ensures written { out.new ≡ over (command_at p projector k (length out.old)).line
         out.old }
 {
     let mut panel = p;

@@ -3,7 +3,7 @@
 use Rattle.std.proofs.Common.{ℕ, zero, suc, ◌+◌, ◌≤◌, ◌<◌, ◌≡◌, ap, true, false, ⊎_elim, add-zero, arith}
 use Rattle.std.proofs.Common.{lt-ltb, le-ltb}
 use Rattle.record.specs.Limits.{age_end}
-use Rattle.record.specs.Updates.{aged}
+use Rattle.record.specs.Updates.{with_age}
 use Rattle.record.specs.Legal.{is_timed}
 use Rattle.record.specs.Record.{closed}
 use Rattle.record.specs.declared.types.Line.{Line}
@@ -18,7 +18,7 @@ module _ (c : Connection) where
   unfolding connection_second
   second_untimed e = rw e
 
-  second_older : is_timed c.phase ≡ true → c.age + 1 < age_end → connection_second c ≡ aged c (c.age + 1)
+  second_older : is_timed c.phase ≡ true → c.age + 1 < age_end → connection_second c ≡ with_age c (c.age + 1)
   unfolding connection_second
   second_older e h = rw (e, lt-ltb (c.age + 1) age_end h)
 
@@ -30,7 +30,7 @@ pub untimed_stays : (n : ℕ) (c : Connection) → is_timed c.phase ≡ false �
 untimed_stays n c e = times_stays connection_second c (second_untimed c e) n
 
 pub grows_older : (n : ℕ) (c : Connection) → is_timed c.phase ≡ true → c.age + n < age_end
-    → times connection_second n c ≡ aged c (c.age + n)
+    → times connection_second n c ≡ with_age c (c.age + n)
 unfolding times
 grows_older zero c e h = rw add-zero
 grows_older (suc n) c e h = grind (arith, second_older, grows_older n c e (omega arith))
@@ -43,11 +43,12 @@ closes (suc zero) c e g h = second_closes c e (omega arith)
 closes (suc (suc n)) c e g h =
     ⊎_elim
     (λ k. rw (closes (suc n) c e (omega arith) k) (second_untimed closed (ap (λ x. is_timed x.phase) closed_spelt)))
-    (λ k. rw (grows_older (suc n) c e k) (second_closes (aged c (c.age + suc n)) e (omega arith)))
+    (λ k. rw (grows_older (suc n) c e k) (second_closes (with_age c (c.age + suc n)) e (omega arith)))
     (le_or_lt age_end (c.age + suc n))
 
 -- what holds of it at every age, and of the closed connection, holds of it later
-module _ (P : Connection → Type 0) (none : P closed) (older : (c : Connection) (age : ℕ) → P c → P (aged c age)) where
+module _ (P : Connection → Type 0) (none : P closed)
+    (older : (c : Connection) (age : ℕ) → P c → P (with_age c age)) where
   connection_second_lem : (c : Connection) → P c → P (connection_second c)
   unfolding connection_second
   connection_second_lem c p = grind arith

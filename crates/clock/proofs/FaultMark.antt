@@ -9,7 +9,7 @@ use Rattle.record.specs.declared.types.Device.{Device}
 use Rattle.record.proofs.Calls.{fault_illegal, fault_accepted}
 use Rattle.record.proofs.HostKept.{fault_legal}
 use Rattle.clock.specs.Second.{times, own_second, second}
-use Rattle.clock.specs.Passing.{passed}
+use Rattle.clock.specs.Passing.{time_passed}
 use Rattle.clock.proofs.Repeated.{times_commute}
 use Rattle.clock.proofs.Cases.{passed_illegal, passed_accepted}
 use Rattle.clock.proofs.TimeLegal.{time_legal}
@@ -23,7 +23,7 @@ times-marked n d m = times_commute second (marked m) (λ x. refl) n d
 
 -- the two calls, one after the other
 pub fault_and_time : (n : ℕ) (d : Device) (m : Bool)
-    → passed (left_by d (fault_set d m)) n ≡ fault_set (left_by d (passed d n)) m
-unfolding passed
+    → time_passed (left_by d (fault_set d m)) n ≡ fault_set (left_by d (time_passed d n)) m
+unfolding time_passed
 fault_and_time n d m =
     grind (arith, fault_illegal, passed_illegal, fault_accepted, passed_accepted, times-marked, time_legal, fault_legal)

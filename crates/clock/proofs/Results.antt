@@ -6,16 +6,16 @@ use Rattle.std.specs.Prelude.{if◌then◌else◌}
 use Rattle.record.specs.Legal.{is_legal}
 use Rattle.record.specs.Given.{given_by}
 use Rattle.record.specs.declared.types.Device.{Device}
-use Rattle.clock.specs.Passing.{passed}
+use Rattle.clock.specs.Passing.{time_passed}
 use Rattle.clock.proofs.Cases.{passed_by}
 
 module _ (d : Device) (n : ℕ) where
   abbrev number : Bool → ℕ
   number legal = if legal then 0 else 1
 
-  pub passed-number : (given_by d (passed d n)).number ≡ (if is_legal d then 0 else 1)
-  passed-number =
+  pub time_passed-number : (given_by d (time_passed d n)).number ≡ (if is_legal d then 0 else 1)
+  time_passed-number =
       passed_by (λ r. r.number ≡ number (is_legal d)) d n (λ h. sym (ap number h)) (λ h. sym (ap number h))
 
-  pub passed_refusal : ((given_by d (passed d n)).number ≡ 0 → ⊥) → (given_by d (passed d n)).device ≡ d
+  pub passed_refusal : ((given_by d (time_passed d n)).number ≡ 0 → ⊥) → (given_by d (time_passed d n)).device ≡ d
   passed_refusal = grind arith

@@ -5,8 +5,8 @@ use Rattle.std.proofs.Common.{ℕ, ◌+◌, ◌≡◌, refl, ap, ◌∙◌, true
 use Rattle.record.specs.Limits.{on, warming}
 use Rattle.record.specs.Wanted.{wanted_of}
 use Rattle.record.specs.Legal.{is_timed}
-use Rattle.record.specs.Record.{closed, started}
-use Rattle.record.specs.Updates.{with_own, with_power_left, aged}
+use Rattle.record.specs.Record.{closed, start_device}
+use Rattle.record.specs.Updates.{with_own, with_power_left, with_age}
 use Rattle.record.specs.Computing.{computing as computing-record}
 use Rattle.record.specs.declared.types.Settings.{Settings}
 use Rattle.record.specs.declared.types.Own.{Own}
@@ -14,7 +14,7 @@ use Rattle.record.specs.declared.types.Connection.{Connection}
 use Rattle.record.specs.declared.types.Device.{Device}
 use Rattle.record.specs.Given.{Given, given_by}
 use Rattle.clock.specs.Second.{times, one_more, own_second, connection_second}
-use Rattle.clock.specs.Passing.{seconds_most, passed}
+use Rattle.clock.specs.Passing.{seconds_most, time_passed}
 use Rattle.clock.specs.Computing.{computing}
 use Rattle.clock.proofs.LampsGain.{gains, stops}
 use Rattle.clock.proofs.ConnectionsAge.{grows_older, closes}
@@ -37,15 +37,15 @@ pub stops_at_the_limit : times one_more seconds_most 0 ≡ 359999999
 stops_at_the_limit = stops seconds_most 0 (omega arith) (omega arith)
 
 module _ (c : Connection) (ages : is_timed c.phase ≡ true) where
-  pub at_28_older : c.age ≡ 28 → times connection_second 1 c ≡ aged c 29
-  at_28_older e = let one : c.age + 1 ≡ 29 = omega arith in grows_older 1 c ages (omega arith) ∙ ap (aged c) one
+  pub at_28_older : c.age ≡ 28 → times connection_second 1 c ≡ with_age c 29
+  at_28_older e = let one : c.age + 1 ≡ 29 = omega arith in grows_older 1 c ages (omega arith) ∙ ap (with_age c) one
 
   pub at_29_closes : c.age ≡ 29 → times connection_second 1 c ≡ closed
   at_29_closes e = closes 1 c ages (omega arith) (omega arith)
 
 -- W = 20, C = 60, one lamp at 0 s, input 11: the device that was just switched on, and what a call gives of it
 abbrev fresh : Device
-fresh = started (wanted_of [] [] [] [] [] (codes "11") (0 ∷ []) 20 60)
+fresh = start_device (wanted_of [] [] [] [] [] (codes "11") (0 ∷ []) 20 60)
 
 abbrev warmed : Device
 warmed = with_own fresh (with_power_left fresh.own warming 20)
@@ -54,14 +54,14 @@ abbrev number_power_left_lamp : Given Device → List ℕ
 number_power_left_lamp r =
     r.number ∷ r.device.own.power ∷ r.device.own.left ∷ slice_index_or r.device.own.lamps 0 0 ∷ []
 
-pub passed_19 : number_power_left_lamp (given_by warmed (passed warmed 19)) ≡ 0 ∷ warming ∷ 1 ∷ 19 ∷ []
+pub passed_19 : number_power_left_lamp (given_by warmed (time_passed warmed 19)) ≡ 0 ∷ warming ∷ 1 ∷ 19 ∷ []
 unfolding computing computing-record
 passed_19 = refl
 
-pub passed_20 : number_power_left_lamp (given_by warmed (passed warmed 20)) ≡ 0 ∷ on ∷ 0 ∷ 20 ∷ []
+pub passed_20 : number_power_left_lamp (given_by warmed (time_passed warmed 20)) ≡ 0 ∷ on ∷ 0 ∷ 20 ∷ []
 unfolding computing computing-record
 passed_20 = refl
 
-pub passed_3600 : number_power_left_lamp (given_by warmed (passed warmed 3600)) ≡ 0 ∷ on ∷ 0 ∷ 3600 ∷ []
+pub passed_3600 : number_power_left_lamp (given_by warmed (time_passed warmed 3600)) ≡ 0 ∷ on ∷ 0 ∷ 3600 ∷ []
 unfolding computing computing-record
 passed_3600 = refl

@@ -5,7 +5,7 @@ use Rattle.std.proofs.Common.{ℕ, ◌+◌, ◌≤◌, ◌≡◌, refl}
 use Rattle.record.specs.Given.{left_by, given_by}
 use Rattle.record.specs.declared.types.Device.{Device}
 use Rattle.clock.specs.Second.{second, times}
-use Rattle.clock.specs.Passing.{seconds_most, passed}
+use Rattle.clock.specs.Passing.{seconds_most, time_passed}
 use Rattle.clock.proofs.Repeated.{times-add}
 use Rattle.clock.proofs.Cases.{passed_by, passed_illegal, passed_accepted}
 use Rattle.clock.proofs.TimeLegal.{time_legal}
@@ -19,5 +19,6 @@ seconds_add a b d = times-add second a b d
 
 -- the whole result, as a host is told of it; of an illegal record it is the refusal all three times
 pub time_adds : (a b : ℕ) (d : Device) → a + b ≤ seconds_most
-    → given_by (left_by d (passed d a)) (passed (left_by d (passed d a)) b) ≡ given_by d (passed d (a + b))
+    → given_by (left_by d (time_passed d a)) (time_passed (left_by d (time_passed d a)) b)
+    ≡ given_by d (time_passed d (a + b))
 time_adds a b d within = grind (arith, passed_by, passed_illegal, passed_accepted, time_legal, seconds_add)

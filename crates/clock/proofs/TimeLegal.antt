@@ -21,13 +21,13 @@ use Rattle.record.specs.Views.{power_seen, is_burning, IsPowerOf}
 use Rattle.clock.proofs.PowerTurns.{second_within}
 use Rattle.record.proofs.ConnectionTold.{closed_legal, timed_age}
 use Rattle.record.specs.Facts.{IsOwn, IsConnection, IsLegal, Fills}
-use Rattle.record.specs.Updates.{aged}
+use Rattle.record.specs.Updates.{with_age}
 use Rattle.record.proofs.FactsTold.{connection_is, legal_is}
 use Rattle.std.proofs.lemmas.List.Elements.{All-map}
 use Rattle.clock.specs.Second.{times, changed_where, one_more, lamps_second}
 use Rattle.clock.specs.Second.{marks_in, own_second, connection_second, second}
 use Rattle.record.specs.Given.{left_by}
-use Rattle.clock.specs.Passing.{passed}
+use Rattle.clock.specs.Passing.{time_passed}
 use Rattle.clock.proofs.Repeated.{times_keeps}
 use Rattle.clock.proofs.ChangedWhere.{length-changed_where, where_at, where_unmarked}
 use Rattle.clock.proofs.Cases.{passed_by}
@@ -75,7 +75,7 @@ module _ (s : Settings) (o : Own) (t : IsOwn s o) where
 
 -- the connection
 older_kept : (c : Connection) → IsConnection c → is_timed c.phase ≡ true → c.age + 1 < age_end
-    → IsConnection (aged c (c.age + 1))
+    → IsConnection (with_age c (c.age + 1))
 older_kept c t e l = assumption (t, timed_age c.phase (c.age + 1) e l)
 
 pub connection_second_kept : (c : Connection) → IsConnection c → IsConnection (connection_second c)
@@ -98,9 +98,9 @@ pub time_legal : (n : ℕ) (d : Device) → is_legal d ≡ true → is_legal (ti
 time_legal n d h = (legal_is _).1 (times_keeps IsLegal second second_legal n d ((legal_is d).0 h))
 
 -- and the call keeps it legal, or not legal
-pub passed_legality : (d : Device) (n : ℕ) → is_legal (left_by d (passed d n)) ≡ is_legal d
+pub passed_legality : (d : Device) (n : ℕ) → is_legal (left_by d (time_passed d n)) ≡ is_legal d
 passed_legality d n =
     passed_by (λ r. is_legal r.device ≡ is_legal d) d n (λ h. refl) (λ h. time_legal n d h ∙ sym h)
 
-pub passed_legal : (d : Device) (n : ℕ) → is_legal d ≡ true → is_legal (left_by d (passed d n)) ≡ true
+pub passed_legal : (d : Device) (n : ℕ) → is_legal d ≡ true → is_legal (left_by d (time_passed d n)) ≡ true
 passed_legal d n h = passed_legality d n ∙ h

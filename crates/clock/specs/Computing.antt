@@ -2,8 +2,8 @@
 -- Assumes nothing.
 use Rattle.clock.specs.Second.{times, changed_where, one_more}
 use Rattle.clock.specs.Second.{own_second, connection_second, second}
-use Rattle.clock.specs.Passing.{passed}
+use Rattle.clock.specs.Passing.{time_passed}
 
 unfoldable pub computing : Unit {0}
-unfolding times changed_where one_more own_second connection_second second passed
+unfolding times changed_where one_more own_second connection_second second time_passed
 computing = tt

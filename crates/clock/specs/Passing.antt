@@ -1,6 +1,6 @@
 -- Passing time (RULES, Time and The numbers a call gives).
 --   seconds_most     the most seconds that one call lets pass
---   passed d n       the record n seconds later; refused where it is not legal
+--   time_passed d n  the record n seconds later; refused where it is not legal
 -- Assumes nothing.
 use Rattle.std.specs.Prelude.{ℕ, not, Result, Ok, Err, if◌then◌else◌}
 use Rattle.record.specs.Legal.{is_legal}
@@ -12,5 +12,5 @@ use Rattle.clock.specs.Second.{second, times}
 abbrev pub seconds_most : ℕ
 seconds_most = 4294967295
 
-unfoldable pub passed : Device → ℕ → Result Device Refusal
-passed d n = if not (is_legal d) then Err NotLegal else Ok (times second n d)
+unfoldable pub time_passed : Device → ℕ → Result Device Refusal
+time_passed d n = if not (is_legal d) then Err NotLegal else Ok (times second n d)

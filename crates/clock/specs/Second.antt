@@ -14,7 +14,7 @@ use Rattle.record.specs.Limits.{lamp_limit, age_end}
 use Rattle.record.specs.Views.{power_seen, with_power, is_burning}
 use Rattle.record.specs.declared.views.Power.{Power}
 use Rattle.record.specs.declared.views.Power.TheVariants.{Off, WarmUp, On, Cooling}
-use Rattle.record.specs.Updates.{with_seconds, aged}
+use Rattle.record.specs.Updates.{with_seconds, with_age}
 use Rattle.record.specs.Legal.{is_timed}
 use Rattle.record.specs.Record.{closed}
 use Rattle.record.specs.declared.types.Settings.{Settings}
@@ -53,7 +53,7 @@ own_second s o =
 
 unfoldable pub connection_second : Connection → Connection
 connection_second c =
-    if is_timed c.phase then (if nat_lt (c.age + 1) age_end then aged c (c.age + 1) else closed) else c
+    if is_timed c.phase then (if nat_lt (c.age + 1) age_end then with_age c (c.age + 1) else closed) else c
 
 unfoldable pub second : Device → Device
 second d = record {

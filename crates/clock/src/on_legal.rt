@@ -2,7 +2,7 @@
 // it legal calls this, as `floorlog` does; a host calls `pass`, which asks for nothing.
 ghost use Rattle.std.specs.Prelude.{◌≡◌, true, Ok};
 ghost use Rattle.record.specs.Legal.{is_legal};
-ghost use Rattle.clock.specs.Passing.{passed};
+ghost use Rattle.clock.specs.Passing.{time_passed};
 
 use crate::{connections, own};
 use record::types::Device;
@@ -11,7 +11,7 @@ use record::types::Device;
 #[tactic(auto, using(crate::proofs::InOneGo::parts_pass, crate::proofs::Cases::passed_accepted))]
 pub fn pass(device: &mut Device, seconds: u32)
     requires { is_legal device.old ≡ true }
-    ensures { Ok device.new ≡ passed device.old seconds }
+    ensures { Ok device.new ≡ time_passed device.old seconds }
 {
     own::pass(&device.settings, &mut device.own, seconds);
     connections::age(&mut device.connections, seconds);

@@ -13,7 +13,8 @@ use Rattle.words.specs.declared.input.Input.{Input}
 use Rattle.pjlink.specs.declared.command.Half.{Half}
 use Rattle.pjlink.specs.declared.command.Command.{Command}
 use Rattle.codes.specs.Commands.{CodedBy, alone, switch, of_input, of_half, CodeRow, code_rows, switch_at, source_at}
-use Rattle.codes.specs.Commands.{input_at, half_at, stands_for, coded_by, coded_command, coded, used_by, used_of, bit}
+use Rattle.codes.specs.Commands.{input_at, half_at, stands_for, coded_by, coded_command, code_with, used_by, used_of}
+use Rattle.codes.specs.Commands.{bit}
 use Rattle.codes.specs.Commands.{source_number, half_number, input_code, code_of}
 use Rattle.codes.specs.declared.command.Coded.{Coded}
 use Rattle.codes.proofs.CommandsCoded.{code_back}
@@ -43,18 +44,18 @@ half_there n = grind arith
 
 module _ (k type number : ℕ) where
   abbrev InputIs : Option Input → Type 0
-  InputIs o = IfSome o (λ i. (is_input i ≡ true) × (input_code k i ≡ coded k type number))
+  InputIs o = IfSome o (λ i. (is_input i ≡ true) × (input_code k i ≡ code_with k type number))
 
   input_there : InputIs (input_at type number)
   unfolding input_at coded_command half_at source_at switch_at used_of
   input_there = grind (arith, source_there)
 
 abbrev Right : ℕ → CodedBy → Type 0
-Right n (alone c) = (is_command c ≡ true) × (code_of c ≡ coded n 0 0)
-Right n (switch f) = (on : Bool) → (is_command (f on) ≡ true) × (code_of (f on) ≡ coded n (bit on) 0)
+Right n (alone c) = (is_command c ≡ true) × (code_of c ≡ code_with n 0 0)
+Right n (switch f) = (on : Bool) → (is_command (f on) ≡ true) × (code_of (f on) ≡ code_with n (bit on) 0)
 Right n (of_input f) = (i : Input) → (is_command (f i) ≡ is_input i) × (code_of (f i) ≡ input_code n i)
 Right n (of_half f) =
-    (h : Half) (on : Bool) → (is_command (f h on) ≡ true) × (code_of (f h on) ≡ coded n (half_number h) (bit on))
+    (h : Half) (on : Bool) → (is_command (f h on) ≡ true) × (code_of (f h on) ≡ code_with n (half_number h) (bit on))
 
 abbrev AllRight : List CodeRow → Type 0
 AllRight [] = Unit {0}
@@ -71,23 +72,23 @@ Stands u m = IfSome m (λ c. (is_command c ≡ true) × (code_of c ≡ u))
 
 module _ (n first second : ℕ) where
   switch_stands : (f : Bool → Command) → Right n (switch f) → (o : Option Bool) → SwitchIs first o
-      → Stands (coded n first 0) (option_map f o)
+      → Stands (code_with n first 0) (option_map f o)
   switch_stands f h o g = grind arith
 
   input_stands : (f : Input → Command) → Right n (of_input f) → (o : Option Input) → InputIs n first second o
-      → Stands (coded n first second) (option_map f o)
+      → Stands (code_with n first second) (option_map f o)
   input_stands f h o g = grind arith
 
   module _ (f : Half → Bool → Command) (right : Right n (of_half f)) where
     mute_stands : (h : Half) → half_number h ≡ first → (o : Option Bool) → SwitchIs second o
-        → Stands (coded n first second) (option_map (f h) o)
+        → Stands (code_with n first second) (option_map (f h) o)
     mute_stands h g o e = grind arith
 
     half_stands : (o : Option Half) → HalfIs first o
-        → Stands (coded n first second) (option_and_then (λ h. option_map (f h) (switch_at second)) o)
+        → Stands (code_with n first second) (option_and_then (λ h. option_map (f h) (switch_at second)) o)
     half_stands o h = grind (arith, mute_stands, switch_there)
 
-  row_stands : (b : CodedBy) → Right n b → Stands (used_by b (coded n first second)) (stands_for b first second)
+  row_stands : (b : CodedBy) → Right n b → Stands (used_by b (code_with n first second)) (stands_for b first second)
   row_stands b h = grind (arith, switch_stands, switch_there, input_stands, input_there, half_stands, half_there)
 
 -- what stands in a row is right
@@ -100,7 +101,7 @@ unfolding coded_command used_of
 command_stands k = by (coded_by k.code code_rows) (right_row k.code code_rows codes_right)
   where
     by : (o : Option CodedBy) → IfSome o (Right k.code)
-        → Stands (option_map_or (λ b. used_by b k) o (coded k.code 0 0))
+        → Stands (option_map_or (λ b. used_by b k) o (code_with k.code 0 0))
         (option_and_then (λ b. stands_for b k.first k.second) o)
     by (Some b) right = row_stands k.code k.first k.second b right
     by None right = tt

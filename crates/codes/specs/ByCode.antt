@@ -8,7 +8,7 @@ use Rattle.std.specs.Prelude.{ℕ, Bool, List, if◌then◌else◌, Option, Some
 use Rattle.pjlink.specs.declared.command.Command.{Command}
 use Rattle.controller.specs.Writing.{WrittenAs, nothing_written, command_room, written_command}
 use Rattle.controller.specs.Reading.{read_reply}
-use Rattle.codes.specs.Readings.{meaningless, flat}
+use Rattle.codes.specs.Readings.{no_reading, flat_reading}
 use Rattle.codes.specs.declared.readings.FlatReading.{FlatReading}
 
 abbrev pub none_written : ℕ → WrittenAs
@@ -19,5 +19,5 @@ written_by (Some c) secured random password room = written_command c secured ran
 written_by None secured random password room = none_written room
 
 abbrev pub read_by : Option Command → List ℕ → FlatReading
-read_by (Some c) l = flat (read_reply c l)
-read_by None l = meaningless 3
+read_by (Some c) l = flat_reading (read_reply c l)
+read_by None l = no_reading 3

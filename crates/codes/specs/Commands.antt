@@ -100,16 +100,16 @@ coded_by n (r ∷ rs) = if n == r.code then Some r.by else coded_by n rs
 unfoldable pub coded_command : Coded → Option Command
 coded_command k = option_and_then (λ b. stands_for b k.first k.second) (coded_by k.code code_rows)
 
-abbrev pub coded : ℕ → ℕ → ℕ → Coded
-coded code first second = record { code = code; first = first; second = second }
+abbrev pub code_with : ℕ → ℕ → ℕ → Coded
+code_with code first second = record { code = code; first = first; second = second }
 
 abbrev pub used_by : CodedBy → Coded → Coded
-used_by (alone c) k = coded k.code 0 0
-used_by (switch f) k = coded k.code k.first 0
+used_by (alone c) k = code_with k.code 0 0
+used_by (switch f) k = code_with k.code k.first 0
 used_by b k = k
 
 unfoldable pub used_of : Coded → Coded
-used_of k = option_map_or (λ b. used_by b k) (coded_by k.code code_rows) (coded k.code 0 0)
+used_of k = option_map_or (λ b. used_by b k) (coded_by k.code code_rows) (code_with k.code 0 0)
 
 abbrev pub bit : Bool → ℕ
 bit true = 1
@@ -151,15 +151,15 @@ query_code Inpt2 = 21
 query_code Inst2 = 23
 
 abbrev pub input_code : ℕ → Input → Coded
-input_code n i = coded n (source_number i.source) i.number
+input_code n i = code_with n (source_number i.source) i.number
 
 abbrev pub code_of : Command → Coded
-code_of (Query b) = coded (query_code b) 0 0
-code_of (PowerSet on) = coded 1 (bit on) 0
+code_of (Query b) = code_with (query_code b) 0 0
+code_of (PowerSet on) = code_with 1 (bit on) 0
 code_of (InputSet i) = input_code 3 i
-code_of (MuteSet half on) = coded 5 (half_number half) (bit on)
-code_of (FreezeSet on) = coded 15 (bit on) 0
-code_of (VolumeStep Speaker up) = coded 16 (bit up) 0
-code_of (VolumeStep Microphone up) = coded 17 (bit up) 0
+code_of (MuteSet half on) = code_with 5 (half_number half) (bit on)
+code_of (FreezeSet on) = code_with 15 (bit on) 0
+code_of (VolumeStep Speaker up) = code_with 16 (bit up) 0
+code_of (VolumeStep Microphone up) = code_with 17 (bit up) 0
 code_of (NameQuery i) = input_code 20 i
 code_of (InputSet2 i) = input_code 22 i

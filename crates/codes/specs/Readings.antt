@@ -1,7 +1,7 @@
 -- What the readers give as numbers (include/ceiling.h). What a kind does not use is zero.
 --   flat_greeting g    a greeting: kind 1 PJLINK 0, 2 PJLINK 1 with its random number, 3 ERRA
 --   said_flat m        what is said: kinds 1 to 10, and 12 a freeze (RULES, Class 2)
---   flat r             what the reply reader gives: kind 11 is ERRA, kind 0 no meaning
+--   flat_reading r     what the reply reader gives: kind 11 is ERRA, kind 0 no meaning
 -- Assumes nothing.
 use Rattle.std.specs.Prelude.{ℕ, Bool, false, List, [], map, length, replicate, Option, None, Some}
 use Rattle.std.proofs.lemmas.List.Edits.{sets}
@@ -66,11 +66,11 @@ flat_of number kind first second count hours lit inputs text = record {
   text = text;
 }
 
-abbrev pub meaningless : ℕ → FlatReading
-meaningless n = flat_of n 0 0 0 0 no_hours none_lit no_characters no_bytes
+abbrev pub no_reading : ℕ → FlatReading
+no_reading n = flat_of n 0 0 0 0 no_hours none_lit no_characters no_bytes
 
-abbrev pub plain : (kind first second : ℕ) → FlatReading
-plain kind first second = flat_of 0 kind first second 0 no_hours none_lit no_characters no_bytes
+abbrev pub plain_reading : (kind first second : ℕ) → FlatReading
+plain_reading kind first second = flat_of 0 kind first second 0 no_hours none_lit no_characters no_bytes
 
 abbrev pub with_text : ℕ → List ℕ → FlatReading
 with_text kind s = flat_of 0 kind 0 0 (length s) no_hours none_lit no_characters (filled_to parameter_most 0 s)
@@ -108,23 +108,23 @@ power_at_face Cooling = 2
 power_at_face WarmUp = 3
 
 abbrev pub said_flat : Said → FlatReading
-said_flat okay = plain 1 0 0
-said_flat (refused n) = plain 2 n 0
-said_flat (power_is p) = plain 3 (power_at_face p) 0
-said_flat (chosen_is i) = plain 4 (source_number i.source) i.number
-said_flat (mutes_are video audio) = plain 5 (bit video) (bit audio)
+said_flat okay = plain_reading 1 0 0
+said_flat (refused n) = plain_reading 2 n 0
+said_flat (power_is p) = plain_reading 3 (power_at_face p) 0
+said_flat (chosen_is i) = plain_reading 4 (source_number i.source) i.number
+said_flat (mutes_are video audio) = plain_reading 5 (bit video) (bit audio)
 said_flat (errors_are ds) = with_text 6 ds
 said_flat (lamps_are ls) = with_lamps ls
 said_flat (inputs_are is) = with_inputs is
 said_flat (text_is s) = with_text 9 s
-said_flat (class_is k) = plain 10 (class_as_number k) 0
-said_flat (freeze_is on) = plain 12 (bit on) 0
-said_flat nothing = meaningless (reading_outcome_number disallowed)
+said_flat (class_is k) = plain_reading 10 (class_as_number k) 0
+said_flat (freeze_is on) = plain_reading 12 (bit on) 0
+said_flat nothing = no_reading (reading_outcome_number disallowed)
 
 abbrev pub flat_as : Outcome → Said → FlatReading
 flat_as means_it m = said_flat m
-flat_as erra_said m = plain 11 0 0
-flat_as o m = meaningless (reading_outcome_number o)
+flat_as erra_said m = plain_reading 11 0 0
+flat_as o m = no_reading (reading_outcome_number o)
 
-abbrev pub flat : ReadAs → FlatReading
-flat r = flat_as r.outcome r.said
+abbrev pub flat_reading : ReadAs → FlatReading
+flat_reading r = flat_as r.outcome r.said

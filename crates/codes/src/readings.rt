@@ -5,7 +5,8 @@ ghost use Rattle.pjlink.specs.Said.{said_bytes, parameter_most};
 ghost use Rattle.pjlink.specs.Carried.{answer_said};
 ghost use Rattle.controller.specs.Reading.{read_as};
 ghost use Rattle.codes.specs.Commands.{bit, source_number};
-ghost use Rattle.codes.specs.Readings.{flat_greeting, meaningless, plain, power_at_face, said_flat, flat};
+ghost use Rattle.codes.specs.Readings.{flat_greeting, no_reading, plain_reading, power_at_face, said_flat};
+ghost use Rattle.codes.specs.Readings.{flat_reading};
 
 use controller::greeting::Greeting;
 use controller::reading::{Misread, Reading};
@@ -97,7 +98,7 @@ impl FlatGreeting {
 impl FlatReading {
     /// A line without a meaning, for the reason that the number says.
     pub fn meaningless(number: u32) -> FlatReading
-        ensures { result ≡ meaningless number }
+        ensures { result ≡ no_reading number }
     {
         FlatReading {
             number,
@@ -114,7 +115,7 @@ impl FlatReading {
 
     /// A kind and its two values.
     pub(crate) fn plain(kind: u8, first: u8, second: u8) -> FlatReading
-        ensures { result ≡ plain kind first second }
+        ensures { result ≡ plain_reading kind first second }
     {
         let mut flat = FlatReading::meaningless(0);
         flat.kind = kind;
@@ -146,7 +147,7 @@ impl FlatReading {
     /// meaning.
     pub fn of(reading: &Result<Reading<'_>, Misread>) -> FlatReading
         requires { length (said_bytes (read_as reading.now).said) ≤ parameter_most }
-        ensures { result ≡ flat (read_as reading.now) }
+        ensures { result ≡ flat_reading (read_as reading.now) }
     {
         match reading {
             Ok(Reading::Means(Ok(answer))) => FlatReading::said(answer),

@@ -14,7 +14,7 @@ use Rattle.pjlink.specs.declared.command.Command.{Command}
 use Rattle.pjlink.specs.Bodies.{is_body}
 use Rattle.pjlink.specs.Reading.{read_parameter}
 use Rattle.controller.specs.Writing.{WrittenAs, nothing_written, command_room, is_writable, led_by, written_command}
-use Rattle.controller.specs.Reading.{ReadAs, without, saying, read_reply, erra_said, not_a_line, other_command}
+use Rattle.controller.specs.Reading.{ReadAs, outcome_alone, saying, read_reply, erra_said, not_a_line, other_command}
 use Rattle.controller.specs.Greetings.{greets, random_in, read_greeting}
 use Rattle.controller.specs.declared.greeting.Greeting.{Greeting}
 use Rattle.controller.specs.declared.greeting.Greeting.TheVariants.{Open, Secured, Refused}
@@ -53,10 +53,10 @@ module _ (c : Command) (secured : Bool) (random : ℕ) (password : List ℕ) (ro
 -- reading a reply: the ERRA line, the form, the body, the parameter
 module _ (c : Command) (l : List ℕ) where
   pub reply_by : (P : ReadAs → Type 0)
-      → (same_by itself l erra_line ≡ true → P (without erra_said))
-      → (same_by itself l erra_line ≡ false → is_reply_form (command_class c) l ≡ false → P (without not_a_line))
+      → (same_by itself l erra_line ≡ true → P (outcome_alone erra_said))
+      → (same_by itself l erra_line ≡ false → is_reply_form (command_class c) l ≡ false → P (outcome_alone not_a_line))
       → (is_reply_form (command_class c) l ≡ true → is_body (command_class c) (head_body l) (body_of c) ≡ false
-      → P (without other_command))
+      → P (outcome_alone other_command))
       → (is_reply_form (command_class c) l ≡ true → is_body (command_class c) (head_body l) (body_of c) ≡ true
       → P (saying (read_parameter c (reply_parameter l))))
       → P (read_reply c l)
@@ -70,18 +70,18 @@ module _ (c : Command) (l : List ℕ) where
       let formed = not-false (is_reply_form (command_class c) l) f in
       if_by P (not named) (λ b. other formed (not-true named b)) (λ b. said formed (not-false named b))))
 
-  pub reply_erra : same_by itself l erra_line ≡ true → read_reply c l ≡ without erra_said
+  pub reply_erra : same_by itself l erra_line ≡ true → read_reply c l ≡ outcome_alone erra_said
   unfolding read_reply
   reply_erra e = if_yes _ _ e
 
   module _ (line : same_by itself l erra_line ≡ false) where
-    pub reply_unformed : is_reply_form (command_class c) l ≡ false → read_reply c l ≡ without not_a_line
+    pub reply_unformed : is_reply_form (command_class c) l ≡ false → read_reply c l ≡ outcome_alone not_a_line
     unfolding read_reply
     reply_unformed f = if_no _ _ line ∙ if_yes _ _ (ap not f)
 
     module _ (formed : is_reply_form (command_class c) l ≡ true) where
       pub reply_other : is_body (command_class c) (head_body l) (body_of c) ≡ false →
-          read_reply c l ≡ without other_command
+          read_reply c l ≡ outcome_alone other_command
       unfolding read_reply
       reply_other b = if_no _ _ line ∙ if_no _ _ (ap not formed) ∙ if_yes _ _ (ap not b)
 

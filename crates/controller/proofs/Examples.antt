@@ -9,7 +9,7 @@ use Rattle.pjlink.specs.Said.{okay, power_is}
 use Rattle.words.specs.declared.power.Power.TheVariants.{WarmUp}
 use Rattle.digest.specs.Computing.{computing as digest}
 use Rattle.controller.specs.Writing.{nothing_written, written_command}
-use Rattle.controller.specs.Reading.{meaning, without, read_reply}
+use Rattle.controller.specs.Reading.{meaning, outcome_alone, read_reply}
 use Rattle.controller.specs.Greetings.{read_greeting}
 use Rattle.controller.specs.Computing.{computing}
 use Rattle.controller.specs.Reading.{not_a_line, other_command, disallowed}
@@ -31,15 +31,15 @@ warm_up : read_reply (Query Powr) (codes "%1POWR=3\r") ≡ meaning (power_is War
 unfolding computing pjlink digest
 warm_up = refl
 
-err2_is_no_text : read_reply (Query Name) (codes "%1NAME=ERR2\r") ≡ without disallowed
+err2_is_no_text : read_reply (Query Name) (codes "%1NAME=ERR2\r") ≡ outcome_alone disallowed
 unfolding computing pjlink digest
 err2_is_no_text = refl
 
-another_body : read_reply (Query Powr) (codes "%1INPT=11\r") ≡ without other_command
+another_body : read_reply (Query Powr) (codes "%1INPT=11\r") ≡ outcome_alone other_command
 unfolding computing pjlink digest
 another_body = refl
 
-without_cr : read_reply (Query Powr) (codes "%1POWR=3") ≡ without not_a_line
+without_cr : read_reply (Query Powr) (codes "%1POWR=3") ≡ outcome_alone not_a_line
 unfolding computing pjlink digest
 without_cr = refl
 

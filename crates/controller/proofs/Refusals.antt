@@ -7,7 +7,7 @@ use Rattle.pjlink.specs.Forms.{erra_line}
 use Rattle.pjlink.specs.declared.command.Command.{Command}
 use Rattle.pjlink.specs.Said.{Said, nothing}
 use Rattle.controller.specs.Writing.{command_room, is_writable, written_command}
-use Rattle.controller.specs.Reading.{reading_outcome_number, without, saying, read_reply, means_it, erra_said}
+use Rattle.controller.specs.Reading.{reading_outcome_number, outcome_alone, saying, read_reply, means_it, erra_said}
 use Rattle.controller.proofs.Cases.{written_by, reply_by, reply_erra}
 
 module _ (c : Command) (secured : Bool) (random : ℕ) (password : List ℕ) (room : ℕ) where
@@ -37,5 +37,5 @@ module _ (c : Command) where
   number_means_nothing l n = refusal_means_nothing l (λ e. n (ap reading_outcome_number e))
 
   -- the ERRA line is read as such, whatever was asked
-  pub erra_read : read_reply c erra_line ≡ without erra_said
+  pub erra_read : read_reply c erra_line ≡ outcome_alone erra_said
   erra_read = reply_erra c erra_line refl

@@ -49,8 +49,8 @@ reading_outcome_number disallowed = 12
 abbrev pub meaning : Said → ReadAs
 meaning m = record { outcome = means_it; said = m }
 
-abbrev pub without : Outcome → ReadAs
-without o = record { outcome = o; said = nothing }
+abbrev pub outcome_alone : Outcome → ReadAs
+outcome_alone o = record { outcome = o; said = nothing }
 
 abbrev pub outcome_said : Said → Outcome
 outcome_said nothing = disallowed
@@ -61,9 +61,9 @@ saying m = record { outcome = outcome_said m; said = m }
 
 unfoldable pub read_reply : Command → List ℕ → ReadAs
 read_reply c l =
-    if same_by itself l erra_line then without erra_said
-    else if not (is_reply_form (command_class c) l) then without not_a_line
-    else if not (is_body (command_class c) (head_body l) (body_of c)) then without other_command
+    if same_by itself l erra_line then outcome_alone erra_said
+    else if not (is_reply_form (command_class c) l) then outcome_alone not_a_line
+    else if not (is_body (command_class c) (head_body l) (body_of c)) then outcome_alone other_command
     else saying (read_parameter c (reply_parameter l))
 
 abbrev pub outcome_of : Misread → Outcome
@@ -73,8 +73,8 @@ outcome_of misread.NotAllowed = disallowed
 
 abbrev pub read_as : Result Reading Misread → ReadAs
 read_as (Ok (read.Means r)) = meaning (said_by r)
-read_as (Ok read.Erra) = without erra_said
-read_as (Err m) = without (outcome_of m)
+read_as (Ok read.Erra) = outcome_alone erra_said
+read_as (Err m) = outcome_alone (outcome_of m)
 
 -- whoever reads it
 pub record LineSays (c : Command) (l : List ℕ) (m : Said) : Type 0 where

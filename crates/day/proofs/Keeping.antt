@@ -8,17 +8,17 @@ use Rattle.std.proofs.Math.Seq.{get_or-append_seam}
 use Rattle.std.proofs.lemmas.List.Elements.{All-push, All-contains, Contains-push}
 use Rattle.std.proofs.lemmas.List.Quantifiers.{all_pairs_push}
 use Rattle.std.proofs.lemmas.List.Sums.{sum_by-append}
-use Rattle.day.specs.Rules.{HasRig, InTime, AreApart, burns_on, burnt, Lasts, Keeps}
+use Rattle.day.specs.Rules.{HasRig, InTime, AreApart, burns_on, burnt_together, Lasts, Keeps}
 use Rattle.day.specs.declared.Rig.{Rig}
 use Rattle.day.specs.declared.Placement.{Placement}
 
 -- one job more burns what it burns
 pub burnt_push : (k : ℕ) (r : Rig) (ps : List Placement) (p : Placement)
-    → burnt k r (ps ++ p ∷ []) ≡ burnt k r ps + burns_on k r p
+    → burnt_together k r (ps ++ p ∷ []) ≡ burnt_together k r ps + burns_on k r p
 burnt_push k r ps p = grind (arith, sum_by-append)
 
 pub burnt_here : (r : Rig) (ps : List Placement) (p : Placement)
-    → burnt p.rig r (ps ++ p ∷ []) ≡ burnt p.rig r ps + (r.warm_up + p.job.length)
+    → burnt_together p.rig r (ps ++ p ∷ []) ≡ burnt_together p.rig r ps + (r.warm_up + p.job.length)
 burnt_here r ps p = grind (arith, burnt_push)
 
 module _ (rigs : List Rig) (ps : List Placement) (p : Placement) where

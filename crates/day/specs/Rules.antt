@@ -8,7 +8,7 @@
 --   Share rigs p q        the two placements are on one rig, and meet there
 --   AreApart rigs p q     they do not
 --   burns_on k r p        what a placement burns on the rig r of number k: W plus its length, where it is there
---   burnt k r ps          what the placements burn there together
+--   burnt_together k r ps  what the placements burn there together
 --   Lasts rigs ps k       rig k burns no more than it has left
 --   Keeps rigs ps         all four rules
 -- Assumes nothing.
@@ -46,11 +46,11 @@ AreApart rigs p q = ¬ Share rigs p q
 abbrev pub burns_on : ℕ → Rig → Placement → ℕ
 burns_on k r p = if p.rig == k then r.warm_up + p.job.length else 0
 
-abbrev pub burnt : ℕ → Rig → List Placement → ℕ
-burnt k r ps = sum_by (burns_on k r) ps
+abbrev pub burnt_together : ℕ → Rig → List Placement → ℕ
+burnt_together k r ps = sum_by (burns_on k r) ps
 
 abbrev pub Lasts : List Rig → List Placement → ℕ → Type 0
-Lasts rigs ps k = (r : Rig) → slice_get rigs k ≡ Some r → burnt k r ps ≤ r.life
+Lasts rigs ps k = (r : Rig) → slice_get rigs k ≡ Some r → burnt_together k r ps ≤ r.life
 
 pub record Keeps (rigs : List Rig) (ps : List Placement) : Type 0 where
   pub rigged : All (HasRig rigs) ps

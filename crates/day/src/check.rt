@@ -1,7 +1,7 @@
 // The checker: the first rule broken, and the lowest job or rig concerned.
 ghost use Rattle.std.specs.Prelude.{◌≡◌, ◌↔◌, ◌*◌, ◌<◌, ◌≤◌, ◌^◌, ℕ, length, IsTrue, All, AllPairs, MatchOption};
 ghost use Rattle.day.specs.Days.{IsJob};
-ghost use Rattle.day.specs.Rules.{HasRig, InTime, AreApart, Lasts, burnt};
+ghost use Rattle.day.specs.Rules.{HasRig, InTime, AreApart, Lasts, burnt_together};
 ghost use Rattle.day.specs.Verdicts.{InRange, IsLowestBreaking, IsAloneAt, IsLowestPartner, IsLowestClash};
 ghost use Rattle.day.specs.Verdicts.{IsLowestSpent};
 ghost use Rattle.day.specs.Verdicts.{VerdictHolds};
@@ -83,7 +83,7 @@ fn clash(plan: &[Placement], rigs: &[Rig]) -> Option<(usize, usize)>
 // What the jobs burn on the rig of this number together: at most 64, each less than 2^33.
 pub(crate) fn burnt_on(plan: &[Placement], number: usize, rig: Rig) -> u64
     requires { length plan.now ≤ JOBS_MOST }
-    ensures sum { result ≡ burnt number rig plan.now }
+    ensures sum { result ≡ burnt_together number rig plan.now }
     ensures fits { result ≤ 2 ^ 33 * JOBS_MOST }
 {
     let mut total: u64 = 0;

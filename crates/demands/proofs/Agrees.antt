@@ -37,8 +37,9 @@ use Rattle.clock.proofs.PowerByTime.{power_in_a_second, left_in_a_second}
 use Rattle.clock.proofs.Untouched.{own_else_stays}
 use Rattle.stream.specs.Collecting.{line_text}
 use Rattle.stream.proofs.LastBytes.{Ends, ends_unheld}
-use Rattle.demands.specs.History.{Streams, a_second, Stage, steady, towards, next, stage_is_burning, burns, lamp_with}
-use Rattle.demands.specs.History.{Event, switched, mark_switched, marks_next, marks_after, reached, burning_from}
+use Rattle.demands.specs.History.{Streams, a_second, Stage, steady, towards, next_stage, stage_is_burning, burnt_in}
+use Rattle.demands.specs.History.{lamp_with}
+use Rattle.demands.specs.History.{Event, switched, mark_switched, marks_next, marks_after, stage_from, burning_from}
 use Rattle.clock.proofs.TimeAdds.{no_seconds, seconds_add}
 use Rattle.clock.proofs.TimeLegal.{time_legal}
 
@@ -79,11 +80,11 @@ lit_shown g = grind arith
 
 -- ---- one second
 
-power_second-seen_in : (w : Wanted) (g : Stage) → power_second (seen_in g) ≡ seen_in (next w g a_second)
+power_second-seen_in : (w : Wanted) (g : Stage) → power_second (seen_in g) ≡ seen_in (next_stage w g a_second)
 power_second-seen_in w g = grind arith
 
 power_second_lem : (w : Wanted) (s : Settings) (o : Own) (g : Stage) → o.power ≡ power_of g → o.left ≡ left_of g
-    → Shows (next w g a_second) (times (own_second s) 1 o)
+    → Shows (next_stage w g a_second) (times (own_second s) 1 o)
 power_second_lem w s o g p l = grind (arith, seen_again, power_second-seen_in, power_in_a_second, left_in_a_second)
 
 lamp_second : (g : Stage) (mark : Bool) (n x : ℕ)
@@ -93,11 +94,12 @@ lamp_second g mark n x = grind arith
 
 module _ {w : Wanted} {g : Stage} {ms : List Bool} {n : ℕ → ℕ} {stream : Streams} {d : Device}
     (a : Agrees w g ms n stream d) (legal : is_legal d ≡ true) where
-  abbrev shown : Shows (next w g a_second) (times (own_second d.settings) 1 d.own)
+  abbrev shown : Shows (next_stage w g a_second) (times (own_second d.settings) 1 d.own)
   shown =
       power_second_lem w d.settings d.own g a.power a.left
 
-  pub agrees_second : Agrees w (next w g a_second) ms (λ k. n k + burns g ms k a_second) stream (times second 1 d)
+  pub agrees_second : Agrees w (next_stage w g a_second) ms (λ k. n k + burnt_in g ms k a_second) stream
+      (times second 1 d)
   agrees_second = record {
     settings = ap (λ (x : Device). x.settings) (parts_pass 1 d) ∙ a.settings;
     power = ap (λ (x : Device). x.own.power) (parts_pass 1 d) ∙ shown.power;
@@ -135,10 +137,10 @@ module _ {w : Wanted} {g : Stage} {ms : List Bool} {n : ℕ → ℕ} {stream : S
       → Agrees w g (set ms lamp mark) n stream (with_own d (with_marks d.own (set d.own.enabled lamp mark)))
   remarked lamp mark there room = grind (arith, length-set, eqb-true, get_or-set_same, eqb-false, get_or-set_other)
 
-pub reached-append : (w : Wanted) (g : Stage) (es fs : List Event)
-    → reached w g (es ++ fs) ≡ reached w (reached w g es) fs
-reached-append w g [] fs = refl
-reached-append w g (e ∷ es) fs = reached-append w (next w g e) es fs
+pub stage_from-append : (w : Wanted) (g : Stage) (es fs : List Event)
+    → stage_from w g (es ++ fs) ≡ stage_from w (stage_from w g es) fs
+stage_from-append w g [] fs = refl
+stage_from-append w g (e ∷ es) fs = stage_from-append w (next_stage w g e) es fs
 
 pub marks_after-append : (ms : List Bool) (es fs : List Event) →
     marks_after ms (es ++ fs) ≡ marks_after (marks_after ms es) fs
@@ -147,26 +149,27 @@ marks_after-append ms (e ∷ es) fs = marks_after-append (marks_next ms e) es fs
 
 pub burning_from-append : (w : Wanted) (g : Stage) (ms : List Bool) (k : ℕ) (es fs : List Event)
     → burning_from w g ms k (es ++ fs)
-    ≡ burning_from w g ms k es + burning_from w (reached w g es) (marks_after ms es) k fs
+    ≡ burning_from w g ms k es + burning_from w (stage_from w g es) (marks_after ms es) k fs
 burning_from-append w g ms k [] fs = rw zero-add
-burning_from-append w g ms k (e ∷ es) fs = grind (arith, burning_from-append w (next w g e) (marks_next ms e) k es fs)
+burning_from-append w g ms k (e ∷ es) fs =
+    grind (arith, burning_from-append w (next_stage w g e) (marks_next ms e) k es fs)
 
 abbrev pub Then : Wanted → Stage → List Bool → (ℕ → ℕ) → List Event → Streams → Device → Type 0
 Then w g ms n es stream d =
-    Agrees w (reached w g es) (marks_after ms es) (λ k. n k + burning_from w g ms k es) stream d
+    Agrees w (stage_from w g es) (marks_after ms es) (λ k. n k + burning_from w g ms k es) stream d
 
 module _ {w : Wanted} {ms : List Bool} {n : ℕ → ℕ} {stream : Streams} {d : Device} where
   pub agrees_none : {g : Stage} → Agrees w g ms n stream d → Then w g ms n [] stream d
   agrees_none a = recounted a (λ k. sym (add-zero (n k)))
 
   -- a power set is no second
-  pub agrees_switched : (wanted : Bool) (g : Stage) → Agrees w (next w g (switched wanted)) ms n stream d
+  pub agrees_switched : (wanted : Bool) (g : Stage) → Agrees w (next_stage w g (switched wanted)) ms n stream d
       → Then w g ms n (switched wanted ∷ []) stream d
   agrees_switched wanted g a = recounted a (λ k. sym (add-zero (n k)))
 
 -- nor is a mark
 pub agrees_marked : {w : Wanted} (ms : List Bool) {n : ℕ → ℕ} {stream : Streams} {d : Device} (lamp : ℕ) (mark : Bool)
-    (g : Stage) → next w g (mark_switched lamp mark) ≡ g
+    (g : Stage) → next_stage w g (mark_switched lamp mark) ≡ g
     → Agrees w g (set ms lamp mark) n stream d → Then w g ms n (mark_switched lamp mark ∷ []) stream d
 agrees_marked ms {n} lamp mark g still a = rw still (recounted a (λ k. sym (add-zero (n k))))
 
@@ -180,4 +183,5 @@ agrees_seconds (suc k) {w} {g} {ms} {n} {stream} {d} legal a =
     = ap (λ (m : ℕ). times second m d) (sym one) ∙ seconds_add 1 k d in
     rw first
     (recounted (agrees_seconds k (time_legal 1 d legal) (agrees_second a legal))
-    (λ j. add_assoc (n j) (burns g ms j a_second) (burning_from w (next w g a_second) ms j (replicate k a_second))))
+    (λ j. add_assoc (n j) (burnt_in g ms j a_second)
+    (burning_from w (next_stage w g a_second) ms j (replicate k a_second))))

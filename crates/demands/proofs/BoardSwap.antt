@@ -5,7 +5,7 @@ use Rattle.std.proofs.Common.{length, slice_index_or, get_or-take, length-take-l
 use Rattle.words.specs.Bytes.{◌at◌}
 use Rattle.record.specs.Wanted.{Wanted}
 use Rattle.record.specs.Legal.{is_legal}
-use Rattle.record.specs.Given.{Given, accepted}
+use Rattle.record.specs.Given.{Given, acceptance_of}
 use Rattle.record.specs.declared.types.Settings.{Settings}
 use Rattle.record.specs.declared.types.Device.{Device}
 use Rattle.record.proofs.LegalTold.{own_of_legal}
@@ -13,15 +13,15 @@ use Rattle.record.proofs.MarksTold.{marks_long}
 use Rattle.record.proofs.Started.{started_parts}
 use Rattle.stored.specs.Form.{form_version, marked_form_of, stored_of, marks_stored, stored_form, stored_by}
 use Rattle.stored.proofs.Results.{stored_told, accepted_set_up, older_is_class_1}
-use Rattle.stored.specs.Loading.{started_with, loaded}
+use Rattle.stored.specs.Loading.{started_with, loaded_from}
 use Rattle.stored.proofs.FormsLoad.{stored_in_range, stored_loads as form-again, marked_form_loads, marked_form_marks}
 use Rattle.stored.proofs.FormsLoad.{old_form_loads}
 use Rattle.stored.proofs.Fields.{bytes_all}
 use Rattle.stored.proofs.OneForm.{stored_again, forms_apart}
 use Rattle.ours.specs.Board.{ours, bytes_written}
 use Rattle.demands.specs.Calls.{Call, run}
-use Rattle.demands.specs.History.{Event, Stage, steady, next, marks_next}
-use Rattle.demands.specs.History.{no_streams, history, marks_after, burning_from, burning, stage_after}
+use Rattle.demands.specs.History.{Event, Stage, steady, next_stage, marks_next}
+use Rattle.demands.specs.History.{no_streams, history, marks_after, burning_from, burning_seconds, stage_after}
 use Rattle.demands.specs.History.{lamp_with}
 use Rattle.demands.specs.CountsSeconds.{Beginning, loads, IsClass1, start_marks, IsAccepted, run_of, history_of}
 use Rattle.demands.specs.BoardSwap.{LoadsAs, BoardSwap}
@@ -38,13 +38,13 @@ module _ (v w : Wanted) (warm : v.warm ≡ w.warm) (cool : v.cool ≡ w.cool) wh
   burning_alike : (g : Stage) (ms : List Bool) (k : ℕ) (es : List Event) → burning_from v g ms k es
       ≡ burning_from w g ms k es
   burning_alike g ms k [] = refl
-  burning_alike g ms k (e ∷ es) = grind (arith, burning_alike (next w g e) (marks_next ms e) k es)
+  burning_alike g ms k (e ∷ es) = grind (arith, burning_alike (next_stage w g e) (marks_next ms e) k es)
 
 module _ (d : Device) (m : List ℕ) (h : (stored_by d (length m)).number ≡ 0) where
   form_stored : bytes_written (ours.store d m) ≡ stored_form d
   form_stored = over_front (stored_by d (length m)).bytes m ∙ (stored_told d (length m) h).form
 
-  loads_again : loaded (stored_form d) ≡ accepted (started_with (stored_of d) (marks_stored d))
+  loads_again : loaded_from (stored_form d) ≡ acceptance_of (started_with (stored_of d) (marks_stored d))
   loads_again = form-again d (stored_told d (length m) h).legal
 
   stored_loads : LoadsAs ours (bytes_written (ours.store d m)) (stored_of d) (marks_stored d)
@@ -63,7 +63,7 @@ module _ (b : Beginning) (w : Wanted) (cs es : List Call) (m : List ℕ) (place 
   es_old = history_of ours b w cs
 
   known : Agrees w (stage_after w es_old) (marks_after (start_marks b w) es_old)
-      (λ k. burning w (start_marks b w) k es_old)
+      (λ k. burning_seconds w (start_marks b w) k es_old)
       (history_told b w cs h).0 old
   known = (history_told b w cs h).1
 
@@ -105,8 +105,8 @@ module _ (b : Beginning) (w : Wanted) (cs es : List Call) (m : List ℕ) (place 
       let new = (ours.load form).device in
       slice_index_or (run ours new es).own.lamps place 0
       ≡ lamp_with
-      (burning w (start_marks b w) place es_old
-      + burning w (marks_after (start_marks b w) es_old) place (history ours new no_streams es))
+      (burning_seconds w (start_marks b w) place es_old
+      + burning_seconds w (marks_after (start_marks b w) es_old) place (history ours new no_streams es))
       (slice_index_or w.lamps place 0)
 
   on_the_new : GoesOn (stored_form old)
@@ -116,11 +116,11 @@ module _ (b : Beginning) (w : Wanted) (cs es : List Call) (m : List ℕ) (place 
       let more = history_of ours (loads (marks_stored old)) kept es in
       let alike = burning_alike kept w (ap (λ (s : Settings). s.warm) known.settings)
       (ap (λ (s : Settings). s.cool) known.settings) (steady false) (marks_stored old) place more in
-      let same = alike ∙ ap (λ (ms : List Bool). burning w ms place more) kept_marks in
+      let same = alike ∙ ap (λ (ms : List Bool). burning_seconds w ms place more) kept_marks in
       (history_told (loads (marks_stored old)) kept es accepted_so).1.lamps place kept_many
       ∙ (λ i. lamp_with (same i) ((kept_lamp ∙ known.lamps place inside) i))
-      ∙ lamp_goes_on (burning w (start_marks b w) place es_old)
-      (burning w (marks_after (start_marks b w) es_old) place more) (slice_index_or w.lamps place 0)
+      ∙ lamp_goes_on (burning_seconds w (start_marks b w) place es_old)
+      (burning_seconds w (marks_after (start_marks b w) es_old) place more) (slice_index_or w.lamps place 0)
 
   hours_go_on : GoesOn (bytes_written (ours.store old m))
   hours_go_on = subst GoesOn (sym (form_stored old m stored)) on_the_new

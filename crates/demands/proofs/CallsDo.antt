@@ -28,7 +28,7 @@ use Rattle.record.proofs.ConnectionsTold.{placed_here, placed_elsewhere}
 use Rattle.clock.specs.Second.{times, own_second, connection_second}
 use Rattle.clock.proofs.Cases.{passed_by}
 use Rattle.clock.proofs.InOneGo.{parts_pass, place_passes}
-use Rattle.device.specs.Calls.{greeting, greeted}
+use Rattle.device.specs.Calls.{greeting, new_connection}
 use Rattle.device.proofs.Cases.{takes, received_by, opened_placed_by, closed_by_lem}
 use Rattle.ours.specs.Board.{ours, lent_by, closed_as}
 use Rattle.demands.specs.Calls.{Call, opens, closes, receives, passes, marks, reports, enables, after, number_of, Gave}
@@ -88,7 +88,7 @@ own_then d (enables lamp mark) = with_marks d.own (set d.own.enabled lamp mark)
 own_then d c = d.own
 
 abbrev connections_then : Device → Call → List Connection
-connections_then d (opens random m) = set d.connections (lowest_shut d.connections) (greeted d.settings random)
+connections_then d (opens random m) = set d.connections (lowest_shut d.connections) (new_connection d.settings random)
 connections_then d (closes p) = set d.connections p closed
 connections_then d (receives p bs m) = set d.connections p (takes d p bs).ended.connection
 connections_then d (passes n) = map (times connection_second n) d.connections
@@ -141,7 +141,7 @@ calls_by d e c P rows refused serves =
 
 abbrev pub connection_left : Device → Call → ℕ → Connection
 connection_left d (opens random m) q =
-    if lowest_shut d.connections == q then greeted d.settings random else connection_at d q
+    if lowest_shut d.connections == q then new_connection d.settings random else connection_at d q
 connection_left d (closes p) q = if p == q then closed else connection_at d q
 connection_left d (receives p bs m) q = if p == q then (takes d p bs).ended.connection else connection_at d q
 connection_left d (passes n) q = times connection_second n (connection_at d q)

@@ -37,12 +37,12 @@ use Rattle.record.proofs.Rules.{text_most}
 use Rattle.record.proofs.LegalTold.{legal_settings, legal_own}
 use Rattle.meaning.specs.Rules.{is_undefined, is_out_of_parameter}
 use Rattle.meaning.specs.SetUpInputs.{place_of, no_input, inputs_of, is_listed}
-use Rattle.meaning.specs.Meaning.{name_bytes, request_answer, meant, done}
+use Rattle.meaning.specs.Meaning.{name_bytes, request_answer, answer_for, after_request}
 use Rattle.meaning.proofs.CanBeSaid.{meant_can_be_said, length-inputs_of}
 use Rattle.meaning.proofs.Cases.{Passes, meant_by, err1, err2, done_by}
-use Rattle.device.specs.Answering.{line_asks, line_answer, swallowed}
+use Rattle.device.specs.Answering.{line_asks, line_answer, line_swallowed}
 use Rattle.device.specs.Receiving.{line_ended, taken_in}
-use Rattle.device.specs.Calls.{received, reply_room}
+use Rattle.device.specs.Calls.{received_at, reply_room}
 use Rattle.device.proofs.Cases.{received_by}
 use Rattle.device.proofs.LineCases.{answered_by, ended_by, taken_by}
 use Rattle.demands.specs.ClassOne.{longest_before, asked_as_before, line_before, answer_before, OfClass1, ClassOneKept}
@@ -88,28 +88,28 @@ module _ (s : Settings) (o : Own) (settings : is_settings s ≡ true) (own : is_
   Short m = length (said_bytes m) ≤ parameter_before
 
   -- where no rule refuses is left to show
-  by_rules : (r : Request) → (Passes s o r → Short (request_answer s o r)) → Short (meant s o r)
+  by_rules : (r : Request) → (Passes s o r → Short (request_answer s o r)) → Short (answer_for s o r)
   by_rules r passed =
       meant_by s o r Short (λ a. refused_short 1 (omega arith) (omega arith))
       (λ a b. refused_short 2 (omega arith) (omega arith)) (λ a b c. refused_short 4 (omega arith) (omega arith))
       (λ a b c d. refused_short 3 (omega arith) (omega arith)) passed
 
-  plain_short : (c : Command) → is_plain (body_of c) ≡ true → Short (meant s o (Ok c))
+  plain_short : (c : Command) → is_plain (body_of c) ≡ true → Short (answer_for s o (Ok c))
   plain_short c plain = said_short (meant_can_be_said s o settings own c) plain
 
-  query_short : (b : Body) (t : Bool) → has_query b ≡ t → Short (meant s o (Ok (Query b)))
+  query_short : (b : Body) (t : Bool) → has_query b ≡ t → Short (answer_for s o (Ok (Query b)))
   query_short b t e = grind (arith, plain_short, or-true, err1, refused_short)
 
   -- a set-up of Class 1 names no input
   nameless : (k : ℕ) → length (name_bytes (slice_index_or s.names k blank_name)) ≤ 0
   nameless k = grind (arith, ⊎_elim, le_or_lt, get_or-eq_default, settings_is, list_all_at, fills_told, text_most)
 
-  meant_short : (r : Request) → Short (meant s o r)
+  meant_short : (r : Request) → Short (answer_for s o r)
   meant_short r = grind (arith, plain_short, query_short, by_rules, nameless, text_said, not-false)
 
   answered_short : (l : List ℕ) → length (line_answer s o l).reply ≤ longest_before
   answered_short l =
-      let p = said_bytes (meant s o (line_asks l)) in
+      let p = said_bytes (answer_for s o (line_asks l)) in
       answered_by s o l (λ a. length a.reply ≤ longest_before)
       (λ form. omega (arith, meant_short (line_asks l), length-append p (code "\r" ∷ []))) (λ none. omega arith)
 
@@ -125,7 +125,7 @@ module _ (s : Settings) (o : Own) (settings : is_settings s ≡ true) (own : is_
 
 -- on any input, refused or not
 pub short_before : (d : Device) → d.settings.class_number ≡ 1 → (p : ℕ) (bs : List ℕ) (room : ℕ)
-    → length (received d p bs room).reply ≤ longest_before
+    → length (received_at d p bs room).reply ≤ longest_before
 short_before d one p bs room =
     received_by d p bs room (λ r. length r.reply ≤ longest_before) (λ n z. omega arith)
     (λ h s t c. taken_short d.settings d.own (legal_settings d h) (legal_own d h) one (connection_at d p) bs)
@@ -158,10 +158,10 @@ module _ (s : Settings) (settings : is_settings s ≡ true) (a b : ℕ) (named :
 
 module _ (s : Settings) (o : Own) where
   abbrev Same : Request → Request → Type 0
-  Same r q = (meant s o r ≡ meant s o q) × (done s o r ≡ done s o q)
+  Same r q = (answer_for s o r ≡ answer_for s o q) × (after_request s o r ≡ after_request s o q)
 
   module _ (r : Request) (defined : is_undefined s r ≡ false) (out : is_out_of_parameter s r ≡ true) where
-    nothing_done : done s o r ≡ o
+    nothing_done : after_request s o r ≡ o
     nothing_done = done_by s o r (λ k. k ≡ o) refl (λ p. absurd (false≢true (sym p.listed ∙ out)))
 
   module _ (settings : is_settings s ≡ true) (one : s.class_number ≡ 1) where
@@ -189,8 +189,8 @@ module _ (s : Settings) (o : Own) where
             own = same.1 i;
             reply = reply_line (byte i) (head_body l) (said_bytes (same.0 i));
           })
-          ∙ sym (if_yes _ (swallowed o) before))
-          (λ none. sym (if_no _ (swallowed o) (sym formed_before ∙ none)))
+          ∙ sym (if_yes _ (line_swallowed o) before))
+          (λ none. sym (if_no _ (line_swallowed o) (sym formed_before ∙ none)))
 
 -- ---- on the board
 
@@ -198,7 +198,7 @@ module _ (d : Device) (one : d.settings.class_number ≡ 1) (l : List ℕ) where
   answer_as_before : is_legal d ≡ true → answer_to d l ≡ answer_before d l
   answer_as_before legal = grind (arith, line_as_before, legal_settings)
 
-  class_2_no_form : (l at 1 is "2") ≡ true → answer_before d l ≡ swallowed d.own
+  class_2_no_form : (l at 1 is "2") ≡ true → answer_before d l ≡ line_swallowed d.own
   class_2_no_form two = grind (arith, if_all, class_byte_1, eqb-true)
 
 module _ (d : Device) (p : ℕ) (l m : List ℕ) (one : OfClass1 ours d) (plain : no_cr l ≡ true)
@@ -213,7 +213,7 @@ module _ (d : Device) (p : ℕ) (l m : List ℕ) (one : OfClass1 ours d) (plain 
   answers_led between short = grind (arith, answer_as_before, led_line_answered)
 
   drops_class_2 : BetweenLines opened d p → (l at 1 is "2") ≡ true
-      → let bs = l ++ codes "\r" in AnsweredAs ours d p bs (swallowed d.own) (ours.receive d p bs m)
+      → let bs = l ++ codes "\r" in AnsweredAs ours d p bs (line_swallowed d.own) (ours.receive d p bs m)
   drops_class_2 between two = grind (arith, class_2_no_form, answers)
 
 pub ours_class_1 : ClassOneKept ours

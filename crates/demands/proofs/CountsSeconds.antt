@@ -11,8 +11,8 @@ use Rattle.record.specs.Limits.{lamp_limit, opened, is_lit}
 use Rattle.record.specs.Wanted.{Wanted}
 use Rattle.ours.specs.Board.{ours, reply}
 use Rattle.demands.specs.Calls.{Call}
-use Rattle.demands.specs.History.{Event, switched, a_second, mark_switched, Stage, steady, next, stage_is_burning}
-use Rattle.demands.specs.History.{burns, burning_from, burning, Streams, marks_after, stage_after}
+use Rattle.demands.specs.History.{Event, switched, a_second, mark_switched, Stage, steady, next_stage, stage_is_burning}
+use Rattle.demands.specs.History.{burnt_in, burning_from, burning_seconds, Streams, marks_after, stage_after}
 use Rattle.demands.specs.CountsSeconds.{Beginning, start_marks, IsAccepted, run_of, history_of, count_set}
 use Rattle.demands.specs.CountsSeconds.{burnt_by_marks}
 use Rattle.demands.specs.CountsSeconds.{sum_of, lamp_then, each_place, lamps_then, LampsTold, CountsSeconds}
@@ -30,7 +30,7 @@ use Rattle.record.proofs.LegalTold.{legal_settings, own_of_legal}
 use Rattle.meaning.specs.Meaning.{lamp_said, lamps_of}
 use Rattle.meaning.proofs.LampsSaid.{length-lamps_said}
 use Rattle.meaning.proofs.LampsTold.{lamps_answered, lamp_told}
-use Rattle.device.specs.Calls.{Result, reply_room, received}
+use Rattle.device.specs.Calls.{Result, reply_room, received_at}
 use Rattle.device.proofs.CommandsReceived.{reply_to, command_received}
 use Rattle.controller.specs.Reading.{meaning, read_reply}
 use Rattle.demands.proofs.WrittenAndRead.{is_between, command_reads_back}
@@ -74,9 +74,9 @@ set_counted : (ms : List Bool) → sum_of (length ms) (λ k. one (slice_index_or
 set_counted [] = refl
 set_counted (m ∷ ms) = grind (arith, sum_first, set_counted ms)
 
-second_counted : (burning : Bool) (ms : List Bool)
-    → sum_of (length ms) (λ k. if burning && slice_index_or ms k false then 1 else 0)
-    ≡ (if burning then count_set ms else 0)
+second_counted : (lit : Bool) (ms : List Bool)
+    → sum_of (length ms) (λ k. if lit && slice_index_or ms k false then 1 else 0)
+    ≡ (if lit then count_set ms else 0)
 second_counted true ms = set_counted ms
 second_counted false ms = sum_none (length ms)
 
@@ -86,27 +86,27 @@ pub burnt_adds_up : (w : Wanted) (g : Stage) (ms : List Bool) (es : List Event)
     → sum_of (length ms) (λ k. burning_from w g ms k es) ≡ burnt_by_marks w g ms es
 burnt_adds_up w g ms [] = sum_none (length ms)
 burnt_adds_up w g ms (a_second ∷ es) =
-    sum_of-add (length ms) (λ k. burns g ms k a_second) (λ k. burning_from w (next w g a_second) ms k es)
-    ∙ (λ i. second_counted (stage_is_burning g) ms i + burnt_adds_up w (next w g a_second) ms es i)
+    sum_of-add (length ms) (λ k. burnt_in g ms k a_second) (λ k. burning_from w (next_stage w g a_second) ms k es)
+    ∙ (λ i. second_counted (stage_is_burning g) ms i + burnt_adds_up w (next_stage w g a_second) ms es i)
 burnt_adds_up w g ms (switched wanted ∷ es) =
-    sum_of-add (length ms) (λ k. 0) (λ k. burning_from w (next w g (switched wanted)) ms k es)
-    ∙ (λ i. sum_none (length ms) i + burnt_adds_up w (next w g (switched wanted)) ms es i)
+    sum_of-add (length ms) (λ k. 0) (λ k. burning_from w (next_stage w g (switched wanted)) ms k es)
+    ∙ (λ i. sum_none (length ms) i + burnt_adds_up w (next_stage w g (switched wanted)) ms es i)
     ∙ omega arith
 burnt_adds_up w g ms (mark_switched lamp mark ∷ es) =
-    grind (arith, length-set, burnt_adds_up w (next w g (mark_switched lamp mark)) (set ms lamp mark) es)
+    grind (arith, length-set, burnt_adds_up w (next_stage w g (mark_switched lamp mark)) (set ms lamp mark) es)
 
 pub fleet_adds_up : (b : Beginning) (w : Wanted) (cs : List Call) → IsAccepted ours b w
     → ((k : ℕ) → k < length w.lamps
-    → slice_index_or w.lamps k 0 + burning w (start_marks b w) k (history_of ours b w cs) ≤ lamp_limit)
+    → slice_index_or w.lamps k 0 + burning_seconds w (start_marks b w) k (history_of ours b w cs) ≤ lamp_limit)
     → sum_of (length w.lamps) (λ k. slice_index_or (run_of ours b w cs).own.lamps k 0 - slice_index_or w.lamps k 0)
     ≡ burnt_by_marks w (steady false) (start_marks b w) (history_of ours b w cs)
 fleet_adds_up b w cs h below =
     let ms = start_marks b w in
     let es = history_of ours b w cs in
     let told = (history_told b w cs h).1 in
-    sum_same (length w.lamps) _ (λ k. burning w ms k es)
+    sum_same (length w.lamps) _ (λ k. burning_seconds w ms k es)
     (λ k inside. let now = told.lamps k inside in let low = below k inside in omega arith)
-    ∙ ap (λ (n : ℕ). sum_of n (λ k. burning w ms k es)) (sym (marks_many b w h))
+    ∙ ap (λ (n : ℕ). sum_of n (λ k. burning_seconds w ms k es)) (sym (marks_many b w h))
     ∙ burnt_adds_up w (steady false) ms es
 
 -- what stands at a place, each place told for itself
@@ -121,7 +121,7 @@ each_at f k (x ∷ l) zero d h = ap (λ (j : ℕ). f j x) (sym (add-zero k))
 each_at f k (x ∷ l) (suc i) d h = grind (arith, each_at f (suc k) l i d (omega arith))
 
 module _ (w : Wanted) (ms : List Bool) (es : List Event) {stream : Streams} {d : Device}
-    (a : Agrees w (stage_after w es) (marks_after ms es) (λ k. burning w ms k es) stream d) {p : ℕ}
+    (a : Agrees w (stage_after w es) (marks_after ms es) (λ k. burning_seconds w ms k es) stream d) {p : ℕ}
     (between : BetweenLines opened d p) where
   count : d.settings.lamp_count ≡ length w.lamps
   count = ap (λ (s : Settings). s.lamp_count) a.settings
@@ -161,7 +161,7 @@ module _ (w : Wanted) (ms : List Bool) (es : List Event) {stream : Streams} {d :
   pub hours_told : (m : List ℕ) → 1 ≤ length w.lamps → reply_room ≤ length m
       → LampsTold ours (lamps_then w ms es) (reply (ours.receive d p (command_line (Query Lamp)) m))
   hours_told m some enough =
-      let result = received d p (command_line (Query Lamp)) (length m) in
+      let result = received_at d p (command_line (Query Lamp)) (length m) in
       let line = is_between d p between.there between.legal between.unmarked between.none_held in
       let back = command_reads_back d p between.there between.legal line (Query Lamp) refl any_class (length m) enough
       between.in_phase in

@@ -14,8 +14,8 @@ use Rattle.pjlink.specs.Bodies.{is_body}
 use Rattle.stream.proofs.LastBytes.{Ends, ends_unheld}
 use Rattle.device.proofs.PowerLines.{is_power_okay, power_line, power_line_read, power_line_not_other, okay_reply}
 use Rattle.demands.specs.History.{Event, switched, power_set, a_second, mark_switched, Stage, steady}
-use Rattle.demands.specs.History.{towards, next, Streams, going_on_at, streams_after, seen, no_streams, history}
-use Rattle.demands.specs.History.{reached, marks_after, burning_from, burning, stage_after}
+use Rattle.demands.specs.History.{towards, next_stage, Streams, going_on_at, streams_after, seen, no_streams, history}
+use Rattle.demands.specs.History.{stage_from, marks_after, burning_from, burning_seconds, stage_after}
 use Rattle.std.specs.Prelude.{if◌then◌else◌, Ok}
 use Rattle.pjlink.specs.declared.command.Command.TheVariants.{PowerSet}
 use Rattle.pjlink.specs.Said.{okay}
@@ -31,7 +31,7 @@ use Rattle.record.proofs.LegalTold.{own_of_legal}
 use Rattle.record.proofs.MarksTold.{marks_long}
 use Rattle.record.proofs.ConnectionsTold.{placed_elsewhere}
 use Rattle.clock.proofs.Cases.{passed_by}
-use Rattle.meaning.specs.Meaning.{meant, done}
+use Rattle.meaning.specs.Meaning.{answer_for, after_request}
 use Rattle.meaning.proofs.PowerSets.{power_set_only, on_when_off, on_otherwise, off_when_on, off_otherwise}
 use Rattle.stream.specs.Collecting.{line_text}
 use Rattle.device.specs.Calls.{Result, accepted_taken}
@@ -43,10 +43,10 @@ use Rattle.device.proofs.Untouched.{closing_keeps_own}
 use Rattle.ours.specs.Board.{ours, lent_by, reply}
 use Rattle.demands.specs.Calls.{Call, opens, closes, receives, passes, marks, reports, enables, after, run}
 use Rattle.demands.proofs.Agrees.{power_of, left_of, Shows, Agrees, agrees_at, remarked, recounted, Then, agrees_none}
-use Rattle.demands.proofs.Agrees.{agrees_switched, agrees_seconds, agrees_marked, reached-append, marks_after-append}
+use Rattle.demands.proofs.Agrees.{agrees_switched, agrees_seconds, agrees_marked, stage_from-append, marks_after-append}
 use Rattle.demands.proofs.Agrees.{burning_from-append}
 use Rattle.std.proofs.lemmas.List.{length-replicate}
-use Rattle.record.specs.Record.{all_closed, settings_of, start_own, started}
+use Rattle.record.specs.Record.{all_closed, settings_of, start_own, start_device}
 use Rattle.record.specs.SetUp.{is_set_up}
 use Rattle.record.proofs.ConnectionTold.{closed_holds_none}
 use Rattle.record.proofs.OwnTold.{lamp_at}
@@ -90,8 +90,8 @@ one_or_none P stream reply none one = grind arith
 
 module _ (w : Wanted) (s : Settings) (o : Own) (warm : s.warm ≡ w.warm) (cool : s.cool ≡ w.cool) where
   turned : (g : Stage) (wanted : Bool) → o.power ≡ power_of g → o.left ≡ left_of g
-      → meant s o (Ok (PowerSet wanted)) ≡ okay
-      → Shows (next w g (switched wanted)) (done s o (Ok (PowerSet wanted)))
+      → answer_for s o (Ok (PowerSet wanted)) ≡ okay
+      → Shows (next_stage w g (switched wanted)) (after_request s o (Ok (PowerSet wanted)))
   turned g wanted p l m = grind (arith, on_otherwise, off_when_on, on_when_off, off_otherwise, power_set_only)
 
 module _ {w : Wanted} {g : Stage} {ms : List Bool} {n : ℕ → ℕ} {stream : Streams} {d : Device}
@@ -111,11 +111,11 @@ module _ {w : Wanted} {g : Stage} {ms : List Bool} {n : ℕ → ℕ} {stream : S
         let yes = ap is_power_okay said ∙ okay_reply b1 b2 b3 b4 powr in
         let warm = ap (λ (s : Settings). s.warm) a.settings in
         let cool = ap (λ (s : Settings). s.cool) a.settings in
-        let shows : Shows (next w g (switched wanted)) (done d.settings d.own (Ok (PowerSet wanted)))
+        let shows : Shows (next_stage w g (switched wanted)) (after_request d.settings d.own (Ok (PowerSet wanted)))
         = turned w d.settings d.own warm cool g wanted a.power a.left passed in
         rw (set_seen b1 b2 b3 b4 powr (now p) answer yes wanted line)
         (agrees_switched wanted g
-        (agrees_at a (next w g (switched wanted)) now e settings (ap (λ (k : Own). k.power) own ∙ shows.power)
+        (agrees_at a (next_stage w g (switched wanted)) now e settings (ap (λ (k : Own). k.power) own ∙ shows.power)
         (ap (λ (k : Own). k.left) own ∙ shows.left) m same last))
 
   module _ (p : ℕ) (bs m : List ℕ) where
@@ -193,7 +193,7 @@ module _ {w : Wanted} {g : Stage} {ms : List Bool} {n : ℕ → ℕ} {stream : S
       Enabled r =
           Then w g ms n (if r.number == 0 then mark_switched lamp mark ∷ [] else []) stream r.device
 
-      mark_still : (h : Stage) → next w h (mark_switched lamp mark) ≡ h
+      mark_still : (h : Stage) → next_stage w h (mark_switched lamp mark) ≡ h
       mark_still (steady on) = refl
       mark_still (towards on k) = refl
   noted (passes k) = passed_by Passed d k (λ illegal. kept) (λ legal. agrees_seconds k legal a)
@@ -217,12 +217,12 @@ module _ (w : Wanted) (ms : List Bool) (h : is_set_up w ≡ true) (many : length
   abbrev fresh : Device
   fresh = started_with w ms
 
-  parts : started w ≡ record { settings = settings_of w; own = start_own w.lamps; connections = all_closed }
+  parts : start_device w ≡ record { settings = settings_of w; own = start_own w.lamps; connections = all_closed }
   parts = started_parts w
 
-  start_within : (place : ℕ) → place < length w.lamps → slice_index_or (started w).own.lamps place 0 ≤ lamp_limit
+  start_within : (place : ℕ) → place < length w.lamps → slice_index_or (start_device w).own.lamps place 0 ≤ lamp_limit
   start_within place inside =
-      lamp_at (started w).settings (started w).own (own_of_legal (started w) (started_legal w h)) place
+      lamp_at (start_device w).settings (start_device w).own (own_of_legal (start_device w) (started_legal w h)) place
       (rw parts inside)
 
   -- no place holds a byte
@@ -241,7 +241,7 @@ module _ (w : Wanted) (ms : List Bool) (h : is_set_up w ≡ true) (many : length
     marks_long = many;
     marks = λ place inside. slice_index_or-mark_room ms place;
     last = λ q.
-        ends_unheld [] (connection_at (started w) q).line
+        ends_unheld [] (connection_at (start_device w) q).line
         (ap (λ (d : Device). (connection_at d q).line.held) parts ∙ none_held q);
   }
 
@@ -255,12 +255,12 @@ run_agrees (c ∷ cs) w g ms n stream d a =
     let now = streams_after ours d stream c in
     let es = seen ours d now c in
     let fs = history ours (after ours d c) now cs in
-    let rest = run_agrees cs w (reached w g es) (marks_after ms es) (λ k. n k + burning_from w g ms k es) now
+    let rest = run_agrees cs w (stage_from w g es) (marks_after ms es) (λ k. n k + burning_from w g ms k es) now
     (after ours d c) (noted a c) in (
       rest.0,
-      rw (reached-append w g es fs, marks_after-append ms es fs)
+      rw (stage_from-append w g es fs, marks_after-append ms es fs)
           (recounted rest.1
-          (λ k. add_assoc (n k) (burning_from w g ms k es) (burning_from w (reached w g es) (marks_after ms es) k fs)
+          (λ k. add_assoc (n k) (burning_from w g ms k es) (burning_from w (stage_from w g es) (marks_after ms es) k fs)
           ∙ ap (λ (c : ℕ). n k + c) (sym (burning_from-append w g ms k es fs)))),
     )
 
@@ -296,7 +296,8 @@ module _ (b : Beginning) (w : Wanted) (cs : List Call) (h : IsAccepted ours b w)
   known = history_of ours b w cs
 
   pub history_told : (now : Streams)
-      × Agrees w (stage_after w known) (marks_after ms known) (λ k. burning w ms k known) now (run_of ours b w cs)
+      × Agrees w (stage_after w known) (marks_after ms known) (λ k. burning_seconds w ms k known) now
+      (run_of ours b w cs)
   history_told =
       let all = run_agrees cs w (steady false) ms (λ k. 0) no_streams (begun_by ours b w).device (begun_agrees b w h) in
-      (all.0, recounted all.1 (λ k. zero-add (burning w ms k known)))
+      (all.0, recounted all.1 (λ k. zero-add (burning_seconds w ms k known)))

@@ -31,7 +31,7 @@ use Rattle.record.specs.Places.{connection_at, is_shut}
 use Rattle.record.specs.declared.types.Device.{Device}
 use Rattle.record.proofs.LegalTold.{legal_places, connection_of_legal}
 use Rattle.record.proofs.ConnectionsTold.{placed_here}
-use Rattle.device.specs.Calls.{reply_room, received}
+use Rattle.device.specs.Calls.{reply_room, received_at}
 use Rattle.device.proofs.Cases.{received_by, received_taken, takes}
 use Rattle.device.proofs.Untouched.{receiving_keeps_others}
 use Rattle.ours.specs.Board.{ours, reply}
@@ -169,7 +169,7 @@ module _ (q : ℕ) (d : Device) where
     call_there : let r = ours.receive d q bs m in
         HeardThere (heard_of d.own (take r.taken bs) (reply r)) (connection_at r.device q)
     call_there =
-        let r = received d q bs (length m) in
+        let r = received_at d q bs (length m) in
         subst (λ (s : List ℕ). HeardThere (heard_of d.own (take r.taken bs) s) (connection_at r.device q))
         (sym (over_front r.reply m))
         (received_by d q bs (length m)

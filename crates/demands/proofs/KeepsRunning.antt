@@ -16,7 +16,7 @@ use Rattle.stored.specs.Form.{stored_by}
 use Rattle.stored.proofs.Results.{storing_by, refused_store_writes_nothing, storing_number, loading_number}
 use Rattle.stored.proofs.Results.{refused_load_blank, accepted_legal}
 use Rattle.device.specs.Receiving.{digest_long}
-use Rattle.device.specs.Calls.{longest_reply, Result, received, opened_by}
+use Rattle.device.specs.Calls.{longest_reply, Result, received_at, opened_by}
 use Rattle.device.proofs.Cases.{received_by, opened_by_lem}
 use Rattle.device.proofs.Counts.{received_within}
 use Rattle.device.proofs.Short.{longest_greeting, receiving_short, opening_short}
@@ -37,8 +37,8 @@ use Rattle.record.specs.Wanted.{Wanted}
 use Rattle.record.specs.Legal.{is_legal}
 use Rattle.record.proofs.Results.{set_up_number as set-up-table, fault_number, errors_number, mark_number}
 use Rattle.record.proofs.Results.{refusal_leaves, set_up_refusal}
-use Rattle.clock.proofs.Results.{passed-number, passed_refusal}
-use Rattle.device.proofs.Numbers.{received-number, opened_number, closed_number}
+use Rattle.clock.proofs.Results.{time_passed-number, passed_refusal}
+use Rattle.device.proofs.Numbers.{received_at-number, opened_number, closed_number}
 use Rattle.controller.specs.Reading.{reading_outcome_number, means_it, erra_said, not_a_line, other_command, disallowed}
 use Rattle.controller.specs.Greetings.{greets, random_in, read_greeting, greeting_number}
 use Rattle.controller.proofs.Refusals.{written_number, refusal_writes_nothing, number_means_nothing}
@@ -69,7 +69,7 @@ module _ (d : Device) (m : List ℕ) where
   abbrev Fits : Result Device → Type 0
   Fits r = length r.reply ≤ length m
 
-  received_fits : (p : ℕ) (bs : List ℕ) → Fits (received d p bs (length m))
+  received_fits : (p : ℕ) (bs : List ℕ) → Fits (received_at d p bs (length m))
   received_fits p bs =
       received_by d p bs (length m) (λ r. length r.reply ≤ longest_reply → Fits r) (λ n z short. omega arith)
       (λ h s t c short. omega arith)
@@ -115,8 +115,8 @@ number_is_first d c =
       arith,
       opened_number,
       closed_number,
-      received-number,
-      passed-number,
+      received_at-number,
+      time_passed-number,
       fault_number,
       errors_number,
       mark_number,

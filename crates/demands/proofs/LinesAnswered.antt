@@ -15,16 +15,16 @@ use Rattle.words.specs.Bytes.{no_cr, command_most}
 use Rattle.record.specs.Limits.{awaiting, opened, places_count}
 use Rattle.record.specs.Places.{connection_at, is_shut}
 use Rattle.record.specs.declared.types.Device.{Device}
-use Rattle.device.specs.Answering.{Answered, line_answer, swallowed}
+use Rattle.device.specs.Answering.{Answered, line_answer, line_swallowed}
 use Rattle.device.specs.Receiving.{is_match}
-use Rattle.device.specs.Calls.{Result, reply_room, received}
-use Rattle.device.proofs.LinesReceived.{line_result, line-received, overlong-line-received, led_line-received}
+use Rattle.device.specs.Calls.{Result, reply_room, received_at}
+use Rattle.device.proofs.LinesReceived.{line_result, line_received, overlong_line_received, led_line_received}
 use Rattle.ours.specs.Board.{lent_by, ours}
 use Rattle.demands.specs.SpeaksPjlink.{BetweenLines, AnsweredAs, answer_to, digest_for, call_on, handed_on, is_led}
 use Rattle.demands.specs.SpeaksPjlink.{RefusalOnly}
 use Rattle.demands.proofs.KeepsRunning.{over_front}
 use Rattle.record.specs.Legal.{is_legal, held_most}
-use Rattle.stream.specs.Machine.{Took, handed_parts, uncut}
+use Rattle.stream.specs.Machine.{Took, handed_parts, stream_of}
 use Rattle.device.proofs.SameCuts.{receives, received_however_cut}
 use Rattle.device.proofs.Outsiders.{unmatched_line_refused}
 use Rattle.device.proofs.OutsiderStreams.{outsider_stream_keeps_own, outsider_stream_keeps_settings}
@@ -33,9 +33,9 @@ use Rattle.device.proofs.OutsiderStreams.{outsider_stream_age}
 use Rattle.device.proofs.FirstLines.{first-line_ends, unled_unmatched}
 use Rattle.demands.proofs.WrittenAndRead.{is_between}
 use Rattle.pjlink.specs.declared.command.Command.{Command}
-use Rattle.stream.specs.Collecting.{gathered}
+use Rattle.stream.specs.Collecting.{gathered_from}
 use Rattle.device.proofs.Cases.{received_taken}
-use Rattle.controller.specs.Reading.{without, read_reply, erra_said}
+use Rattle.controller.specs.Reading.{outcome_alone, read_reply, erra_said}
 use Rattle.controller.proofs.Refusals.{erra_read}
 
 module _ (d : Device) (p : ℕ) (bs m : List ℕ) where
@@ -51,10 +51,10 @@ module _ (d : Device) (p : ℕ) (l m : List ℕ) (plain : no_cr l ≡ true) (eno
   tables = line_answer d.settings d.own l
 
   short_answered : length l ≤ command_most → tables ≡ answer_to d l
-  short_answered short = sym (if_yes tables (swallowed d.own) (le-leb (length l) command_most short))
+  short_answered short = sym (if_yes tables (line_swallowed d.own) (le-leb (length l) command_most short))
 
-  long_swallowed : command_most < length l → swallowed d.own ≡ answer_to d l
-  long_swallowed long = sym (if_no tables (swallowed d.own) (lt-leb (length l) command_most long))
+  long_swallowed : command_most < length l → line_swallowed d.own ≡ answer_to d l
+  long_swallowed long = sym (if_no tables (line_swallowed d.own) (lt-leb (length l) command_most long))
 
   pub line_answered : BetweenLines opened d p
       → let bs = l ++ codes "\r" in AnsweredAs ours d p bs (answer_to d l) (ours.receive d p bs m)
@@ -65,9 +65,9 @@ module _ (d : Device) (p : ℕ) (l m : List ℕ) (plain : no_cr l ≡ true) (eno
         length-append,
         ⊎_elim,
         result_answers,
-        line-received,
+        line_received,
         short_answered,
-        overlong-line-received,
+        overlong_line_received,
         long_swallowed,
         le_or_lt,
       )
@@ -81,7 +81,7 @@ module _ (d : Device) (p : ℕ) (l m : List ℕ) (plain : no_cr l ≡ true) (eno
         length-append,
         length-leading_digest,
         result_answers,
-        led_line-received,
+        led_line_received,
         short_answered,
       )
 
@@ -93,13 +93,13 @@ pub handed_alike : (m : List ℕ) (p : ℕ) (d : Device) (ps : List (List ℕ))
 handed_alike m p d ps = ap (λ (f : Device → List ℕ → Took Device). handed_parts f d ps) (same_calls m p)
 
 pub same_however_cut : (d : Device) (p : ℕ) (m : List ℕ) (ps qs : List (List ℕ)) → is_legal d ≡ true
-    → p < places_count → is_shut (connection_at d p) ≡ false → reply_room ≤ length m → uncut ps ≡ uncut qs
+    → p < places_count → is_shut (connection_at d p) ≡ false → reply_room ≤ length m → stream_of ps ≡ stream_of qs
     → handed_on ours m p d ps ≡ handed_on ours m p d qs
 same_however_cut d p m ps qs legal there live enough e = grind (arith, handed_alike, received_however_cut)
 
 pub outsider_refused : (d : Device) (p : ℕ) (l more m : List ℕ) (ps : List (List ℕ))
     → BetweenLines awaiting d p → no_cr l ≡ true → is_led d p l ≡ false → reply_room ≤ length m
-    → uncut ps ≡ l ++ codes "\r" ++ more
+    → stream_of ps ≡ l ++ codes "\r" ++ more
     → RefusalOnly ours d p (handed_on ours m p d ps)
 outsider_refused d p l more m ps between plain unled enough all =
     grind (
@@ -121,8 +121,8 @@ pub outsider_reads_erra : (d : Device) (p : ℕ) (bs : List ℕ) (room : ℕ) (c
     → reply_room ≤ room → p < places_count
     → let k = connection_at d p in
     k.phase ≡ awaiting
-    → let g = gathered (held_most k.phase) k.line bs in
+    → let g = gathered_from (held_most k.phase) k.line bs in
     g.ended ≡ true → is_match d.settings k g.line ≡ false
-    → read_reply c (received d p bs room).reply ≡ without erra_said
+    → read_reply c (received_at d p bs room).reply ≡ outcome_alone erra_said
 outsider_reads_erra d p bs room c legal enough there phase cr unmatched =
     grind (arith, received_taken, unmatched_line_refused, erra_read)

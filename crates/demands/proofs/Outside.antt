@@ -22,7 +22,7 @@ use Rattle.record.specs.declared.types.Device.{Device}
 use Rattle.record.proofs.Spelt.{closed_spelt}
 use Rattle.record.proofs.Started.{set_up_legal, set_up_started, started_parts}
 use Rattle.device.specs.Receiving.{Taken, set_up_password}
-use Rattle.device.specs.Calls.{has_password, greeted}
+use Rattle.device.specs.Calls.{has_password, new_connection}
 use Rattle.device.proofs.Cases.{takes, secured_greeted}
 use Rattle.ours.specs.Board.{ours}
 use Rattle.demands.specs.Calls.{Call, opens, closes, receives, passes, after}
@@ -56,7 +56,7 @@ module _ (password : List ℕ) (p : ℕ) (s : Session) (d : Device) (out : Outsi
     pub standing : Standing k (connection_at e p)
     pub kept : is_received_at p c ≡ true → e.own ≡ d.own
 
-  greeted_stands : (random : ℕ) → Standing (opened_with random) (greeted d.settings random)
+  greeted_stands : (random : ℕ) → Standing (opened_with random) (new_connection d.settings random)
   greeted_stands random = grind (arith, secured_greeted, awaits, nothing_yet)
 
   abbrev KeptIf : Bool → Own → Type 0

@@ -20,7 +20,7 @@ use Rattle.demands.specs.Outsider.{first_line, Session, is_matched, RefusalAtMos
 use Rattle.text.proofs.Scanning.{list_all-append}
 use Rattle.pjlink.specs.Forms.{erra_line}
 use Rattle.record.specs.Limits.{shut, awaiting, failed, line_room}
-use Rattle.record.specs.Updates.{aged}
+use Rattle.record.specs.Updates.{with_age}
 use Rattle.record.specs.Legal.{held_most}
 use Rattle.record.specs.Record.{closed}
 use Rattle.record.specs.declared.types.Settings.{Settings}
@@ -32,11 +32,11 @@ use Rattle.record.proofs.ConnectionTold.{held_most_awaiting}
 use Rattle.clock.specs.Second.{times, connection_second}
 use Rattle.clock.proofs.ConnectionsAge.{connection_then}
 use Rattle.stream.specs.declared.Gathered.{Gathered}
-use Rattle.stream.specs.Collecting.{empty_line, collected_all, gathered}
+use Rattle.stream.specs.Collecting.{empty_line, collected_all, gathered_from}
 use Rattle.stream.proofs.UpToTheEnd.{Cut, cut}
 use Rattle.stream.proofs.GatheredOn.{plain_gathered}
 use Rattle.stream.proofs.CollectedOn.{collected_all-append, collected_whole}
-use Rattle.stream.proofs.LinesCollected.{empty_is_none, gathered-append}
+use Rattle.stream.proofs.LinesCollected.{empty_is_none, gathered_from-append}
 use Rattle.device.proofs.LineCases.{keeping_line_lem, taken-line, taken_part}
 use Rattle.device.proofs.Outsiders.{mismatch_refused, failed_ignores}
 use Rattle.device.proofs.FirstLines.{is_match-collected_all}
@@ -90,7 +90,7 @@ answered_so (has_failed p e) = subst RefusalAtMost (sym e) refusal
 pub closed_stands : (s : Session) → RefusalAtMost s.replied → Standing s closed
 closed_stands s a = is_closed (ap (λ (k : Connection). k.phase) closed_spelt) a
 
-older_stands : (s : Session) (c : Connection) (age : ℕ) → Standing s c → Standing s (aged c age)
+older_stands : (s : Session) (c : Connection) (age : ℕ) → Standing s c → Standing s (with_age c age)
 older_stands s c age stands = grind arith
 
 pub stands_later : (n : ℕ) (s : Session) (c : Connection) → Standing s c → Standing s (times connection_second n c)
@@ -123,10 +123,10 @@ module _ (settings : Settings) (o : Own) (c : Connection) (s : Session) where
     more xs = collected_all line_room c.line xs
 
     abbrev gathers : List ℕ → Gathered
-    gathers bs = gathered (held_most c.phase) c.line bs
+    gathers bs = gathered_from (held_most c.phase) c.line bs
 
-    by_room : (bs : List ℕ) → gathers bs ≡ gathered line_room c.line bs
-    by_room bs = ap (λ (most : ℕ). gathered most c.line bs) (ap held_most phase ∙ held_most_awaiting)
+    by_room : (bs : List ℕ) → gathers bs ≡ gathered_from line_room c.line bs
+    by_room bs = ap (λ (most : ℕ). gathered_from most c.line bs) (ap held_most phase ∙ held_most_awaiting)
 
     more_is : (xs : List ℕ) → more xs ≡ collected_all line_room empty_line (s.taken ++ xs)
     more_is xs = grind (arith, collected_all-append)
@@ -154,7 +154,7 @@ module _ (settings : Settings) (o : Own) (c : Connection) (s : Session) where
           arith,
           list_all-append,
           by_room,
-          gathered-append,
+          gathered_from-append,
           taken-line,
           matched_first,
           line_taken,

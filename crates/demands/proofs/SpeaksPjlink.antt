@@ -14,7 +14,7 @@ use Rattle.record.proofs.OutOfRange.{each_in_range}
 use Rattle.controller.specs.Reading.{meaning}
 use Rattle.controller.proofs.NamesRead.{accepted_name_is_read}
 use Rattle.ours.specs.Board.{ours, lent_by}
-use Rattle.record.specs.Record.{started}
+use Rattle.record.specs.Record.{start_device}
 use Rattle.record.proofs.Started.{set_up_started}
 use Rattle.device.specs.Calls.{greeting}
 use Rattle.device.proofs.Cases.{opened_placed_by}
@@ -40,7 +40,7 @@ names_read w =
     (λ e. absurd (omega arith)) (λ e. absurd (omega arith))
     (λ h e. accepted_name_is_read w.name (each_in_range w h ItsName))
 
-pub set_up_shows : (w : Wanted) → Leaves ours (ours.set_up w) (started w)
+pub set_up_shows : (w : Wanted) → Leaves ours (ours.set_up w) (start_device w)
 set_up_shows w accepted = set_up_started w accepted
 
 module _ (d : Device) where

@@ -17,8 +17,8 @@ use Rattle.record.specs.Limits.{awaiting, failed, cooling}
 use Rattle.record.specs.Wanted.{Wanted}
 use Rattle.record.specs.declared.types.Own.{Own}
 use Rattle.device.specs.Answering.{line_answer}
-use Rattle.device.specs.Calls.{Result, received, has_password}
-use Rattle.device.proofs.LinesReceived.{line_result, led_line-received}
+use Rattle.device.specs.Calls.{Result, received_at, has_password}
+use Rattle.device.proofs.LinesReceived.{line_result, led_line_received}
 use Rattle.demands.specs.WrongDoors.{secured_sample}
 use Rattle.demands.specs.Computing.{computing}
 use Rattle.demands.proofs.Unheard.{ours_unheard, nobody_opens}
@@ -111,18 +111,18 @@ let_in bs =
     line_result d 1 (line_answer d.settings d.own (codes "%1POWR 1")) 41
 
 abbrev PowersOn : List ℕ → Type 0
-PowersOn bs = received (spoken_to bs) 1 led_on (length memory) ≡ let_in bs
+PowersOn bs = received_at (spoken_to bs) 1 led_on (length memory) ≡ let_in bs
 
 asks_powers_on : PowersOn asking
 unfolding computing
 asks_powers_on =
-    led_line-received (spoken_to asking) 1 (omega arith) (length memory) refl (omega arith) refl refl
+    led_line_received (spoken_to asking) 1 (omega arith) (length memory) refl (omega arith) refl refl
     (codes "%1POWR 1") refl refl (omega arith)
 
 waits_powers_on : PowersOn waiting
 unfolding computing
 waits_powers_on =
-    led_line-received (spoken_to waiting) 1 (omega arith) (length memory) refl (omega arith) refl refl
+    led_line_received (spoken_to waiting) 1 (omega arith) (length memory) refl (omega arith) refl refl
     (codes "%1POWR 1") refl refl (omega arith)
 
 ends_as : (bs : List ℕ) → PowersOn bs

@@ -24,10 +24,10 @@ use Rattle.record.proofs.FactsTold.{settings_is}
 use Rattle.stream.specs.Collecting.{empty_line}
 use Rattle.stream.proofs.LegalLines.{between_lines}
 use Rattle.stream.proofs.LinesCollected.{empty_is_none}
-use Rattle.meaning.specs.Meaning.{meant, done}
+use Rattle.meaning.specs.Meaning.{answer_for, after_request}
 use Rattle.meaning.proofs.CanBeSaid.{meant_fits, meant_can_be_said}
-use Rattle.device.specs.Receiving.{turned, set_up_password}
-use Rattle.device.specs.Calls.{Result, reply_room, received, greeting, greeted, opened_by, place_taken}
+use Rattle.device.specs.Receiving.{phase_start, set_up_password}
+use Rattle.device.specs.Calls.{Result, reply_room, received_at, greeting, new_connection, opened_by, place_taken}
 use Rattle.device.proofs.CommandsReceived.{command_result, command_received, command_received_secured, swallowed_at}
 use Rattle.device.proofs.CommandsReceived.{higher_received, higher_received_secured}
 use Rattle.device.proofs.Legal.{line_legal}
@@ -58,8 +58,9 @@ is_between d p there legal unmarked none =
 pub record TakenAndRead (d : Device) (p : ℕ) (c : Command) (bs : List ℕ) (r : Result Device) : Type 0 where
   pub number : r.number ≡ 0
   pub taken : r.taken ≡ length bs
-  pub device : r.device ≡ with_place d (done d.settings d.own (Ok c)) p (turned (connection_at d p) opened)
-  pub said : read_reply c r.reply ≡ meaning (meant d.settings d.own (Ok c))
+  pub device : r.device
+      ≡ with_place d (after_request d.settings d.own (Ok c)) p (phase_start (connection_at d p) opened)
+  pub said : read_reply c r.reply ≡ meaning (answer_for d.settings d.own (Ok c))
 
 module _ (d : Device) (p : ℕ) (there : p < places_count) (legal : is_legal d ≡ true)
     (between : (connection_at d p).line ≡ empty_line) (c : Command) (writable : is_command c ≡ true)
@@ -73,8 +74,8 @@ module _ (d : Device) (p : ℕ) (there : p < places_count) (legal : is_legal d �
   none : here.line.held ≡ 0
   none = ap (λ (l : Line). l.held) (between ∙ empty_is_none)
 
-  read_back : (bs : List ℕ) → received d p bs room ≡ command_result d p c (length bs)
-      → TakenAndRead d p c bs (received d p bs room)
+  read_back : (bs : List ℕ) → received_at d p bs room ≡ command_result d p c (length bs)
+      → TakenAndRead d p c bs (received_at d p bs room)
   read_back bs e =
       let settings = legal_settings d legal in
       let own = legal_own d legal in
@@ -84,21 +85,21 @@ module _ (d : Device) (p : ℕ) (there : p < places_count) (legal : is_legal d �
       subst (TakenAndRead d p c bs) (sym e) (record { number = refl; taken = refl; device = refl; said = said })
 
   pub command_reads_back : here.phase ≡ opened
-      → TakenAndRead d p c (command_line c) (received d p (command_line c) room)
+      → TakenAndRead d p c (command_line c) (received_at d p (command_line c) room)
   command_reads_back phase =
       read_back (command_line c) (command_received d p there room legal enough unmarked none c writable within phase)
 
   abbrev led_line : List ℕ
   led_line = leading_digest here.random (set_up_password d.settings) ++ command_line c
 
-  pub command_reads_back_secured : here.phase ≡ awaiting → TakenAndRead d p c led_line (received d p led_line room)
+  pub command_reads_back_secured : here.phase ≡ awaiting → TakenAndRead d p c led_line (received_at d p led_line room)
   command_reads_back_secured phase =
       read_back led_line (command_received_secured d p there room legal enough unmarked none c writable within phase)
 
   -- what is written is no refusal, and is read back
   module _ (memory : ℕ) (lent : command_room ≤ memory) where
     abbrev Through : WrittenAs → Type 0
-    Through w = (w.number ≡ 0) × TakenAndRead d p c w.bytes (received d p w.bytes room)
+    Through w = (w.number ≡ 0) × TakenAndRead d p c w.bytes (received_at d p w.bytes room)
 
     pub written_reads_back : here.phase ≡ opened → (random : ℕ) (password : List ℕ)
         → Through (written_command c false random password memory)
@@ -114,7 +115,8 @@ module _ (d : Device) (p : ℕ) (there : p < places_count) (legal : is_legal d �
         told.password.follows))
         (refl, command_reads_back_secured phase)
 
-read_greeting-greeting : (s : Settings) (r : ℕ) → r < 2 ^ 32 → read_greeting (greeting s r) ≡ greeted_on (greeted s r)
+read_greeting-greeting : (s : Settings) (r : ℕ) → r < 2 ^ 32
+    → read_greeting (greeting s r) ≡ greeted_on (new_connection s r)
 read_greeting-greeting s r word =
     greeted_by_lem s r (λ g c. read_greeting g ≡ greeted_on c) (secured_heard r word) open_heard
 
@@ -140,8 +142,8 @@ module _ (d : Device) (p : ℕ) (c : Command) (paper m : List ℕ) (writable : i
 
   -- what was written stands on the paper, and is read back, or swallowed
   on_paper : (bs : List ℕ) (w : WrittenAs) → w ≡ record { number = 0; bytes = bs }
-      → (command_class c ≤ d.settings.class_number → TakenAndRead d p c bs (received d p bs (length m)))
-      → (d.settings.class_number < command_class c → received d p bs (length m) ≡ swallowed_at d p (length bs))
+      → (command_class c ≤ d.settings.class_number → TakenAndRead d p c bs (received_at d p bs (length m)))
+      → (d.settings.class_number < command_class c → received_at d p bs (length m) ≡ swallowed_at d p (length bs))
       → Told w (bytes_written (wrote_by w paper))
   on_paper bs w e back ignored = grind (arith, over_front)
 

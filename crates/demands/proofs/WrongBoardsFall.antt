@@ -36,7 +36,7 @@ use Rattle.record.specs.declared.types.Connection.{Connection}
 use Rattle.demands.specs.WrongOutsiders.{closes_next, counts_failures, refuses_elsewhere}
 use Rattle.demands.specs.Unheard.{AllAlike, no_calls, one_more, same_call, other_bytes, Unheard}
 use Rattle.demands.proofs.UnheardSamples.{nothing}
-use Rattle.demands.specs.History.{burning, lamp_with}
+use Rattle.demands.specs.History.{burning_seconds, lamp_with}
 use Rattle.demands.specs.CountsSeconds.{CountsSeconds, TimeAdds, sets_up, all_enabled, IsAccepted, run_of, history_of}
 use Rattle.demands.specs.WrongClocks.{still_clock, first_only, drops_part_hour}
 use Rattle.demands.specs.Interleaved.{Interleaved, heard, alone_at}
@@ -253,7 +253,7 @@ sessions = opens 0 memory ∷ rounds 2 (says "%1POWR 1" ∷ passes 20 ∷ says "
 module _ (B : Board) (h : CountsSeconds B) (accepted : IsAccepted B sets_up sample) where
   -- what the demand says of the one lamp
   told : slice_index_or (B.shows (run_of B sets_up sample sessions)).own.lamps 0 0
-      ≡ lamp_with (burning sample (all_enabled sample) 0 (history_of B sets_up sample sessions)) 0
+      ≡ lamp_with (burning_seconds sample (all_enabled sample) 0 (history_of B sets_up sample sessions)) 0
   told = h.lamps_tell_the_history sets_up sample sessions 0 accepted (omega arith)
 
 -- stored, and burnt: its power stays in warm-up, so one set is answered OK and every second burns
@@ -306,7 +306,7 @@ ours_answers_halves = (refl, refl)
 module _ (B : Board) (h : CountsSeconds B) (accepted : IsAccepted B sets_up two_lamps) where
   -- what the demand says of the second lamp
   rests_told : slice_index_or (B.shows (run_of B sets_up two_lamps one_rests)).own.lamps 1 0
-      ≡ lamp_with (burning two_lamps (all_enabled two_lamps) 1 (history_of B sets_up two_lamps one_rests)) 0
+      ≡ lamp_with (burning_seconds two_lamps (all_enabled two_lamps) 1 (history_of B sets_up two_lamps one_rests)) 0
   rests_told = h.lamps_tell_the_history sets_up two_lamps one_rests 1 accepted (omega arith)
 
 -- stored, and burnt

@@ -14,7 +14,7 @@ use Rattle.stored.specs.Form.{form_version, marked_form_of, old_form_of, stored_
 use Rattle.stored.specs.Loading.{started_with}
 use Rattle.ours.specs.Board.{Board, bytes_written}
 use Rattle.demands.specs.Calls.{Call, run}
-use Rattle.demands.specs.History.{no_streams, history, marks_after, burning, lamp_with}
+use Rattle.demands.specs.History.{no_streams, history, marks_after, burning_seconds, lamp_with}
 use Rattle.demands.specs.CountsSeconds.{Beginning, IsClass1, start_marks, IsAccepted, run_of, history_of}
 
 pub record LoadsAs (B : Board) (s : List ℕ) (w : Wanted) (ms : List Bool) : Type 0 where
@@ -52,6 +52,6 @@ pub record BoardSwap (B : Board) : Type 0 where
       (B.store old m).number ≡ 0
       → slice_index_or (B.shows (run B new es)).own.lamps place 0
       ≡ lamp_with
-      (burning w (start_marks b w) place (history_of B b w cs)
-      + burning w (marks_after (start_marks b w) (history_of B b w cs)) place (history B new no_streams es))
+      (burning_seconds w (start_marks b w) place (history_of B b w cs)
+      + burning_seconds w (marks_after (start_marks b w) (history_of B b w cs)) place (history B new no_streams es))
       (slice_index_or w.lamps place 0)

@@ -8,7 +8,7 @@
 use Rattle.std.specs.Prelude.{ℕ, ◌≡◌}
 use Rattle.record.specs.declared.types.Device.{Device}
 use Rattle.record.specs.Places.{with_place, lowest_shut}
-use Rattle.device.specs.Calls.{greeting, greeted}
+use Rattle.device.specs.Calls.{greeting, new_connection}
 use Rattle.ours.specs.Board.{Board, Lent, reply}
 use Rattle.record.specs.Given.{Given}
 
@@ -16,7 +16,7 @@ pub record OpenedAs (B : Board) (d : B.Record) (random place : ℕ) (r : Lent B.
   pub replied : reply r ≡ greeting (B.shows d).settings random
   pub lowest : place ≡ lowest_shut (B.shows d).connections
   pub device : B.shows r.device
-      ≡ with_place (B.shows d) (B.shows d).own place (greeted (B.shows d).settings random)
+      ≡ with_place (B.shows d) (B.shows d).own place (new_connection (B.shows d).settings random)
 
 -- where it is accepted
 abbrev pub Leaves : (B : Board) → Given B.Record → Device → Type 0

@@ -25,8 +25,8 @@ use Rattle.record.specs.Limits.{awaiting, opened}
 use Rattle.record.specs.declared.types.Settings.{Settings}
 use Rattle.record.specs.declared.types.Own.{Own}
 use Rattle.record.specs.declared.types.Device.{Device}
-use Rattle.meaning.specs.Meaning.{meant, done}
-use Rattle.device.specs.Answering.{Answered, swallowed}
+use Rattle.meaning.specs.Meaning.{answer_for, after_request}
+use Rattle.device.specs.Answering.{Answered, line_swallowed}
 use Rattle.device.specs.Calls.{reply_room}
 use Rattle.ours.specs.Board.{Board}
 use Rattle.demands.specs.SpeaksPjlink.{BetweenLines, AnsweredAs, digest_for}
@@ -38,13 +38,13 @@ abbrev pub line_before : Settings → Own → List ℕ → Answered
 line_before s o l =
     if is_command_form_1 l
     then record {
-      own = done s o (asked_as_before l);
-      reply = codes "%1" ++ head_body l ++ codes "=" ++ said_bytes (meant s o (asked_as_before l)) ++ codes "\r";
+      own = after_request s o (asked_as_before l);
+      reply = codes "%1" ++ head_body l ++ codes "=" ++ said_bytes (answer_for s o (asked_as_before l)) ++ codes "\r";
     }
-    else swallowed o
+    else line_swallowed o
 
 abbrev pub answer_before : Device → List ℕ → Answered
-answer_before d l = if nat_le (length l) command_most then line_before d.settings d.own l else swallowed d.own
+answer_before d l = if nat_le (length l) command_most then line_before d.settings d.own l else line_swallowed d.own
 
 abbrev pub longest_before : ℕ
 longest_before = 103
@@ -64,6 +64,6 @@ pub record ClassOneKept (B : Board) : Type 0 where
   -- "and drops `%2` lines", whatever follows
   pub drops_class_2 : (d : B.Record) (p : ℕ) (l m : List ℕ) → OfClass1 B d → BetweenLines opened (B.shows d) p
       → no_cr l ≡ true → (l at 1 is "2") ≡ true → reply_room ≤ length m
-      → let bs = l ++ codes "\r" in AnsweredAs B d p bs (swallowed (B.shows d).own) (B.receive d p bs m)
+      → let bs = l ++ codes "\r" in AnsweredAs B d p bs (line_swallowed (B.shows d).own) (B.receive d p bs m)
   -- RULES, Inputs: "the longest reply is 103"
   pub reply_short : (d : B.Record) (p : ℕ) (bs m : List ℕ) → OfClass1 B d → (B.receive d p bs m).length ≤ longest_before

@@ -40,8 +40,9 @@ use Rattle.record.specs.Given.{Given}
 use Rattle.demands.specs.Calls.{Call, run}
 use Rattle.demands.specs.CallsDone.{Leaves}
 use Rattle.demands.specs.SpeaksPjlink.{BetweenLines}
-use Rattle.demands.specs.History.{Event, switched, a_second, mark_switched, no_streams, history, Stage, steady, next}
-use Rattle.demands.specs.History.{marks_after, burning, stage_after, stage_is_burning, lamp_with}
+use Rattle.demands.specs.History.{Event, switched, a_second, mark_switched, no_streams, history, Stage, steady}
+use Rattle.demands.specs.History.{next_stage}
+use Rattle.demands.specs.History.{marks_after, burning_seconds, stage_after, stage_is_burning, lamp_with}
 
 pub data Beginning : Type 0 where
   sets_up : Beginning
@@ -86,7 +87,7 @@ module _ (B : Board) where
 -- the lamp at place k, which started with so many seconds
 abbrev pub lamp_then : Wanted → List Bool → List Event → ℕ → ℕ → LampHours
 lamp_then w ms es k start = record {
-  hours = lamp_with (burning w ms k es) start / 3600;
+  hours = lamp_with (burning_seconds w ms k es) start / 3600;
   lit = stage_is_burning (stage_after w es) && slice_index_or (marks_after ms es) k false;
 }
 
@@ -105,10 +106,10 @@ count_set (m ∷ ms) = (if m then 1 else 0) + count_set ms
 abbrev pub burnt_by_marks : Wanted → Stage → List Bool → List Event → ℕ
 burnt_by_marks w g ms [] = 0
 burnt_by_marks w g ms (a_second ∷ es) =
-    (if stage_is_burning g then count_set ms else 0) + burnt_by_marks w (next w g a_second) ms es
-burnt_by_marks w g ms (switched wanted ∷ es) = burnt_by_marks w (next w g (switched wanted)) ms es
+    (if stage_is_burning g then count_set ms else 0) + burnt_by_marks w (next_stage w g a_second) ms es
+burnt_by_marks w g ms (switched wanted ∷ es) = burnt_by_marks w (next_stage w g (switched wanted)) ms es
 burnt_by_marks w g ms (mark_switched lamp mark ∷ es) =
-    burnt_by_marks w (next w g (mark_switched lamp mark)) (set ms lamp mark) es
+    burnt_by_marks w (next_stage w g (mark_switched lamp mark)) (set ms lamp mark) es
 
 abbrev pub sum_of : ℕ → (ℕ → ℕ) → ℕ
 sum_of zero f = 0
@@ -139,12 +140,12 @@ pub record CountsSeconds (B : Board) : Type 0 where
   pub lamps_tell_the_history : (b : Beginning) (w : Wanted) (cs : List Call) (place : ℕ) → IsAccepted B b w
       → place < length w.lamps
       → slice_index_or (B.shows (run_of B b w cs)).own.lamps place 0
-      ≡ lamp_with (burning w (start_marks b w) place (history_of B b w cs)) (slice_index_or w.lamps place 0)
+      ≡ lamp_with (burning_seconds w (start_marks b w) place (history_of B b w cs)) (slice_index_or w.lamps place 0)
   -- RULES, Lamps: while no lamp reaches the limit, the sum over the lamps of the seconds gained is the seconds of
   -- burning, each counted once for each mark that stood
   pub fleet_adds_up : (b : Beginning) (w : Wanted) (cs : List Call) → IsAccepted B b w
       → ((k : ℕ) → k < length w.lamps
-      → slice_index_or w.lamps k 0 + burning w (start_marks b w) k (history_of B b w cs) ≤ lamp_limit)
+      → slice_index_or w.lamps k 0 + burning_seconds w (start_marks b w) k (history_of B b w cs) ≤ lamp_limit)
       → sum_of (length w.lamps)
       (λ k. slice_index_or (B.shows (run_of B b w cs)).own.lamps k 0 - slice_index_or w.lamps k 0)
       ≡ burnt_by_marks w (steady false) (start_marks b w) (history_of B b w cs)

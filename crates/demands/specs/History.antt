@@ -7,8 +7,8 @@
 --                         order made; a refused call counts as nothing
 --   Stage                 the outsider's own clock, which starts off: steady, or on the way there for so many seconds
 --   marks_after ms es     his marks, one a lamp: those it began with, and the mark calls that gave 0 (RULES, Lamps)
---   burning w ms k es     the seconds of a history that lie in warm-up or power-on with the mark of the lamp at place k
---                         set, where it began with the marks ms
+--   burning_seconds w ms k es  the seconds of a history that lie in warm-up or power-on with the mark of the lamp at
+--                         place k set, where it began with the marks ms
 --   lamp_with n start     a lamp's seconds: what it started with and what it burnt, stopped at 359,999,999
 -- Assumes nothing.
 use Rattle.std.specs.Prelude.{ℕ, ◌+◌, ◌-◌, min, Bool, true, false, not, ◌&&◌, if◌then◌else◌}
@@ -81,16 +81,16 @@ pub data Stage : Type 0 where
   steady : (on : Bool) → Stage
   towards : (on : Bool) (seconds : ℕ) → Stage
 
-abbrev pub next : Wanted → Stage → Event → Stage
-next w (steady false) (switched true) = towards true w.warm
-next w (steady true) (switched false) = towards false w.cool
-next w (steady true) (switched true) = steady true
-next w (steady false) (switched false) = steady false
-next w (towards on n) (switched wanted) = towards on n
-next w (steady on) a_second = steady on
-next w (towards on n) a_second = if nat_le n 1 then steady on else towards on (n - 1)
-next w (steady on) (mark_switched lamp mark) = steady on
-next w (towards on n) (mark_switched lamp mark) = towards on n
+abbrev pub next_stage : Wanted → Stage → Event → Stage
+next_stage w (steady false) (switched true) = towards true w.warm
+next_stage w (steady true) (switched false) = towards false w.cool
+next_stage w (steady true) (switched true) = steady true
+next_stage w (steady false) (switched false) = steady false
+next_stage w (towards on n) (switched wanted) = towards on n
+next_stage w (steady on) a_second = steady on
+next_stage w (towards on n) a_second = if nat_le n 1 then steady on else towards on (n - 1)
+next_stage w (steady on) (mark_switched lamp mark) = steady on
+next_stage w (towards on n) (mark_switched lamp mark) = towards on n
 
 -- his marks, one a lamp
 abbrev pub marks_next : List Bool → Event → List Bool
@@ -107,24 +107,24 @@ stage_is_burning (steady on) = on
 stage_is_burning (towards on n) = on
 
 -- the lamp at place k, if its mark is set (RULES, Lamps)
-abbrev pub burns : Stage → List Bool → ℕ → Event → ℕ
-burns g ms k a_second = if stage_is_burning g && slice_index_or ms k false then 1 else 0
-burns g ms k e = 0
+abbrev pub burnt_in : Stage → List Bool → ℕ → Event → ℕ
+burnt_in g ms k a_second = if stage_is_burning g && slice_index_or ms k false then 1 else 0
+burnt_in g ms k e = 0
 
-abbrev pub reached : Wanted → Stage → List Event → Stage
-reached w g [] = g
-reached w g (e ∷ es) = reached w (next w g e) es
+abbrev pub stage_from : Wanted → Stage → List Event → Stage
+stage_from w g [] = g
+stage_from w g (e ∷ es) = stage_from w (next_stage w g e) es
 
 abbrev pub burning_from : Wanted → Stage → List Bool → ℕ → List Event → ℕ
 burning_from w g ms k [] = 0
-burning_from w g ms k (e ∷ es) = burns g ms k e + burning_from w (next w g e) (marks_next ms e) k es
+burning_from w g ms k (e ∷ es) = burnt_in g ms k e + burning_from w (next_stage w g e) (marks_next ms e) k es
 
-abbrev pub burning : Wanted → List Bool → ℕ → List Event → ℕ
-burning w ms k es = burning_from w (steady false) ms k es
+abbrev pub burning_seconds : Wanted → List Bool → ℕ → List Event → ℕ
+burning_seconds w ms k es = burning_from w (steady false) ms k es
 
 -- a device starts off
 abbrev pub stage_after : Wanted → List Event → Stage
-stage_after w es = reached w (steady false) es
+stage_after w es = stage_from w (steady false) es
 
 abbrev pub lamp_with : ℕ → ℕ → ℕ
 lamp_with n start = min lamp_limit (start + n)

@@ -3,7 +3,7 @@
 -- the other places' commands did to the projector. What the others do is seen at a place in one way only: by the own
 -- part of the projector at the moments at which a line ends there.
 -- TO BELIEVE IT, believe, and nothing else: what a byte and a line's end do to one connection (device/specs/Receiving:
--- `keeping_line`, `line_ended`; stream/specs/Collecting: `collected`); the record (record/specs); ours/specs/Board;
+-- `keeping_line`, `line_ended`; stream/specs/Collecting: `line_after`); the record (record/specs); ours/specs/Board;
 -- here Calls.
 --   Heard                    what is seen at a place: the bytes taken and the replies, each in one row, and the own
 --                            part at each moment at which a call there took a CR
@@ -27,7 +27,7 @@ use Rattle.record.specs.Places.{connection_at, is_shut}
 use Rattle.record.specs.declared.types.Settings.{Settings}
 use Rattle.record.specs.declared.types.Own.{Own}
 use Rattle.record.specs.declared.types.Connection.{Connection}
-use Rattle.stream.specs.Collecting.{collected}
+use Rattle.stream.specs.Collecting.{line_after}
 use Rattle.device.specs.Receiving.{line_ended, keeping_line}
 use Rattle.device.specs.Calls.{reply_room}
 use Rattle.ours.specs.Board.{Board, reply}
@@ -92,7 +92,7 @@ alone_at s c owns [] = record { reply = []; connection = c }
 alone_at s c owns (b ∷ bs) =
     let e = line_ended s (first_own owns) c c.line in
     if b is "\r" then answered_first e.reply (alone_at s e.connection (drop 1 owns) bs)
-    else alone_at s (keeping_line c (collected (held_most c.phase) c.line b)) owns bs
+    else alone_at s (keeping_line c (line_after (held_most c.phase) c.line b)) owns bs
 
 abbrev pub line_ends : List ℕ → ℕ
 line_ends [] = 0

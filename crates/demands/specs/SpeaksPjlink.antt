@@ -2,7 +2,7 @@
 -- the digest of RFC 1321. On an open connection between lines, for every command our writer makes without a digest and
 -- in every legal state, what our reader, told the command, takes from the reply is what the projector meant. On a
 -- secured connection a first line without the matching digest yields the refusal line only; power, input, mutes and
--- lamps stay." What the projector meant is `meant`, the table of RULES, Commands (crate `meaning`), which knows no
+-- lamps stay." What the projector meant is `answer_for`, the table of RULES, Commands (crate `meaning`), which knows no
 -- bytes but a set-up's inputs, two characters each, by the table of RULES, Inputs.
 -- TO BELIEVE IT, believe, and nothing else: MD5 and its digits (digest/specs); inputs, texts, UTF-8 and values
 -- (words/specs), lines, commands and requests (pjlink/specs: Bodies, Commands, Forms, Requests); what
@@ -39,15 +39,15 @@ use Rattle.pjlink.specs.Said.{Said, text_is}
 use Rattle.record.specs.Limits.{places_count, awaiting, opened, failed}
 use Rattle.record.specs.Wanted.{Wanted}
 use Rattle.record.specs.Legal.{is_legal}
-use Rattle.record.specs.Record.{closed, started}
+use Rattle.record.specs.Record.{closed, start_device}
 use Rattle.record.specs.Updates.{with_own, with_fault, with_errors, with_marks}
 use Rattle.record.specs.Places.{connection_at, with_place, is_shut}
 use Rattle.record.specs.declared.types.Device.{Device}
 use Rattle.record.specs.declared.types.Connection.{Connection}
-use Rattle.meaning.specs.Meaning.{meant, done}
-use Rattle.stream.specs.Machine.{Out, Took, handed_parts, uncut}
-use Rattle.device.specs.Answering.{Answered, line_answer, swallowed}
-use Rattle.device.specs.Receiving.{turned, set_up_password, is_led_by}
+use Rattle.meaning.specs.Meaning.{answer_for, after_request}
+use Rattle.stream.specs.Machine.{Out, Took, handed_parts, stream_of}
+use Rattle.device.specs.Answering.{Answered, line_answer, line_swallowed}
+use Rattle.device.specs.Receiving.{phase_start, set_up_password, is_led_by}
 use Rattle.device.specs.Calls.{longest_reply, reply_room, has_password}
 use Rattle.controller.specs.Writing.{command_room, led_by}
 use Rattle.controller.specs.Reading.{meaning, LineSays}
@@ -70,7 +70,7 @@ pub record BetweenLines (phase : ℕ) (d : Device) (p : ℕ) : Type 0 where
 
 -- open and between lines, the random number kept
 abbrev pub open_again : Connection → Connection
-open_again c = turned c opened
+open_again c = phase_start c opened
 
 -- ---- what is read of the reply to a command
 
@@ -79,9 +79,9 @@ module _ (B : Board) where
     pub wrote : w.number ≡ 0
     pub number : r.number ≡ 0
     pub taken : r.taken ≡ w.length
-    pub read : B.read_reply c (reply r) ≡ meaning (meant (B.shows d).settings (B.shows d).own (Ok c))
+    pub read : B.read_reply c (reply r) ≡ meaning (answer_for (B.shows d).settings (B.shows d).own (Ok c))
     pub device : B.shows r.device
-        ≡ with_place (B.shows d) (done (B.shows d).settings (B.shows d).own (Ok c)) p
+        ≡ with_place (B.shows d) (after_request (B.shows d).settings (B.shows d).own (Ok c)) p
         (open_again (connection_at (B.shows d) p))
 
   -- ---- any line, from any controller: what it is answered by the tables of RULES, and what it leaves
@@ -95,7 +95,7 @@ module _ (B : Board) where
 
   pub record IsSwallowed (d : B.Record) (p : ℕ) (w : Wrote) (r : Lent B.Record) : Type 0 where
     pub wrote : w.number ≡ 0
-    pub left : AnsweredAs d p (bytes_written w) (swallowed (B.shows d).own) r
+    pub left : AnsweredAs d p (bytes_written w) (line_swallowed (B.shows d).own) r
 
   -- "the reader returns what the projector meant, for every command of a class no higher than the set-up's; a higher
   -- one gets no reply and changes nothing but what swallowing a line does"
@@ -105,7 +105,7 @@ module _ (B : Board) where
 
 -- a line of more than 135 bytes is swallowed
 abbrev pub answer_to : Device → List ℕ → Answered
-answer_to d l = if nat_le (length l) command_most then line_answer d.settings d.own l else swallowed d.own
+answer_to d l = if nat_le (length l) command_most then line_answer d.settings d.own l else line_swallowed d.own
 
 -- ---- the digest
 
@@ -189,7 +189,7 @@ pub record SpeaksPjlink (B : Board) : Type 0 where
   -- and lamps stay": whatever follows it, and however it all is cut
   pub outsider_refused : (d : B.Record) (p : ℕ) (l more m : List ℕ) (ps : List (List ℕ))
       → BetweenLines awaiting (B.shows d) p → no_cr l ≡ true → is_led (B.shows d) p l ≡ false → reply_room ≤ length m
-      → uncut ps ≡ l ++ codes "\r" ++ more
+      → stream_of ps ≡ l ++ codes "\r" ++ more
       → RefusalOnly B d p (handed_on B m p d ps)
   -- and over any calls, whoever else makes them: at a place that starts closed on a device with a password, so long as
   -- no first line of a connection there is led by the digest of its opening's number
@@ -204,7 +204,7 @@ pub record SpeaksPjlink (B : Board) : Type 0 where
       → ((p : ℕ) → p < places_count → IsNeverMatched B p (set_up_password (B.shows d).settings) d unopened cs)
       → HostsAlone B d cs
   -- RULES, The legal record, Connection and Time: what the other calls leave, where they are accepted
-  pub set_up_shows : (w : Wanted) → Leaves B (B.set_up w) (started w)
+  pub set_up_shows : (w : Wanted) → Leaves B (B.set_up w) (start_device w)
   pub opens : (d : B.Record) (random : ℕ) (m : List ℕ) → (B.opening d random m).number ≡ 0
       → OpenedAs B d random (B.place_opened d random m) (B.opening d random m)
   pub closes : (d : B.Record) (p : ℕ)
@@ -229,7 +229,8 @@ pub record SpeaksPjlink (B : Board) : Type 0 where
   -- RULES, Connection: "Handed on until all is taken, with no time between, a stream gives the same reply bytes and end
   -- state however it is cut"
   pub same_however_cut : (d : B.Record) (p : ℕ) (m : List ℕ) (ps qs : List (List ℕ)) → is_legal (B.shows d) ≡ true
-      → p < places_count → is_shut (connection_at (B.shows d) p) ≡ false → reply_room ≤ length m → uncut ps ≡ uncut qs
+      → p < places_count → is_shut (connection_at (B.shows d) p) ≡ false → reply_room ≤ length m
+      → stream_of ps ≡ stream_of qs
       → handed_on B m p d ps ≡ handed_on B m p d qs
   -- RULES, Places: "One place's bytes never touch another's connection"
   pub others_untouched : (d : B.Record) (c : Call) (q : ℕ) → Elsewhere B d c q

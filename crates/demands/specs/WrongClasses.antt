@@ -8,7 +8,7 @@ use Rattle.pjlink.specs.Forms.{reply_parameter}
 use Rattle.record.specs.Limits.{volume_most}
 use Rattle.record.specs.Updates.{with_own, with_volumes}
 use Rattle.record.specs.declared.types.Device.{Device}
-use Rattle.controller.specs.Reading.{without, read_reply}
+use Rattle.controller.specs.Reading.{outcome_alone, read_reply}
 use Rattle.controller.specs.Reading.{disallowed}
 use Rattle.ours.specs.Board.{Board, ours, lent_by}
 use Rattle.demands.specs.OursBut.{but_receive, but_reader}
@@ -29,7 +29,7 @@ answers_class_2 = but_receive (λ d p bs m.
 -- keeps the rule of Class 1 for the input that is told: a digit 1 to 9
 abbrev pub refuses_letters : Board
 refuses_letters = but_reader (λ c l.
-    if same_by itself (reply_parameter l) (codes "6A") then without disallowed else read_reply c l)
+    if same_by itself (reply_parameter l) (codes "6A") then outcome_alone disallowed else read_reply c l)
 
 -- from the top, one step up is the bottom
 abbrev from_the_top : Device → Device → Device

@@ -38,12 +38,12 @@ drops_part_hour = but_receive (λ d p bs m.
 abbrev Marked : Type 0
 Marked = Device × Bool
 
-abbrev session : Marked → Device → Marked
-session (before, is_over) now =
+abbrev session_on : Marked → Device → Marked
+session_on (before, is_over) now =
     (if is_over then having_lamps now before.own.lamps else now, is_over || goes_dark before now)
 
-abbrev marked : Marked → Given Device → Given Marked
-marked b r = record { number = r.number; device = session b r.device }
+abbrev with_session : Marked → Given Device → Given Marked
+with_session b r = record { number = r.number; device = session_on b r.device }
 
 abbrev marked_lent : Marked → Lent Device → Lent Marked
 marked_lent b r = record {
@@ -51,7 +51,7 @@ marked_lent b r = record {
   taken = r.taken;
   length = r.length;
   memory = r.memory;
-  device = session b r.device;
+  device = session_on b r.device;
 }
 
 abbrev pub first_only : Board
@@ -61,12 +61,12 @@ first_only = record {
   set_up = λ w. record { number = (ours.set_up w).number; device = ((ours.set_up w).device, false) };
   opening = λ b random m. marked_lent b (ours.opening b.0 random m);
   place_opened = λ b random m. ours.place_opened b.0 random m;
-  closing = λ b p. marked b (ours.closing b.0 p);
+  closing = λ b p. with_session b (ours.closing b.0 p);
   receive = λ b p bs m. marked_lent b (ours.receive b.0 p bs m);
-  pass = λ b n. marked b (ours.pass b.0 n);
-  set_fault = λ b mark. marked b (ours.set_fault b.0 mark);
-  set_errors = λ b digits. marked b (ours.set_errors b.0 digits);
-  set_mark = λ b lamp mark. marked b (ours.set_mark b.0 lamp mark);
+  pass = λ b n. with_session b (ours.pass b.0 n);
+  set_fault = λ b mark. with_session b (ours.set_fault b.0 mark);
+  set_errors = λ b digits. with_session b (ours.set_errors b.0 digits);
+  set_mark = λ b lamp mark. with_session b (ours.set_mark b.0 lamp mark);
   store = λ b m. ours.store b.0 m;
   load = λ s. record { number = (ours.load s).number; device = ((ours.load s).device, false) };
   md5 = ours.md5;

@@ -8,7 +8,7 @@ use Rattle.record.specs.Limits.{awaiting, opened, failed}
 use Rattle.record.specs.Wanted.{Wanted, with_password}
 use Rattle.record.specs.declared.types.Device.{Device}
 use Rattle.record.specs.Places.{connection_at, with_place}
-use Rattle.device.specs.Receiving.{turned}
+use Rattle.device.specs.Receiving.{phase_start}
 use Rattle.device.specs.Calls.{Result, opened_by, place_taken}
 use Rattle.ours.specs.Board.{Board, ours, lent_by}
 use Rattle.demands.specs.Sample.{sample}
@@ -22,11 +22,11 @@ forgets_password = but_set_up (λ w. ours.set_up (with_password [] w))
 
 -- the device with the connection at place p open, whatever it was
 abbrev let_in : Device → ℕ → Device
-let_in d p = with_place d d.own p (turned (connection_at d p) opened)
+let_in d p = with_place d d.own p (phase_start (connection_at d p) opened)
 
 -- `PJLINK 0`, password or not
-abbrev openly : ℕ → Result Device → Result Device
-openly p r =
+abbrev opened_openly : ℕ → Result Device → Result Device
+opened_openly p r =
     if r.number == 0 then record {
       number = 0;
       taken = 0;
@@ -37,7 +37,7 @@ openly p r =
 
 abbrev pub ignores_password : Board
 ignores_password =
-    but_opening (λ d random m. lent_by (openly (place_taken d (length m)) (opened_by d random (length m))) m)
+    but_opening (λ d random m. lent_by (opened_openly (place_taken d (length m)) (opened_by d random (length m))) m)
 
 abbrev pub greets_with_zero : Board
 greets_with_zero = but_opening (λ d random m. ours.opening d 0 m)

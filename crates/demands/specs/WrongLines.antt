@@ -15,7 +15,7 @@ use Rattle.record.specs.declared.types.Device.{Device}
 use Rattle.stream.specs.Collecting.{empty_line}
 use Rattle.record.specs.Places.{connection_at, with_place}
 use Rattle.device.specs.Calls.{refused_by}
-use Rattle.controller.specs.Reading.{ReadAs, meaning, without, read_reply}
+use Rattle.controller.specs.Reading.{ReadAs, meaning, outcome_alone, read_reply}
 use Rattle.controller.specs.Reading.{Outcome}
 use Rattle.controller.specs.Reading.{means_it, erra_said, not_a_line, other_command, disallowed}
 use Rattle.ours.specs.Board.{Board, Lent, ours, lent_by}
@@ -59,11 +59,11 @@ refuses_all = record {
 }
 
 -- our receiving, with its result changed
-abbrev retelling : (Lent Device → Lent Device) → Board
-retelling change = but_receive (λ d p bs m. change (ours.receive d p bs m))
+abbrev retelling_by : (Lent Device → Lent Device) → Board
+retelling_by change = but_receive (λ d p bs m. change (ours.receive d p bs m))
 
 abbrev pub made_up_length : Board
-made_up_length = retelling (λ r. record {
+made_up_length = retelling_by (λ r. record {
   number = r.number;
   taken = r.taken;
   length = suc r.length;
@@ -72,7 +72,7 @@ made_up_length = retelling (λ r. record {
 })
 
 abbrev pub made_up_taken : Board
-made_up_taken = retelling (λ r. record {
+made_up_taken = retelling_by (λ r. record {
   number = r.number;
   taken = suc r.taken;
   length = r.length;
@@ -82,7 +82,7 @@ made_up_taken = retelling (λ r. record {
 
 -- "Upper-casing the echoed body"
 abbrev pub upper_cases : Board
-upper_cases = retelling (λ r. record {
+upper_cases = retelling_by (λ r. record {
   number = r.number;
   taken = r.taken;
   length = r.length;
@@ -91,27 +91,27 @@ upper_cases = retelling (λ r. record {
 })
 
 -- forgets the collected bytes where it is handed none
-abbrev forgetful : Device → ℕ → List ℕ → List ℕ → Lent Device
-forgetful d p [] m =
+abbrev forgetting_at : Device → ℕ → List ℕ → List ℕ → Lent Device
+forgetting_at d p [] m =
     let none = with_place d d.own p (with_line (connection_at d p) empty_line) in
     lent_by (record { number = 0; taken = 0; reply = []; device = none }) m
-forgetful d p (b ∷ bs) m = ours.receive d p (b ∷ bs) m
+forgetting_at d p (b ∷ bs) m = ours.receive d p (b ∷ bs) m
 
 abbrev pub forgets_at_nothing : Board
-forgets_at_nothing = but_receive forgetful
+forgets_at_nothing = but_receive forgetting_at
 
 -- takes a NAME reply in other letters than our projector's for the empty text
-abbrev emptied : Outcome → ReadAs
-emptied means_it = meaning (text_is [])
-emptied erra_said = without erra_said
-emptied not_a_line = without not_a_line
-emptied other_command = without other_command
-emptied disallowed = without disallowed
+abbrev empty_reading : Outcome → ReadAs
+empty_reading means_it = meaning (text_is [])
+empty_reading erra_said = outcome_alone erra_said
+empty_reading not_a_line = outcome_alone not_a_line
+empty_reading other_command = outcome_alone other_command
+empty_reading disallowed = outcome_alone disallowed
 
 abbrev reads_our_names : Command → List ℕ → ReadAs
 reads_our_names c l =
     if is_body 1 (head_body l) Name && not (same_by itself (head_body l) (codes "NAME"))
-    then emptied (read_reply c l).outcome else read_reply c l
+    then empty_reading (read_reply c l).outcome else read_reply c l
 
 abbrev pub others_nameless : Board
 others_nameless = but_reader reads_our_names

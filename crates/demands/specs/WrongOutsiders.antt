@@ -58,8 +58,8 @@ owing_then r place = record {
 }
 
 -- with that line for the reply
-abbrev replying : Lent Device → List ℕ → List ℕ → Lent Device
-replying r line m = record {
+abbrev replying_with : Lent Device → List ℕ → List ℕ → Lent Device
+replying_with r line m = record {
   number = r.number;
   taken = r.taken;
   length = length line;
@@ -70,9 +70,9 @@ replying r line m = record {
 abbrev answered_elsewhere : Owing → ℕ → List ℕ → List ℕ → Lent Owing
 answered_elsewhere b p bs m =
     let r = ours.receive b.0 p bs m in
-    if fails_now b.0 p r.device then owing_then (replying r [] m) p
+    if fails_now b.0 p r.device then owing_then (replying_with r [] m) p
     else if is_no_place b.1 || b.1 == p then owing_then r b.1
-    else owing_then (replying r erra_line m) places_count
+    else owing_then (replying_with r erra_line m) places_count
 
 abbrev pub refuses_elsewhere : Board
 refuses_elsewhere = record {

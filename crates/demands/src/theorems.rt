@@ -6,10 +6,10 @@ ghost use Rattle.record.specs.Limits.{places_count, awaiting, failed, cooling};
 ghost use Rattle.record.specs.Legal.{is_legal, held_most};
 ghost use Rattle.record.specs.Places.{connection_at};
 ghost use Rattle.record.specs.declared.types.Device.{Device};
-ghost use Rattle.stream.specs.Collecting.{gathered};
+ghost use Rattle.stream.specs.Collecting.{gathered_from};
 ghost use Rattle.device.specs.Receiving.{is_match, set_up_password};
-ghost use Rattle.device.specs.Calls.{reply_room, longest_reply, has_password, received};
-ghost use Rattle.controller.specs.Reading.{read_reply, without, erra_said};
+ghost use Rattle.device.specs.Calls.{reply_room, longest_reply, has_password, received_at};
+ghost use Rattle.controller.specs.Reading.{read_reply, outcome_alone, erra_said};
 ghost use Rattle.ours.specs.Board.{ours, reply};
 ghost use Rattle.demands.specs.Calls.{run, after, opens, receives};
 ghost use Rattle.demands.specs.ClassOne.{longest_before};
@@ -29,8 +29,9 @@ ghost use Rattle.demands.specs.WrongLamps.{two_lamps, one_rests};
 pub fn outsiders_read_erra()
     ensures { (d : Device) (p : ℕ) (bytes : List ℕ) (room : ℕ) (c : Command) → is_legal d ≡ true → reply_room ≤ room
         → p < places_count → let k = connection_at d p in k.phase ≡ awaiting
-        → let g = gathered (held_most k.phase) k.line bytes in g.ended ≡ true → is_match d.settings k g.line ≡ false
-        → read_reply c (received d p bytes room).reply ≡ without erra_said }
+        → let g =
+        gathered_from (held_most k.phase) k.line bytes in g.ended ≡ true → is_match d.settings k g.line ≡ false
+        → read_reply c (received_at d p bytes room).reply ≡ outcome_alone erra_said }
 {}
 
 /// The lines that settle the rules are answered so, and eleven of Class 2 (RULES, Commands and Class 2).

@@ -18,8 +18,8 @@ use Rattle.record.specs.declared.types.Settings.{Settings}
 use Rattle.record.specs.declared.types.Connection.{Connection}
 use Rattle.record.specs.declared.types.Device.{Device}
 use Rattle.device.specs.Receiving.{Taken, begun_in, taken_in}
-use Rattle.device.specs.Calls.{Result, refused_by, made, reply_room, accepted_taken, opening_rows}
-use Rattle.device.specs.Calls.{received, has_password, greeting, greeted, accepted_opening, opened_by}
+use Rattle.device.specs.Calls.{Result, refused_by, plain_result, reply_room, accepted_taken, opening_rows}
+use Rattle.device.specs.Calls.{received_at, has_password, greeting, new_connection, accepted_opening, opened_by}
 use Rattle.device.specs.Calls.{place_taken, closed_by}
 
 abbrev pub takes : Device → ℕ → List ℕ → Taken
@@ -30,21 +30,21 @@ module _ (d : Device) (p : ℕ) (bs : List ℕ) (room : ℕ) where
   pub received_by : (P : Result Device → Type 0) → ((n : ℕ) → (n ≡ 0 → ⊥) → P (refused_by n d))
       → (is_legal d ≡ true → reply_room ≤ room → p < places_count → is_shut (connection_at d p) ≡ false
       → P (accepted_taken d p (takes d p bs)))
-      → P (received d p bs room)
-  unfolding received
+      → P (received_at d p bs room)
+  unfolding received_at
   received_by P refused taken = grind arith
 
   pub received_taken : is_legal d ≡ true → reply_room ≤ room → p < places_count → is_shut (connection_at d p) ≡ false
-      → received d p bs room ≡ accepted_taken d p (takes d p bs)
-  unfolding received
+      → received_at d p bs room ≡ accepted_taken d p (takes d p bs)
+  unfolding received_at
   received_taken legal enough there live = grind arith
 
 -- two results by one table: refused both, or done both
-rows_both : {R S : Type 0} (P : R → S → Type 0) {refuse : ℕ → R} {decline : ℕ → S} {done : R} {made : S}
+rows_both : {R S : Type 0} (P : R → S → Type 0) {refuse : ℕ → R} {decline : ℕ → S} {done : R} {granted : S}
     → ((n : ℕ) → (n ≡ 0 → ⊥) → P (refuse n) (decline n)) → (rows : List Row) → list_all is_numbered rows ≡ true
-    → (NoneOf rows → P done made) → P (by_rows rows refuse done) (by_rows rows decline made)
+    → (NoneOf rows → P done granted) → P (by_rows rows refuse done) (by_rows rows decline granted)
 rows_both P refused [] numbered does = does tt
-rows_both P {refuse} {decline} {done} {made} refused (row ∷ rows) numbered does =
+rows_both P {refuse} {decline} {done} {granted} refused (row ∷ rows) numbered does =
     by row.applies refl
     (λ none. rows_both P refused rows (both_right (is_numbered row) (list_all is_numbered rows) numbered) none)
   where
@@ -52,9 +52,9 @@ rows_both P {refuse} {decline} {done} {made} refused (row ∷ rows) numbered doe
     some = eqb-false row.number 0 (not-true _ (both_left (is_numbered row) (list_all is_numbered rows) numbered))
 
     by : (t : Bool) → row.applies ≡ t
-        → ((NoneOf rows → P done made) → P (by_rows rows refuse done) (by_rows rows decline made))
+        → ((NoneOf rows → P done granted) → P (by_rows rows refuse done) (by_rows rows decline granted))
         → P (if t then refuse row.number else by_rows rows refuse done)
-        (if t then decline row.number else by_rows rows decline made)
+        (if t then decline row.number else by_rows rows decline granted)
     by true e on = refused row.number some
     by false e on = on (λ none. does (e, none))
 
@@ -90,8 +90,8 @@ module _ (d : Device) (r room : ℕ) where
 pub greeted_by_lem : (s : Settings) (r : ℕ) (P : List ℕ → Connection → Type 0)
     → P (greeting_secured (hex_digits 8 r)) (begun_in awaiting r)
     → P greeting_open (begun_in opened r)
-    → P (greeting s r) (greeted s r)
-unfolding greeting greeted
+    → P (greeting s r) (new_connection s r)
+unfolding greeting new_connection
 greeted_by_lem s r P secured plain = grind arith
 
 -- a password of length 0 means no security, and any other that the digest is awaited
@@ -101,8 +101,8 @@ module _ (s : Settings) (r : ℕ) where
     unfolding greeting
     secured_greeting = if_yes _ _ on
 
-    pub secured_greeted : greeted s r ≡ begun_in awaiting r
-    unfolding greeted
+    pub secured_greeted : new_connection s r ≡ begun_in awaiting r
+    unfolding new_connection
     secured_greeted = ap (λ (p : ℕ). begun_in p r) (if_yes _ _ on)
 
   module _ (none : has_password s ≡ false) where
@@ -110,22 +110,22 @@ module _ (s : Settings) (r : ℕ) where
     unfolding greeting
     open_greeting = if_no _ _ none
 
-    pub open_greeted : greeted s r ≡ begun_in opened r
-    unfolding greeted
+    pub open_greeted : new_connection s r ≡ begun_in opened r
+    unfolding new_connection
     open_greeted = ap (λ (p : ℕ). begun_in p r) (if_no _ _ none)
 
 -- closing: refused, or the closed connection
 module _ (d : Device) (p : ℕ) where
   pub closed_by_lem : (P : Result Device → Type 0) → ((n : ℕ) → (n ≡ 0 → ⊥) → P (refused_by n d))
       → (is_legal d ≡ true → p < places_count → is_shut (connection_at d p) ≡ false
-      → P (made (with_place d d.own p closed)))
+      → P (plain_result (with_place d d.own p closed)))
       → P (closed_by d p)
   unfolding closed_by
   closed_by_lem P refused closes = grind arith
 
-  pub closed-made : is_legal d ≡ true → p < places_count → is_shut (connection_at d p) ≡ false
-      → closed_by d p ≡ made (with_place d d.own p closed)
+  pub closed_at_place : is_legal d ≡ true → p < places_count → is_shut (connection_at d p) ≡ false
+      → closed_by d p ≡ plain_result (with_place d d.own p closed)
   unfolding closed_by
-  closed-made legal there live = grind arith
+  closed_at_place legal there live = grind arith
 
 pub ruleset greetings = (secured_greeting, secured_greeted, open_greeting, open_greeted)

@@ -25,11 +25,11 @@ use Rattle.record.proofs.LegalTold.{legal_settings, legal_connection}
 use Rattle.record.proofs.ConnectionTold.{age_untimed}
 use Rattle.record.proofs.FactsTold.{connection_is}
 use Rattle.stream.specs.Collecting.{empty_line}
-use Rattle.meaning.specs.Meaning.{meant, done}
+use Rattle.meaning.specs.Meaning.{answer_for, after_request}
 use Rattle.device.specs.Answering.{Answered, line_answer}
-use Rattle.device.specs.Receiving.{turned, digest_long, set_up_password}
-use Rattle.device.specs.Calls.{Result, reply_room, received}
-use Rattle.device.proofs.LinesReceived.{line_result, line-received, led_line-received}
+use Rattle.device.specs.Receiving.{phase_start, digest_long, set_up_password}
+use Rattle.device.specs.Calls.{Result, reply_room, received_at}
+use Rattle.device.proofs.LinesReceived.{line_result, line_received, led_line_received}
 use Rattle.device.proofs.WholeLines.{command_answered, higher_swallowed}
 
 abbrev pub reply_to : Command → Said → List ℕ
@@ -40,8 +40,8 @@ abbrev pub command_result : Device → ℕ → Command → ℕ → Result Device
 command_result d p k n = record {
   number = 0;
   taken = n;
-  reply = reply_to k (meant d.settings d.own (Ok k));
-  device = with_place d (done d.settings d.own (Ok k)) p (turned (connection_at d p) opened);
+  reply = reply_to k (answer_for d.settings d.own (Ok k));
+  device = with_place d (after_request d.settings d.own (Ok k)) p (phase_start (connection_at d p) opened);
 }
 
 abbrev pub swallowed_at : Device → ℕ → ℕ → Result Device
@@ -49,12 +49,12 @@ swallowed_at d p n = record {
   number = 0;
   taken = n;
   reply = [];
-  device = with_place d d.own p (turned (connection_at d p) opened);
+  device = with_place d d.own p (phase_start (connection_at d p) opened);
 }
 
 -- an open connection between lines stays as it was
 pub open_again : (d : Device) (p : ℕ) → p < places_count → is_legal d ≡ true → (connection_at d p).phase ≡ opened
-    → (connection_at d p).line ≡ empty_line → turned (connection_at d p) opened ≡ connection_at d p
+    → (connection_at d p).line ≡ empty_line → phase_start (connection_at d p) opened ≡ connection_at d p
 open_again d p there legal phase empty =
     search (arith, age_untimed, connection_is, legal_connection, legal_connection d legal p there)
 
@@ -74,15 +74,15 @@ module _ (d : Device) (p : ℕ) (there : p < places_count) (room : ℕ) (legal :
   abbrev pub digest : List ℕ
   digest = leading_digest c.random (set_up_password d.settings)
 
-  command_line-received : c.phase ≡ opened
-      → received d p (command_line k) room ≡ spoken_after (length (command_line k)) answered
-  command_line-received phase =
-      line-received d p there room legal enough unmarked none (command_text k) (command_no_cr k) phase
+  command_line_received : c.phase ≡ opened
+      → received_at d p (command_line k) room ≡ spoken_after (length (command_line k)) answered
+  command_line_received phase =
+      line_received d p there room legal enough unmarked none (command_text k) (command_no_cr k) phase
       (omega (arith, command_length k))
       ∙ ap (λ (n : ℕ). spoken_after n answered) (sym (length-append (command_text k) (codes "\r")))
 
   led_received : c.phase ≡ awaiting
-      → received d p (digest ++ command_line k) room ≡ spoken_after (length (digest ++ command_line k)) answered
+      → received_at d p (digest ++ command_line k) room ≡ spoken_after (length (digest ++ command_line k)) answered
   led_received phase =
       let count : digest_long + length (command_text k) + 1 ≡ length (digest ++ command_line k)
       = omega (
@@ -91,8 +91,8 @@ module _ (d : Device) (p : ℕ) (there : p < places_count) (room : ℕ) (legal :
         length-append (command_text k) (codes "\r"),
         length-leading_digest c.random (set_up_password d.settings),
       ) in
-      ap (λ (bs : List ℕ). received d p bs room) (sym (append_assoc digest (command_text k) (codes "\r")))
-      ∙ led_line-received d p there room legal enough unmarked none (command_text k) (command_no_cr k) phase
+      ap (λ (bs : List ℕ). received_at d p bs room) (sym (append_assoc digest (command_text k) (codes "\r")))
+      ∙ led_line_received d p there room legal enough unmarked none (command_text k) (command_no_cr k) phase
       (omega (arith, command_length k))
       ∙ ap (λ (n : ℕ). spoken_after n answered) count
 
@@ -101,11 +101,11 @@ module _ (d : Device) (p : ℕ) (there : p < places_count) (room : ℕ) (legal :
     answers n = grind (arith, command_answered, legal_settings)
 
     pub command_received : c.phase ≡ opened
-        → received d p (command_line k) room ≡ command_result d p k (length (command_line k))
-    command_received phase = command_line-received phase ∙ answers (length (command_line k))
+        → received_at d p (command_line k) room ≡ command_result d p k (length (command_line k))
+    command_received phase = command_line_received phase ∙ answers (length (command_line k))
 
     pub command_received_secured : c.phase ≡ awaiting
-        → received d p (digest ++ command_line k) room ≡ command_result d p k (length (digest ++ command_line k))
+        → received_at d p (digest ++ command_line k) room ≡ command_result d p k (length (digest ++ command_line k))
     command_received_secured phase = led_received phase ∙ answers (length (digest ++ command_line k))
 
   -- of a class higher than the set-up's
@@ -114,9 +114,9 @@ module _ (d : Device) (p : ℕ) (there : p < places_count) (room : ℕ) (legal :
     swallows n = ap (spoken_after n) (higher_swallowed d.settings d.own (legal_settings d legal) k higher)
 
     pub higher_received : c.phase ≡ opened
-        → received d p (command_line k) room ≡ swallowed_at d p (length (command_line k))
-    higher_received phase = command_line-received phase ∙ swallows (length (command_line k))
+        → received_at d p (command_line k) room ≡ swallowed_at d p (length (command_line k))
+    higher_received phase = command_line_received phase ∙ swallows (length (command_line k))
 
     pub higher_received_secured : c.phase ≡ awaiting
-        → received d p (digest ++ command_line k) room ≡ swallowed_at d p (length (digest ++ command_line k))
+        → received_at d p (digest ++ command_line k) room ≡ swallowed_at d p (length (digest ++ command_line k))
     higher_received_secured phase = led_received phase ∙ swallows (length (digest ++ command_line k))

@@ -14,10 +14,10 @@ use Rattle.record.specs.declared.types.Own.{Own}
 use Rattle.record.specs.declared.types.Connection.{Connection}
 use Rattle.record.specs.declared.types.Device.{Device}
 use Rattle.stream.proofs.LinesSpelt.{gathered_none}
-use Rattle.stream.proofs.GatheredOn.{gathered_within, gathered-ended, plain_gathered}
-use Rattle.stream.proofs.LinesCollected.{gathered-append}
+use Rattle.stream.proofs.GatheredOn.{gathered_within, gathered_from-ended, plain_gathered}
+use Rattle.stream.proofs.LinesCollected.{gathered_from-append}
 use Rattle.device.specs.Receiving.{no_reply, keeping_line, taken_in}
-use Rattle.device.specs.Calls.{received}
+use Rattle.device.specs.Calls.{received_at}
 use Rattle.device.proofs.Cases.{received_by}
 use Rattle.device.proofs.LineCases.{taken-line, taken_part, taken_by}
 
@@ -30,11 +30,11 @@ module _ (s : Settings) (o : Own) (c : Connection) where
 
   pub line_taken : (xs more : List ℕ) → list_all not_cr xs ≡ true
       → (taken_in s o c (xs ++ (code "\r" ∷ more))).taken ≡ length xs + 1
-  line_taken xs more e = grind (arith, gathered-append, taken-line)
+  line_taken xs more e = grind (arith, gathered_from-append, taken-line)
 
   pub taken_within : (bs : List ℕ) → (taken_in s o c bs).taken ≤ length bs
   taken_within bs =
-      taken_by s o c bs (λ t. t.taken ≤ length bs) (λ e. gathered-ended most c.line bs e)
+      taken_by s o c bs (λ t. t.taken ≤ length bs) (λ e. gathered_from-ended most c.line bs e)
       (λ e. gathered_within most c.line bs)
 
   keeps_itself : keeping_line c c.line ≡ c
@@ -45,7 +45,7 @@ module _ (s : Settings) (o : Own) (c : Connection) where
   unfolding taken_in
   nothing_taken = grind (arith, gathered_none, keeps_itself)
 
-pub received_within : (d : Device) (p : ℕ) (bs : List ℕ) (room : ℕ) → (received d p bs room).taken ≤ length bs
+pub received_within : (d : Device) (p : ℕ) (bs : List ℕ) (room : ℕ) → (received_at d p bs room).taken ≤ length bs
 received_within d p bs room =
     received_by d p bs room (λ r. r.taken ≤ length bs) (λ n z. omega arith)
     (λ h s t c. taken_within d.settings d.own (connection_at d p) bs)

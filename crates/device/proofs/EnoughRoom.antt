@@ -5,7 +5,8 @@ use Rattle.text.specs.Rows.{Row, ◌when◌, by_rows}
 use Rattle.record.specs.Legal.{is_legal}
 use Rattle.record.specs.Places.{lowest_shut}
 use Rattle.record.specs.declared.types.Device.{Device}
-use Rattle.device.specs.Calls.{Result, refused_by, reply_room, is_no_place, received, opened_by, place_taken, closed_by}
+use Rattle.device.specs.Calls.{Result, refused_by, reply_room, is_no_place, received_at, opened_by, place_taken}
+use Rattle.device.specs.Calls.{closed_by}
 use Rattle.device.proofs.Cases.{closed_by_lem}
 
 module _ (d : Device) (room : ℕ) (enough : reply_room ≤ room) where
@@ -23,8 +24,8 @@ module _ (d : Device) (room : ℕ) (enough : reply_room ≤ room) where
   unfolding place_taken
   place_room = by_rows-cons (λ n. 0) ((6 when is_no_place (lowest_shut d.connections)) ∷ []) _
 
-  pub received_room : (p : ℕ) (bs : List ℕ) → received d p bs reply_room ≡ received d p bs room
-  unfolding received
+  pub received_room : (p : ℕ) (bs : List ℕ) → received_at d p bs reply_room ≡ received_at d p bs room
+  unfolding received_at
   received_room p bs = grind arith
 
 pub closing_quiet : (d : Device) (p : ℕ) → (closed_by d p).reply ≡ []

@@ -17,10 +17,10 @@ use Rattle.record.specs.declared.types.Connection.{Connection}
 use Rattle.record.proofs.Kept.{room_first}
 use Rattle.record.proofs.ConnectionTold.{held_most_awaiting}
 use Rattle.stream.specs.declared.Gathered.{Gathered}
-use Rattle.stream.specs.Collecting.{line_of, empty_line, overlong_line, collected_all, gathered}
+use Rattle.stream.specs.Collecting.{line_of, empty_line, overlong_line, collected_all, gathered_from}
 use Rattle.stream.proofs.LinesSpelt.{overlong_marked}
 use Rattle.stream.proofs.CollectedOn.{collected_whole, collected_overlong}
-use Rattle.stream.proofs.LinesCollected.{gathered-append}
+use Rattle.stream.proofs.LinesCollected.{gathered_from-append}
 use Rattle.device.specs.Receiving.{is_led_by, is_match, digest_long, set_up_password}
 use Rattle.device.proofs.Outsiders.{IsUnmatched}
 
@@ -55,10 +55,10 @@ module _ (s : Settings) (c : Connection) where
 
   module _ (empty : c.line ≡ empty_line) (phase : c.phase ≡ awaiting) (l more : List ℕ) (plain : no_cr l ≡ true) where
     abbrev first : Gathered
-    first = gathered (held_most c.phase) c.line (l ++ (code "\r" ∷ more))
+    first = gathered_from (held_most c.phase) c.line (l ++ (code "\r" ∷ more))
 
     whole : first ≡ record { line = collected_all line_room empty_line l; before = length l; ended = true }
-    whole = grind (arith, held_most_awaiting, gathered-append, no_cr_each)
+    whole = grind (arith, held_most_awaiting, gathered_from-append, no_cr_each)
 
     pub first-line_ends : first.ended ≡ true
     first-line_ends = ap (λ (g : Gathered). g.ended) whole

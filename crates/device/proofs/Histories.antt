@@ -29,11 +29,11 @@ use Rattle.record.proofs.ConnectionsTold.{placed_here, placed_either}
 use Rattle.record.proofs.ConnectionTold.{closed_holds_none, held_within, held_most_none}
 use Rattle.record.proofs.FactsTold.{connection_is}
 use Rattle.stream.specs.declared.Gathered.{Gathered}
-use Rattle.stream.specs.Collecting.{line_text, empty_line, gathered}
-use Rattle.meaning.specs.Meaning.{meant, done}
+use Rattle.stream.specs.Collecting.{line_text, empty_line, gathered_from}
+use Rattle.meaning.specs.Meaning.{answer_for, after_request}
 use Rattle.meaning.proofs.Done.{Keeps}
 use Rattle.device.specs.Receiving.{Taken, digest_long, line_ended, keeping_line, taken_in}
-use Rattle.device.specs.Calls.{Result, received, greeted, opened_by, closed_by}
+use Rattle.device.specs.Calls.{Result, received_at, new_connection, opened_by, closed_by}
 use Rattle.device.proofs.Cases.{received_by, opened_by_lem, closed_by_lem}
 use Rattle.device.proofs.LineCases.{ended_by, taken_by}
 use Rattle.device.proofs.Legal.{collecting, line_legal}
@@ -47,7 +47,7 @@ pub data StreamEffect (s : Settings) (o : Own) (stream reply : List ℕ) (k : Ow
   turns : (a b c d : ℕ) (wanted : Bool) → is_body 1 (a ∷ b ∷ c ∷ d ∷ []) Powr ≡ true
       → Ends stream (power_line a b c d wanted ++ codes "\r")
       → reply ≡ reply_line (code "1") (a ∷ b ∷ c ∷ d ∷ []) (codes "OK")
-      → meant s o (Ok (PowerSet wanted)) ≡ okay → k ≡ done s o (Ok (PowerSet wanted))
+      → answer_for s o (Ok (PowerSet wanted)) ≡ okay → k ≡ after_request s o (Ok (PowerSet wanted))
       → StreamEffect s o stream reply k
 
 -- the stream's last line
@@ -67,8 +67,8 @@ pub record Tells (s : Settings) (o : Own) (stream reply : List ℕ) (k : Own) (e
 module _ (s : Settings) (o : Own) {w h : List ℕ} (known : Ends w h) (x : List ℕ) {reply : List ℕ} {k : Own} where
   effect_on : StreamEffect s o (h ++ x) reply k → StreamEffect s o (w ++ x) reply k
   effect_on (stays n p q) = stays n p q
-  effect_on (turns a b c d wanted powr line said meant own) =
-      turns a b c d wanted powr (ends_trans (ends_with x known) line) said meant own
+  effect_on (turns a b c d wanted powr line said answer_for own) =
+      turns a b c d wanted powr (ends_trans (ends_with x known) line) said answer_for own
 
   pub tells_on : {e : Connection} → Tells s o (h ++ x) reply k e → Tells s o (w ++ x) reply k e
   tells_on t = search (arith, effect_on, ends_trans, ends_with)
@@ -80,7 +80,7 @@ unheld c legal n m = grind (arith, held_most_none, held_within, connection_is)
 
 module _ (s : Settings) (o : Own) (c : Connection) (bs : List ℕ) (legal : is_connection c ≡ true) where
   abbrev gathers : Gathered
-  gathers = gathered (held_most c.phase) c.line bs
+  gathers = gathered_from (held_most c.phase) c.line bs
 
   -- all that this connection was sent of its line, after n bytes more
   abbrev sent : ℕ → List ℕ
@@ -135,7 +135,7 @@ module _ (s : Settings) (o : Own) (c : Connection) (bs : List ℕ) (legal : is_c
       (taken_keeps s o c bs)
 
 -- receiving, on any input: refused, it takes nothing and leaves the record
-pub received_tells : (d : Device) (p : ℕ) (bs : List ℕ) (room : ℕ) → let r = received d p bs room in
+pub received_tells : (d : Device) (p : ℕ) (bs : List ℕ) (room : ℕ) → let r = received_at d p bs room in
     Tells d.settings d.own (line_text (connection_at d p).line ++ take r.taken bs) r.reply r.device.own
     (connection_at r.device p)
 received_tells d p bs room =
@@ -168,7 +168,7 @@ module _ (d : Device) (q : ℕ) (w : List ℕ) (known : Ends w (held (connection
   Ending k = EndsIt (connection_at k.device q)
 
   pub opening_tells : (r room : ℕ) → Ends w (held (connection_at (opened_by d r room).device q))
-  unfolding greeted
+  unfolding new_connection
   opening_tells r room =
       opened_by_lem d r room Ending (λ n z. known)
       (λ h s c. placed_either EndsIt d d.own _ _ q (ends_unheld w empty_line empty_held) known)

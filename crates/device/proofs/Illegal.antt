@@ -6,12 +6,13 @@ use Rattle.std.proofs.Common.{ℕ, ◌≡◌, ap, true, false, not, List}
 use Rattle.text.proofs.Choices.{if_yes}
 use Rattle.record.specs.Legal.{is_legal}
 use Rattle.record.specs.declared.types.Device.{Device}
-use Rattle.device.specs.Calls.{Result, refused_by, received, opened_by, closed_by}
+use Rattle.device.specs.Calls.{Result, refused_by, received_at, opened_by, closed_by}
 use Rattle.device.proofs.Legal.{receiving_legal, opening_legal, closing_legal}
 
 module _ (d : Device) where
-  pub received_illegal : (p : ℕ) (bs : List ℕ) (room : ℕ) → is_legal d ≡ false → received d p bs room ≡ refused_by 1 d
-  unfolding received
+  pub received_illegal : (p : ℕ) (bs : List ℕ) (room : ℕ) → is_legal d ≡ false
+      → received_at d p bs room ≡ refused_by 1 d
+  unfolding received_at
   received_illegal p bs room h = if_yes _ _ (ap not h)
 
   pub opened_illegal : (r room : ℕ) → is_legal d ≡ false → opened_by d r room ≡ refused_by 1 d
@@ -26,7 +27,7 @@ module _ (d : Device) where
       → (is_legal d ≡ false → r ≡ refused_by 1 d) → is_legal r.device ≡ is_legal d
   same_legality r stays same = grind arith
 
-  pub received_legality : (p : ℕ) (bs : List ℕ) (room : ℕ) → is_legal (received d p bs room).device ≡ is_legal d
+  pub received_legality : (p : ℕ) (bs : List ℕ) (room : ℕ) → is_legal (received_at d p bs room).device ≡ is_legal d
   received_legality p bs room = grind (arith, receiving_legal, received_illegal)
 
   pub opened_legality : (r room : ℕ) → is_legal (opened_by d r room).device ≡ is_legal d

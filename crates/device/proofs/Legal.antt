@@ -21,8 +21,8 @@ use Rattle.stream.proofs.LegalLines.{LegalLine, empty_legal, gathered_legal}
 use Rattle.meaning.proofs.Done.{done_legal}
 use Rattle.device.specs.Ready.{IsReady}
 use Rattle.device.specs.Answering.{line_answer}
-use Rattle.device.specs.Receiving.{turned, line_ended, keeping_line, taken_in}
-use Rattle.device.specs.Calls.{Result, has_password, greeted, received, opened_by, closed_by}
+use Rattle.device.specs.Receiving.{phase_start, line_ended, keeping_line, taken_in}
+use Rattle.device.specs.Calls.{Result, has_password, new_connection, received_at, opened_by, closed_by}
 use Rattle.device.proofs.Cases.{received_by, opened_by_lem, closed_by_lem}
 use Rattle.device.proofs.LineCases.{ended_by, taken_by}
 
@@ -32,8 +32,9 @@ collecting p h g e = grind arith
 
 -- connections
 module _ (c : Connection) where
-  pub is_connection-turned : (phase : ℕ) → phase ≤ failed → (phase ≡ shut → ⊥) → is_connection (turned c phase) ≡ true
-  is_connection-turned phase h n = grind (arith, empty_legal, connection_is, zero_age)
+  pub is_connection-phase_start : (phase : ℕ) → phase ≤ failed → (phase ≡ shut → ⊥)
+      → is_connection (phase_start c phase) ≡ true
+  is_connection-phase_start phase h n = grind (arith, empty_legal, connection_is, zero_age)
 
   module _ (legal : is_connection c ≡ true) where
     abbrev known : IsConnection c
@@ -76,7 +77,7 @@ module _ (s : Settings) (o : Own) (settings : is_settings s ≡ true) (own : is_
 module _ (s : Settings) (o : Own) (c : Connection) (legal : is_connection c ≡ true) where
   pub is_connection-line_ended : (l : Line) → is_connection (line_ended s o c l).connection ≡ true
   unfolding line_ended
-  is_connection-line_ended l = grind (arith, is_connection-turned)
+  is_connection-line_ended l = grind (arith, is_connection-phase_start)
 
   pub is_connection-taken_in : (bs : List ℕ) → (c.phase ≡ shut → ⊥)
       → is_connection (taken_in s o c bs).ended.connection ≡ true
@@ -84,13 +85,13 @@ module _ (s : Settings) (o : Own) (c : Connection) (legal : is_connection c ≡ 
       taken_by s o c bs (λ t. is_connection t.ended.connection ≡ true) (λ e. is_connection-line_ended _)
       (λ e. is_connection-keeping_line c legal _ n (λ k. gathered_legal c.phase c.line bs k (line_legal c legal)))
 
-pub greeted_legal : (s : Settings) (r : ℕ) → is_connection (greeted s r) ≡ true
-unfolding greeted
+pub greeted_legal : (s : Settings) (r : ℕ) → is_connection (new_connection s r) ≡ true
+unfolding new_connection
 greeted_legal s r =
-    let c : Connection = greeted s r in
-    if_all (λ (p : ℕ). is_connection (turned c p) ≡ true) (has_password s)
-    (is_connection-turned c awaiting (omega arith) (λ z. omega arith))
-    (is_connection-turned c opened (omega arith) (λ z. omega arith))
+    let c : Connection = new_connection s r in
+    if_all (λ (p : ℕ). is_connection (phase_start c p) ≡ true) (has_password s)
+    (is_connection-phase_start c awaiting (omega arith) (λ z. omega arith))
+    (is_connection-phase_start c opened (omega arith) (λ z. omega arith))
 
 -- the calls
 module _ (d : Device) (legal : is_legal d ≡ true) where
@@ -102,7 +103,7 @@ module _ (d : Device) (legal : is_legal d ≡ true) where
       → is_legal (with_place d o p c) ≡ true
   placed o p c own one = grind (arith, legal_by_parts, legal_settings, placed_legal, legal_connections)
 
-  pub receiving_legal : (p : ℕ) (bs : List ℕ) (room : ℕ) → is_legal (received d p bs room).device ≡ true
+  pub receiving_legal : (p : ℕ) (bs : List ℕ) (room : ℕ) → is_legal (received_at d p bs room).device ≡ true
   receiving_legal p bs room =
       received_by d p bs room LegalAfter (λ n z. legal)
       (λ h s t c. let k = connection_at d p in

@@ -12,15 +12,15 @@ use Rattle.record.specs.declared.types.Own.{Own}
 use Rattle.record.specs.declared.types.Line.{Line}
 use Rattle.record.specs.declared.types.Connection.{Connection}
 use Rattle.stream.specs.declared.Gathered.{Gathered}
-use Rattle.stream.specs.Collecting.{line_text, gathered}
-use Rattle.device.specs.Answering.{Answered, line_answer, replied, swallowed}
-use Rattle.device.specs.Receiving.{Ended, Taken, is_match, digest_long, no_reply, spoken}
+use Rattle.stream.specs.Collecting.{line_text, gathered_from}
+use Rattle.device.specs.Answering.{Answered, line_answer, command_answer, line_swallowed}
+use Rattle.device.specs.Receiving.{Ended, Taken, is_match, digest_long, no_reply, served_line}
 use Rattle.device.specs.Receiving.{refused_digest, line_ended, keeping_line, taken_in}
 
 -- a line's answer, by its form
 pub answered_by : (s : Settings) (o : Own) (l : List ℕ) (P : Answered → Type 0)
-    → (is_command_form s.class_number l ≡ true → P (replied s o l))
-    → (is_command_form s.class_number l ≡ false → P (swallowed o))
+    → (is_command_form s.class_number l ≡ true → P (command_answer s o l))
+    → (is_command_form s.class_number l ≡ false → P (line_swallowed o))
     → P (line_answer s o l)
 unfolding line_answer
 answered_by s o l P = if_by P (is_command_form s.class_number l)
@@ -28,20 +28,20 @@ answered_by s o l P = if_by P (is_command_form s.class_number l)
 -- what CR does, by the phase and what the line is
 module _ (s : Settings) (o : Own) (c : Connection) (l : Line) where
   module _ (phase : c.phase ≡ opened) where
-    pub ended_overlong : l.overlong ≡ true → line_ended s o c l ≡ spoken c (swallowed o)
+    pub ended_overlong : l.overlong ≡ true → line_ended s o c l ≡ served_line c (line_swallowed o)
     unfolding line_ended
-    ended_overlong m = if_yes _ _ (eq-eqb c.phase opened phase) ∙ ap (spoken c) (if_yes _ _ m)
+    ended_overlong m = if_yes _ _ (eq-eqb c.phase opened phase) ∙ ap (served_line c) (if_yes _ _ m)
 
-    pub ended_open : l.overlong ≡ false → line_ended s o c l ≡ spoken c (line_answer s o (line_text l))
+    pub ended_open : l.overlong ≡ false → line_ended s o c l ≡ served_line c (line_answer s o (line_text l))
     unfolding line_ended
-    ended_open m = if_yes _ _ (eq-eqb c.phase opened phase) ∙ ap (spoken c) (if_no _ _ m)
+    ended_open m = if_yes _ _ (eq-eqb c.phase opened phase) ∙ ap (served_line c) (if_no _ _ m)
 
   module _ (phase : c.phase ≡ awaiting) where
     not_open : (c.phase == opened) ≡ false
     not_open = ap (λ (p : ℕ). p == opened) phase
 
     pub ended_match : is_match s c l ≡ true
-        → line_ended s o c l ≡ spoken c (line_answer s o (drop digest_long (line_text l)))
+        → line_ended s o c l ≡ served_line c (line_answer s o (drop digest_long (line_text l)))
     unfolding line_ended
     ended_match m = if_no _ _ not_open ∙ if_yes _ _ (eq-eqb c.phase awaiting phase) ∙ if_yes _ _ m
 
@@ -54,9 +54,10 @@ module _ (s : Settings) (o : Own) (c : Connection) (l : Line) where
   ended_other p q = if_no _ _ (ne_eqb c.phase opened p) ∙ if_no _ _ (ne_eqb c.phase awaiting q)
 
   pub ended_by : (P : Ended → Type 0)
-      → (c.phase ≡ opened → l.overlong ≡ true → P (spoken c (swallowed o)))
-      → (c.phase ≡ opened → l.overlong ≡ false → P (spoken c (line_answer s o (line_text l))))
-      → (c.phase ≡ awaiting → is_match s c l ≡ true → P (spoken c (line_answer s o (drop digest_long (line_text l)))))
+      → (c.phase ≡ opened → l.overlong ≡ true → P (served_line c (line_swallowed o)))
+      → (c.phase ≡ opened → l.overlong ≡ false → P (served_line c (line_answer s o (line_text l))))
+      → (c.phase ≡ awaiting → is_match s c l ≡ true
+      → P (served_line c (line_answer s o (drop digest_long (line_text l)))))
       → (c.phase ≡ awaiting → is_match s c l ≡ false → P (refused_digest o c))
       → ((c.phase ≡ opened → ⊥) → (c.phase ≡ awaiting → ⊥) → P (no_reply o c))
       → P (line_ended s o c l)
@@ -81,7 +82,7 @@ module _ (c : Connection) (l : Line) where
 -- what a call takes in, by whether CR came
 module _ (s : Settings) (o : Own) (c : Connection) (bs : List ℕ) where
   abbrev gathers : Gathered
-  gathers = gathered (held_most c.phase) c.line bs
+  gathers = gathered_from (held_most c.phase) c.line bs
 
   pub taken-line : gathers.ended ≡ true
       → taken_in s o c bs ≡ record { ended = line_ended s o c gathers.line; taken = gathers.before + 1 }

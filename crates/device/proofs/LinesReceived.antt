@@ -19,12 +19,12 @@ use Rattle.record.specs.declared.types.Connection.{Connection}
 use Rattle.record.specs.declared.types.Device.{Device}
 use Rattle.record.proofs.LegalTold.{legal_connection}
 use Rattle.record.proofs.ConnectionTold.{held_most_opened}
-use Rattle.stream.specs.Collecting.{empty_line, overlong_line, gathered}
+use Rattle.stream.specs.Collecting.{empty_line, overlong_line, gathered_from}
 use Rattle.stream.proofs.LinesSpelt.{overlong_marked}
 use Rattle.stream.proofs.LinesCollected.{empty_is_none, overlong_gathered}
-use Rattle.device.specs.Answering.{Answered, line_answer, swallowed}
-use Rattle.device.specs.Receiving.{spoken, digest_long, set_up_password, taken_in}
-use Rattle.device.specs.Calls.{Result, reply_room, accepted_taken, received}
+use Rattle.device.specs.Answering.{Answered, line_answer, line_swallowed}
+use Rattle.device.specs.Receiving.{served_line, digest_long, set_up_password, taken_in}
+use Rattle.device.specs.Calls.{Result, reply_room, accepted_taken, received_at}
 use Rattle.device.proofs.Cases.{received_taken}
 use Rattle.device.proofs.LineCases.{ended_overlong, taken-line}
 use Rattle.device.proofs.Legal.{line_legal}
@@ -37,16 +37,16 @@ module _ (s : Settings) (o : Own) (c : Connection) (empty : c.line ≡ empty_lin
   abbrev bytes : List ℕ
   bytes = xs ++ (code "\r" ∷ rest)
 
-  gathered-held_most : gathered (held_most c.phase) c.line bytes
+  gathered_from-held_most : gathered_from (held_most c.phase) c.line bytes
       ≡ record { line = overlong_line; before = length xs; ended = true }
-  gathered-held_most = grind (arith, held_most_opened, empty, empty_is_none, overlong_gathered)
+  gathered_from-held_most = grind (arith, held_most_opened, empty, empty_is_none, overlong_gathered)
 
   pub overlong_line-taken : taken_in s o c bytes
-      ≡ record { ended = spoken c (swallowed o); taken = length xs + 1 }
-  overlong_line-taken = grind (arith, taken-line, gathered-held_most, ended_overlong, overlong_marked)
+      ≡ record { ended = served_line c (line_swallowed o); taken = length xs + 1 }
+  overlong_line-taken = grind (arith, taken-line, gathered_from-held_most, ended_overlong, overlong_marked)
 
 abbrev pub line_result : Device → ℕ → Answered → ℕ → Result Device
-line_result d p a n = accepted_taken d p (record { ended = spoken (connection_at d p) a; taken = n })
+line_result d p a n = accepted_taken d p (record { ended = served_line (connection_at d p) a; taken = n })
 
 module _ (d : Device) (p : ℕ) (there : p < places_count) (room : ℕ) (legal : is_legal d ≡ true)
     (enough : reply_room ≤ room) (unmarked : (connection_at d p).line.overlong ≡ false)
@@ -61,22 +61,22 @@ module _ (d : Device) (p : ℕ) (there : p < places_count) (room : ℕ) (legal :
   plainly = no_cr_each l plain
 
   module _ (phase : c.phase ≡ opened) where
-    open_takes : received d p (l ++ codes "\r") room
+    open_takes : received_at d p (l ++ codes "\r") room
         ≡ accepted_taken d p (taken_in d.settings d.own c (l ++ codes "\r"))
     open_takes = received_taken d p (l ++ codes "\r") room legal enough there (ap (λ (q : ℕ). q == shut) phase)
 
-    pub line-received : length l ≤ command_most
-        → received d p (l ++ codes "\r") room ≡ line_result d p (line_answer d.settings d.own l) (length l + 1)
-    line-received short = grind (arith, open_takes, open_line-taken, empty, plainly)
+    pub line_received : length l ≤ command_most
+        → received_at d p (l ++ codes "\r") room ≡ line_result d p (line_answer d.settings d.own l) (length l + 1)
+    line_received short = grind (arith, open_takes, open_line-taken, empty, plainly)
 
-    pub overlong-line-received : command_most < length l
-        → received d p (l ++ codes "\r") room ≡ line_result d p (swallowed d.own) (length l + 1)
-    overlong-line-received long = grind (arith, open_takes, overlong_line-taken, empty, plainly)
+    pub overlong_line_received : command_most < length l
+        → received_at d p (l ++ codes "\r") room ≡ line_result d p (line_swallowed d.own) (length l + 1)
+    overlong_line_received long = grind (arith, open_takes, overlong_line-taken, empty, plainly)
 
   abbrev digest : List ℕ
   digest = leading_digest c.random (set_up_password d.settings)
 
-  pub led_line-received : c.phase ≡ awaiting → length l ≤ command_most
-      → received d p (digest ++ l ++ codes "\r") room
+  pub led_line_received : c.phase ≡ awaiting → length l ≤ command_most
+      → received_at d p (digest ++ l ++ codes "\r") room
       ≡ line_result d p (line_answer d.settings d.own l) (digest_long + length l + 1)
-  led_line-received phase short = grind (arith, received_taken, matching_line-taken, empty, plainly)
+  led_line_received phase short = grind (arith, received_taken, matching_line-taken, empty, plainly)

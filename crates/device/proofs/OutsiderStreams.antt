@@ -19,12 +19,12 @@ use Rattle.record.specs.declared.types.Device.{Device}
 use Rattle.record.proofs.LegalTold.{legal_places}
 use Rattle.record.proofs.ConnectionsTold.{placed_here, placed_elsewhere}
 use Rattle.stream.specs.declared.Gathered.{Gathered}
-use Rattle.stream.specs.Collecting.{gathered}
-use Rattle.stream.specs.Machine.{Out, Took, unanswered, reply_then, run_over, handed_parts, uncut}
+use Rattle.stream.specs.Collecting.{gathered_from}
+use Rattle.stream.specs.Machine.{Out, Took, without_reply, reply_then, run_over, handed_parts, stream_of}
 use Rattle.stream.proofs.GatheredOn.{gathered_whole}
 use Rattle.stream.proofs.LinesSpelt.{run_none, run_more}
 use Rattle.stream.proofs.SameHoweverCut.{out_through, run_called}
-use Rattle.device.specs.Receiving.{Ended, turned}
+use Rattle.device.specs.Receiving.{Ended, phase_start}
 use Rattle.device.specs.Calls.{reply_room}
 use Rattle.device.proofs.LineCases.{ended_erra, keeping_none, keeping_line_lem, taken_by}
 use Rattle.device.proofs.Outsiders.{IsUnmatched, failed_ignores_line}
@@ -33,7 +33,7 @@ use Rattle.device.proofs.SameCuts.{device_at, receives, received_as_run}
 
 -- an outsider's first line, as far as it came
 abbrev pub first_line : Connection → List ℕ → Gathered
-first_line c bs = gathered (held_most c.phase) c.line bs
+first_line c bs = gathered_from (held_most c.phase) c.line bs
 
 abbrev pub refusal_of : Gathered → List ℕ
 refusal_of g = if g.ended then erra_line else []
@@ -41,7 +41,7 @@ refusal_of g = if g.ended then erra_line else []
 -- what an outsider's bytes leave
 abbrev outsider_leaves : Own → Connection → Gathered → Out State
 outsider_leaves o c g = record {
-  state = state_of o (if g.ended then turned c failed else with_line c g.line);
+  state = state_of o (if g.ended then phase_start c failed else with_line c g.line);
   reply = refusal_of g;
 }
 
@@ -50,13 +50,13 @@ module _ (s : Settings) where
   ran = run_over (code "\r") State collects (ends s)
 
   abbrev stepped : State → ℕ → Bool → Out State
-  stepped m b cr = if cr then ends s m else unanswered (collects m b)
+  stepped m b cr = if cr then ends s m else without_reply (collects m b)
 
   -- a failed connection ignores whatever comes
-  failed_step : (m : State) (b : ℕ) (cr : Bool) → m.connection.phase ≡ failed → stepped m b cr ≡ unanswered m
+  failed_step : (m : State) (b : ℕ) (cr : Bool) → m.connection.phase ≡ failed → stepped m b cr ≡ without_reply m
   failed_step m b cr h = grind (arith, failed_ignores_line, keeping_none)
 
-  pub failed_run : (m : State) (bs : List ℕ) → m.connection.phase ≡ failed → ran m bs ≡ unanswered m
+  pub failed_run : (m : State) (bs : List ℕ) → m.connection.phase ≡ failed → ran m bs ≡ without_reply m
   failed_run m [] f = run_none (code "\r") State collects (ends s) m
   failed_run m (b ∷ bs) f = grind (arith, run_more, failed_step, failed_run m bs f)
 
@@ -66,7 +66,7 @@ module _ (s : Settings) where
   outsider_run o c bs waits unmatched =
       let g = first_line c bs in
       let leaves_then : Bool → Out State = λ t. record {
-        state = state_of o (if t then turned c failed else with_line c g.line);
+        state = state_of o (if t then phase_start c failed else with_line c g.line);
         reply = if t then erra_line else [];
       } in
       run_called (code "\r") State collects (ends s) (state_of o c) bs
@@ -76,7 +76,7 @@ module _ (s : Settings) where
       (λ t. reply_then (as_call t).reply (ran (as_call t).state (drop t.taken bs)) ≡ outsider_leaves o c g)
       (λ e. ap (λ (r : Ended). reply_then r.reply (ran (leaves r).state (drop (g.before + 1) bs)))
       (ended_erra s o c g.line waits (unmatched e))
-      ∙ ap (reply_then erra_line) (failed_run (state_of o (turned c failed)) (drop (g.before + 1) bs) refl)
+      ∙ ap (reply_then erra_line) (failed_run (state_of o (phase_start c failed)) (drop (g.before + 1) bs) refl)
       ∙ ap leaves_then (sym e))
       (λ e. (λ i. ran (state_of o (keeping_line_lem c g.line (λ f. omega arith) i))
       (drop_of_length-le bs {i = g.before} (omega (arith, gathered_whole (held_most c.phase) c.line bs e)) i))
@@ -86,12 +86,12 @@ module _ (s : Settings) where
 -- the calls, however the stream is cut
 module _ (room : ℕ) (enough : reply_room ≤ room) (p : ℕ) (there : p < places_count) (d : Device)
     (legal : is_legal d ≡ true) (waits : (connection_at d p).phase ≡ awaiting) (ps : List (List ℕ))
-    (unmatched : IsUnmatched d.settings (connection_at d p) (uncut ps)) where
+    (unmatched : IsUnmatched d.settings (connection_at d p) (stream_of ps)) where
   abbrev all : Out Device
   all = handed_parts (receives room p) d ps
 
   abbrev first : Gathered
-  first = first_line (connection_at d p) (uncut ps)
+  first = first_line (connection_at d p) (stream_of ps)
 
   abbrev after : Connection
   after = (outsider_leaves d.own (connection_at d p) first).state.connection
@@ -103,7 +103,7 @@ module _ (room : ℕ) (enough : reply_room ≤ room) (p : ℕ) (there : p < plac
   outsider_stream_keeps_own = ap (λ (o : Out Device). o.state.own) as_run
 
   pub outsider_stream_refused : (handed_parts (receives room p) d ps).reply
-      ≡ refusal_of (first_line (connection_at d p) (uncut ps))
+      ≡ refusal_of (first_line (connection_at d p) (stream_of ps))
   outsider_stream_refused = ap (λ (o : Out Device). o.reply) as_run
 
   pub outsider_stream_keeps_settings : (handed_parts (receives room p) d ps).state.settings ≡ d.settings
@@ -118,8 +118,8 @@ module _ (room : ℕ) (enough : reply_room ≤ room) (p : ℕ) (there : p < plac
   here = simp (as_run, placed_here, legal_places)
 
   -- once his first line ended, the connection has failed
-  module _ (cr : (first_line (connection_at d p) (uncut ps)).ended ≡ true) where
-    failed_then : after ≡ turned (connection_at d p) failed
+  module _ (cr : (first_line (connection_at d p) (stream_of ps)).ended ≡ true) where
+    failed_then : after ≡ phase_start (connection_at d p) failed
     failed_then = if_yes _ _ cr
 
     pub outsider_stream_fails : (connection_at (handed_parts (receives room p) d ps).state p).phase ≡ failed

@@ -13,9 +13,9 @@ use Rattle.record.specs.declared.types.Connection.{Connection}
 use Rattle.record.specs.declared.types.Device.{Device}
 use Rattle.record.specs.Places.{connection_at}
 use Rattle.record.proofs.ConnectionsTold.{with_place-connection_at}
-use Rattle.stream.specs.Collecting.{empty_line, gathered}
+use Rattle.stream.specs.Collecting.{empty_line, gathered_from}
 use Rattle.device.specs.Receiving.{Ended, is_match, no_reply, line_ended, taken_in}
-use Rattle.device.specs.Calls.{received}
+use Rattle.device.specs.Calls.{received_at}
 use Rattle.device.proofs.Cases.{received_by}
 use Rattle.device.proofs.LineCases.{ended_other, ended_erra, keeping_none, taken_by}
 
@@ -30,7 +30,7 @@ pub record Outside (o : Own) (c : Connection) (e : Ended) : Type 0 where
 -- the line that a call takes in, if CR comes, does not match
 abbrev pub IsUnmatched : Settings → Connection → List ℕ → Type 0
 IsUnmatched s c bs =
-    let g = gathered (held_most c.phase) c.line bs in
+    let g = gathered_from (held_most c.phase) c.line bs in
     g.ended ≡ true → is_match s c g.line ≡ false
 
 module _ (s : Settings) (o : Own) (c : Connection) where
@@ -39,7 +39,7 @@ module _ (s : Settings) (o : Own) (c : Connection) where
     mismatch_refused l m = grind (arith, ended_erra)
 
     pub unmatched_line_refused : (bs : List ℕ) → IsUnmatched s c bs
-        → (gathered (held_most c.phase) c.line bs).ended ≡ true → Outside o c (taken_in s o c bs).ended
+        → (gathered_from (held_most c.phase) c.line bs).ended ≡ true → Outside o c (taken_in s o c bs).ended
     unmatched_line_refused bs n cr =
         taken_by s o c bs (λ t. Outside o c t.ended) (λ e. mismatch_refused _ (n e))
         (λ e. absurd (false≢true (sym e ∙ cr)))
@@ -58,11 +58,11 @@ module _ (d : Device) (p : ℕ) (bs : List ℕ) (room : ℕ) where
   here = connection_at d p
 
   module _ (phase : here.phase ≡ failed) where
-    pub failed_keeps_record : (received d p bs room).device ≡ d
-    unfolding received
+    pub failed_keeps_record : (received_at d p bs room).device ≡ d
+    unfolding received_at
     failed_keeps_record = grind (arith, failed_ignores, with_place-connection_at)
 
-    pub failed_never_replies : (received d p bs room).reply ≡ []
+    pub failed_never_replies : (received_at d p bs room).reply ≡ []
     failed_never_replies =
         received_by d p bs room (λ r. r.reply ≡ []) (λ n z. refl)
         (λ h s t c. ap (λ (e : Ended). e.reply) (failed_ignores d.settings d.own here phase bs))

@@ -29,9 +29,9 @@ use Rattle.pjlink.specs.Said.{Said, okay, said_bytes}
 use Rattle.record.specs.declared.types.Settings.{Settings}
 use Rattle.record.specs.declared.types.Own.{Own}
 use Rattle.record.specs.Views.{power_seen}
-use Rattle.meaning.specs.Meaning.{meant, done, power_said, request_answer, carried_out}
+use Rattle.meaning.specs.Meaning.{answer_for, after_request, power_said, request_answer, carried_out}
 use Rattle.meaning.proofs.PowerSets.{PowerTurn, stays, warms, cools, power_turns}
-use Rattle.device.specs.Answering.{Answered, line_asks, replied, line_answer}
+use Rattle.device.specs.Answering.{Answered, line_asks, command_answer, line_answer}
 use Rattle.pjlink.specs.declared.request.Unasked.TheVariants.{Unlisted}
 use Rattle.pjlink.proofs.OnlyOkay.{NotOkay, refusal_not_okay, power_not_okay, nothing_not_okay}
 use Rattle.meaning.proofs.Cases.{Passes, refused_or_passed}
@@ -42,7 +42,7 @@ data Outcome (s : Settings) (o : Own) (r : Request) (m : Said) (k : Own) : Type 
 
 module _ (s : Settings) (o : Own) where
   abbrev Comes : Request → Type 0
-  Comes r = Outcome s o r (meant s o r) (done s o r)
+  Comes r = Outcome s o r (answer_for s o r) (after_request s o r)
 
   -- refused, it does nothing
   comes : (r : Request) → (Passes s o r → Outcome s o r (request_answer s o r) (carried_out s o r)) → Comes r
@@ -117,8 +117,8 @@ module _ (a b c d : ℕ) (powr : is_body 1 (a ∷ b ∷ c ∷ d ∷ []) Powr ≡
 pub data PowerEffect (s : Settings) (o : Own) (l reply : List ℕ) (k : Own) : Type 0 where
   quiet : is_power_okay reply ≡ false → k.power ≡ o.power → k.left ≡ o.left → PowerEffect s o l reply k
   sets : (a b c d : ℕ) (wanted : Bool) → is_body 1 (a ∷ b ∷ c ∷ d ∷ []) Powr ≡ true → l ≡ power_line a b c d wanted
-      → reply ≡ reply_line (code "1") (a ∷ b ∷ c ∷ d ∷ []) (codes "OK") → meant s o (Ok (PowerSet wanted)) ≡ okay
-      → k ≡ done s o (Ok (PowerSet wanted)) → PowerEffect s o l reply k
+      → reply ≡ reply_line (code "1") (a ∷ b ∷ c ∷ d ∷ []) (codes "OK") → answer_for s o (Ok (PowerSet wanted)) ≡ okay
+      → k ≡ after_request s o (Ok (PowerSet wanted)) → PowerEffect s o l reply k
 
 module _ (s : Settings) (o : Own) (l : List ℕ) where
   abbrev EffectOf : Answered → Type 0
@@ -132,19 +132,20 @@ module _ (s : Settings) (o : Own) (l : List ℕ) where
   is_powr h = is_body (class_of_byte h) (head_body l) Powr
 
   abbrev said : List ℕ
-  said = said_bytes (meant s o (line_asks l))
+  said = said_bytes (answer_for s o (line_asks l))
 
   -- no POWR: no power is set
   module _ (other : is_powr (l at 1) ≡ false) (quiet-reply : is_power_okay (reply_under (l at 1) said) ≡ false) where
     abbrev not_asked : is_power_set (line_asks l) ≡ false
     not_asked = not_powr (command_parameter l) (line_class l) (head_body l) other
 
-    by_turn : PowerTurn s o (line_asks l) (meant s o (line_asks l)) (done s o (line_asks l)) → EffectOf (replied s o l)
+    by_turn : PowerTurn s o (line_asks l) (answer_for s o (line_asks l)) (after_request s o (line_asks l))
+        → EffectOf (command_answer s o l)
     by_turn (stays p q) = quiet quiet-reply p q
     by_turn (warms r m h p q) = absurd (false≢true (sym not_asked ∙ ap is_power_set r))
     by_turn (cools r m h p q) = absurd (false≢true (sym not_asked ∙ ap is_power_set r))
 
-    no_power_set : EffectOf (replied s o l)
+    no_power_set : EffectOf (command_answer s o l)
     no_power_set = by_turn (power_turns s o (line_asks l))
 
   module _ (form : is_command_form s.class_number l ≡ true) (first : l at 1 ≡ code "1") where
@@ -152,7 +153,7 @@ module _ (s : Settings) (o : Own) (l : List ℕ) where
       abbrev is_asked : line_asks l ≡ asked_of Powr (command_parameter l)
       is_asked = powr_asked (command_parameter l) (line_class l) (head_body l) (ap is_powr first ∙ powr)
 
-      by_outcome : Comes s o (line_asks l) → EffectOf (replied s o l)
+      by_outcome : Comes s o (line_asks l) → EffectOf (command_answer s o l)
       by_outcome (unchanged n p q) = grind arith
       by_outcome (carried wanted r m) =
           sets (l at 2) (l at 3) (l at 4) (l at 5) wanted powr
@@ -160,19 +161,19 @@ module _ (s : Settings) (o : Own) (l : List ℕ) where
           ∙ (λ i. codes "%" ++ (first i ∷ head_body l) ++ codes " "
           ++ power_parameter (command_parameter l) wanted (sym is_asked ∙ r) i))
           (ap (λ (h : ℕ). reply_under h said) first
-          ∙ reply_line-said_bytes (code "1") (head_body l) (meant s o (line_asks l)) m)
-          (ap (meant s o) (sym r) ∙ m) (ap (done s o) r)
+          ∙ reply_line-said_bytes (code "1") (head_body l) (answer_for s o (line_asks l)) m)
+          (ap (answer_for s o) (sym r) ∙ m) (ap (after_request s o) r)
 
-      powr_effect : EffectOf (replied s o l)
+      powr_effect : EffectOf (command_answer s o l)
       powr_effect = by_outcome (rw is_asked (powr_comes s o (command_parameter l)))
 
-    by_body : (t : Bool) → is_powr (code "1") ≡ t → EffectOf (replied s o l)
+    by_body : (t : Bool) → is_powr (code "1") ≡ t → EffectOf (command_answer s o l)
     by_body true e = powr_effect e
     by_body false e = grind (arith, no_power_set)
 
-  by_class : is_command_form s.class_number l ≡ true → EffectOf (replied s o l)
+  by_class : is_command_form s.class_number l ≡ true → EffectOf (command_answer s o l)
   by_class form =
-      taken_by (EffectOf (replied s o l)) s.class_number (l at 1) (form_takes s.class_number l form)
+      taken_by (EffectOf (command_answer s o l)) s.class_number (l at 1) (form_takes s.class_number l form)
       (λ first. by_body form first (is_powr (code "1")) refl)
       (λ k second. no_power_set (ap is_powr second) (ap (λ (h : ℕ). is_power_okay (reply_under h said)) second))
 

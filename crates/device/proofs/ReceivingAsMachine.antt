@@ -15,7 +15,7 @@ use Rattle.record.specs.declared.types.Own.{Own}
 use Rattle.record.specs.declared.types.Line.{Line}
 use Rattle.record.specs.declared.types.Connection.{Connection}
 use Rattle.stream.specs.declared.Gathered.{Gathered}
-use Rattle.stream.specs.Collecting.{collected, gathered}
+use Rattle.stream.specs.Collecting.{line_after, gathered_from}
 use Rattle.stream.specs.Machine.{Out, Took, took_bytes, one_call}
 use Rattle.stream.proofs.OneCallGathers.{finished, call_finishes}
 use Rattle.device.specs.Receiving.{Ended, Taken, is_match, line_ended, keeping_line, taken_in}
@@ -40,7 +40,7 @@ takes_in s m bs = as_call (taken_in s m.own m.connection bs)
 abbrev pub collects : State → ℕ → State
 collects m b =
     let c = m.connection in
-    state_of m.own (keeping_line c (collected (held_most c.phase) c.line b))
+    state_of m.own (keeping_line c (line_after (held_most c.phase) c.line b))
 
 abbrev pub ends : Settings → State → Out State
 ends s m = leaves (line_ended s m.own m.connection m.connection.line)
@@ -55,7 +55,7 @@ module _ (s : Settings) (o : Own) (c : Connection) (l : Line) where
 
 module _ (s : Settings) (o : Own) (c : Connection) (bs : List ℕ) where
   abbrev gathers : Gathered
-  gathers = gathered (held_most c.phase) c.line bs
+  gathers = gathered_from (held_most c.phase) c.line bs
 
   abbrev ended : Line → Out State
   ended l = leaves (line_ended s o c l)
@@ -88,8 +88,8 @@ module _ (s : Settings) (o : Own) (c : Connection) (bs : List ℕ) where
   collecting_call known live n =
       let most = held_most c.phase in
       let keep : Line → State = λ l. state_of o (with_line c l) in
-      let one_more : (l : Line) (b : ℕ) → collects (keep l) b ≡ keep (collected most l b) = λ l b.
-      ap {B = State} (state_of o) (keeping_line_lem (with_line c l) (collected most l b) n) in
+      let one_more : (l : Line) (b : ℕ) → collects (keep l) b ≡ keep (line_after most l b) = λ l b.
+      ap {B = State} (state_of o) (keeping_line_lem (with_line c l) (line_after most l b) n) in
       let same : (l : Line) → ends s (keep l) ≡ ended l = λ l.
       ap leaves
       (line_ended-with_line s o c l (c.phase == opened) (c.phase == awaiting) refl refl

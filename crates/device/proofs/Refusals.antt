@@ -3,7 +3,7 @@
 -- Assumes nothing.
 use Rattle.std.proofs.Common.{ℕ, ◌≡◌, refl, List, []}
 use Rattle.record.specs.declared.types.Device.{Device}
-use Rattle.device.specs.Calls.{Result, received, opened_by, place_taken, closed_by}
+use Rattle.device.specs.Calls.{Result, received_at, opened_by, place_taken, closed_by}
 use Rattle.device.proofs.Cases.{received_by, opened_by_lem, opened_placed_by, closed_by_lem}
 
 pub record Refused (d : Device) (r : Result Device) : Type 0 where
@@ -15,8 +15,8 @@ abbrev RefusedUnless0 : Device → Result Device → Type 0
 RefusedUnless0 d r = (r.number ≡ 0 → ⊥) → Refused d r
 
 module _ (d : Device) where
-  pub receiving_refused : (p : ℕ) (bs : List ℕ) (room : ℕ) → ((received d p bs room).number ≡ 0 → ⊥)
-      → Refused d (received d p bs room)
+  pub receiving_refused : (p : ℕ) (bs : List ℕ) (room : ℕ) → ((received_at d p bs room).number ≡ 0 → ⊥)
+      → Refused d (received_at d p bs room)
   receiving_refused p bs room =
       received_by d p bs room (RefusedUnless0 d)
       (λ n z e. record { device = refl; taken = refl; reply = refl }) (λ h s t c n. absurd (n refl))

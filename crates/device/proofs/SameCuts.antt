@@ -19,11 +19,11 @@ use Rattle.record.proofs.LegalTold.{legal_settings, legal_own, legal_connections
 use Rattle.record.proofs.LegalTold.{legal_by_parts}
 use Rattle.record.proofs.ConnectionsTold.{placed_legal, placed_here, with_place-with_place, with_place-connection_at}
 use Rattle.record.proofs.FactsTold.{connection_is}
-use Rattle.stream.specs.Machine.{Took, run_over, one_call, handed_parts, uncut}
+use Rattle.stream.specs.Machine.{Took, run_over, one_call, handed_parts, stream_of}
 use Rattle.stream.proofs.LegalLines.{collected_legal}
 use Rattle.stream.proofs.SameHoweverCut.{out_through, took_through, calls_run, same_however_cut}
 use Rattle.device.specs.Receiving.{line_ended, keeping_line, taken_in}
-use Rattle.device.specs.Calls.{Result, reply_room, accepted_taken, received}
+use Rattle.device.specs.Calls.{Result, reply_room, accepted_taken, received_at}
 use Rattle.device.proofs.Cases.{received_taken}
 use Rattle.device.proofs.LineCases.{ended_by}
 use Rattle.device.proofs.Legal.{line_legal, is_connection-keeping_line, is_own-line_ended, is_connection-line_ended}
@@ -58,7 +58,7 @@ abbrev pub as_device_call : Result Device → Took Device
 as_device_call r = record { taken = r.taken; state = r.device; reply = r.reply }
 
 abbrev pub receives : ℕ → ℕ → Device → List ℕ → Took Device
-receives room p d bs = as_device_call (received d p bs room)
+receives room p d bs = as_device_call (received_at d p bs room)
 
 -- the device d with that state at place p
 abbrev pub device_at : Device → ℕ → State → Device
@@ -107,13 +107,13 @@ module _ (room : ℕ) (enough : reply_room ≤ room) (p : ℕ) (there : p < plac
 
     pub received_as_run : (ps : List (List ℕ))
         → handed_parts (receives room p) d ps
-        ≡ out_through (device_at d p) (run_over (code "\r") State collects (ends s) (parts_at d p) (uncut ps))
+        ≡ out_through (device_at d p) (run_over (code "\r") State collects (ends s) (parts_at d p) (stream_of ps))
     received_as_run ps =
         ap (λ (k : Device). handed_parts (receives room p) k ps) (sym (with_place-connection_at d p))
         ∙ calls_run (code "\r") State collects (ends s) (Live s) (ready_collect s) (ready_ends s) (device_at d p)
         (receives room p) receives-device_at (parts_at d p) ps ready_parts
 
-    pub received_however_cut : (ps qs : List (List ℕ)) → uncut ps ≡ uncut qs
+    pub received_however_cut : (ps qs : List (List ℕ)) → stream_of ps ≡ stream_of qs
         → handed_parts (receives room p) d ps ≡ handed_parts (receives room p) d qs
     received_however_cut ps qs same =
         ap (λ (k : Device). handed_parts (receives room p) k ps) (sym (with_place-connection_at d p))

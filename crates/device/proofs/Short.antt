@@ -15,7 +15,7 @@ use Rattle.record.proofs.LegalTold.{legal_settings, legal_own}
 use Rattle.meaning.proofs.CanBeSaid.{meant_fits}
 use Rattle.device.specs.Answering.{line_answer}
 use Rattle.device.specs.Receiving.{line_ended, taken_in}
-use Rattle.device.specs.Calls.{longest_reply, greeting, received, opened_by}
+use Rattle.device.specs.Calls.{longest_reply, greeting, received_at, opened_by}
 use Rattle.device.proofs.Cases.{received_by, opened_by_lem}
 use Rattle.device.proofs.LineCases.{ended_by, taken_by}
 
@@ -43,7 +43,7 @@ greeting_short s r = grind (arith, if_all, length-append, length-hex_digits)
 
 module _ (d : Device) where
   -- on any input, refused or not
-  pub receiving_short : (p : ℕ) (bs : List ℕ) (room : ℕ) → length (received d p bs room).reply ≤ longest_reply
+  pub receiving_short : (p : ℕ) (bs : List ℕ) (room : ℕ) → length (received_at d p bs room).reply ≤ longest_reply
   receiving_short p bs room =
       received_by d p bs room (λ r. length r.reply ≤ longest_reply) (λ n z. omega arith)
       (λ h s t c. taken_short d.settings d.own (legal_settings d h) (legal_own d h) (connection_at d p) bs)

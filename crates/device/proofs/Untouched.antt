@@ -14,7 +14,7 @@ use Rattle.record.proofs.ConnectionsTold.{placed_elsewhere}
 use Rattle.meaning.proofs.Done.{Keeps, done_keeps}
 use Rattle.device.specs.Answering.{line_answer}
 use Rattle.device.specs.Receiving.{line_ended, taken_in}
-use Rattle.device.specs.Calls.{received, opened_by, place_taken, closed_by}
+use Rattle.device.specs.Calls.{received_at, opened_by, place_taken, closed_by}
 use Rattle.device.proofs.Cases.{received_by, opened_by_lem, closed_by_lem}
 use Rattle.device.proofs.LineCases.{ended_by, taken_by}
 
@@ -37,19 +37,19 @@ module _ (s : Settings) (o : Own) where
 
 module _ (d : Device) where
   module _ (p : ℕ) (bs : List ℕ) (room : ℕ) where
-    pub receiving_keeps_settings : (received d p bs room).device.settings ≡ d.settings
+    pub receiving_keeps_settings : (received_at d p bs room).device.settings ≡ d.settings
     receiving_keeps_settings =
         received_by d p bs room (λ r. r.device.settings ≡ d.settings) (λ n z. refl)
         (λ h s t c. refl)
 
-    pub receiving_keeps : Keeps d.own (received d p bs room).device.own
+    pub receiving_keeps : Keeps d.own (received_at d p bs room).device.own
     receiving_keeps =
         received_by d p bs room (λ r. Keeps d.own r.device.own) (λ n z. itself_kept d.own)
         (λ h s t c. taken_keeps d.settings d.own (connection_at d p) bs)
 
     -- one place's bytes never touch another's connection (RULES, Places)
     pub receiving_keeps_others : (q : ℕ) → (q ≡ p → ⊥)
-        → connection_at (received d p bs room).device q ≡ connection_at d q
+        → connection_at (received_at d p bs room).device q ≡ connection_at d q
     receiving_keeps_others q other =
         received_by d p bs room (λ r. connection_at r.device q ≡ connection_at d q) (λ n z. refl)
         (λ h s t c. placed_elsewhere d d.own p _ q other)

@@ -34,10 +34,10 @@ use Rattle.record.proofs.Kept.{filled_take, room_first}
 use Rattle.record.proofs.ConnectionTold.{held_most_opened, held_most_awaiting}
 use Rattle.stream.specs.Collecting.{line_text, line_of, empty_line}
 use Rattle.stream.proofs.LinesCollected.{empty_is_none, line_gathered}
-use Rattle.meaning.specs.Meaning.{meant, done}
+use Rattle.meaning.specs.Meaning.{answer_for, after_request}
 use Rattle.meaning.proofs.ClassKnown.{class_low, class_high}
-use Rattle.device.specs.Answering.{line_asks, replied, swallowed, line_answer}
-use Rattle.device.specs.Receiving.{spoken, is_match, digest_long, set_up_password, line_ended}
+use Rattle.device.specs.Answering.{line_asks, command_answer, line_swallowed, line_answer}
+use Rattle.device.specs.Receiving.{served_line, is_match, digest_long, set_up_password, line_ended}
 use Rattle.device.specs.Receiving.{taken_in}
 use Rattle.device.proofs.LineCases.{ended_open, ended_match}
 use Rattle.record.specs.Facts.{IsSettings}
@@ -61,7 +61,7 @@ module _ (s : Settings) (o : Own) (c : Connection) (empty : c.line ≡ empty_lin
 
   pub open_line-taken : (xs : List ℕ) → c.phase ≡ opened → length xs ≤ command_most → list_all not_cr xs ≡ true
       → taken_in s o c (xs ++ (code "\r" ∷ rest))
-      ≡ record { ended = spoken c (line_answer s o xs); taken = length xs + 1 }
+      ≡ record { ended = served_line c (line_answer s o xs); taken = length xs + 1 }
   open_line-taken xs phase short plain = grind (arith, held_most_opened, ended_open, line_text-line_of, whole_line)
 
   -- awaiting: the digest of the random number and the password stands before the line
@@ -94,13 +94,13 @@ module _ (s : Settings) (o : Own) (c : Connection) (empty : c.line ≡ empty_lin
 
     pub matching_line-taken : c.phase ≡ awaiting → length xs ≤ command_most → list_all not_cr xs ≡ true
         → taken_in s o c (led ++ (code "\r" ∷ rest))
-        ≡ record { ended = spoken c (line_answer s o xs); taken = digest_long + length xs + 1 }
+        ≡ record { ended = served_line c (line_answer s o xs); taken = digest_long + length xs + 1 }
     matching_line-taken phase short plain =
         let most : held_most c.phase ≡ line_room = ap held_most phase ∙ held_most_awaiting in
         let long = led_long in
-        let ended : line_ended s o c (line_of led) ≡ spoken c (line_answer s o xs)
+        let ended : line_ended s o c (line_of led) ≡ served_line c (line_answer s o xs)
         = ended_match s o c (line_of led) phase (led_matches short)
-        ∙ ap (λ (l : List ℕ). spoken c (line_answer s o l)) (drop-line_text short) in
+        ∙ ap (λ (l : List ℕ). served_line c (line_answer s o l)) (drop-line_text short) in
         whole_line led (omega arith) (omega arith)
         (list_all-append not_cr digest xs (digits_have_no_cr digest (hex_are_digits _)) plain)
         ∙ (λ i. record { ended = ended i; taken = long i + 1 })
@@ -111,10 +111,10 @@ module _ (s : Settings) (o : Own) (settings : is_settings s ≡ true) (k : Comma
   known = (settings_is s).0 settings
 
   -- of a class higher than the set-up's: no form that it takes (RULES, Class 2)
-  pub higher_swallowed : s.class_number < command_class k → line_answer s o (command_text k) ≡ swallowed o
+  pub higher_swallowed : s.class_number < command_class k → line_answer s o (command_text k) ≡ line_swallowed o
   unfolding line_answer
   higher_swallowed higher =
-      if_no (replied s o (command_text k)) (swallowed o)
+      if_no (command_answer s o (command_text k)) (line_swallowed o)
       (command_of_higher_class k s.class_number (class_low s known) (class_high s known) higher)
 
   module _ (writable : is_command k ≡ true) (within : command_class k ≤ s.class_number) where
@@ -128,18 +128,18 @@ module _ (s : Settings) (o : Own) (settings : is_settings s ≡ true) (k : Comma
 
     -- class and body as sent, what the command means, and what it does
     pub command_answered : line_answer s o (command_text k) ≡ record {
-      own = done s o (Ok k);
+      own = after_request s o (Ok k);
       reply =
           codes "%" ++ (class_digit (command_class k) ∷ body_text (body_of k)) ++ codes "="
-          ++ said_bytes (meant s o (Ok k)) ++ codes "\r";
+          ++ said_bytes (answer_for s o (Ok k)) ++ codes "\r";
     }
     unfolding line_answer
     command_answered =
-        if_yes (replied s o (command_text k)) (swallowed o)
+        if_yes (command_answer s o (command_text k)) (line_swallowed o)
         (command_form k s.class_number (class_low s known) (class_high s known) within)
         ∙ (λ i. record {
-          own = done s o (line_asks-command_text i);
+          own = after_request s o (line_asks-command_text i);
           reply =
               codes "%" ++ (class_digit (command_class k) ∷ head_body-command_text k i) ++ codes "="
-              ++ said_bytes (meant s o (line_asks-command_text i)) ++ codes "\r";
+              ++ said_bytes (answer_for s o (line_asks-command_text i)) ++ codes "\r";
         })

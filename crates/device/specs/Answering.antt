@@ -13,7 +13,7 @@ use Rattle.pjlink.specs.Requests.{Request}
 use Rattle.pjlink.specs.Said.{said_bytes}
 use Rattle.record.specs.declared.types.Settings.{Settings}
 use Rattle.record.specs.declared.types.Own.{Own}
-use Rattle.meaning.specs.Meaning.{meant, done}
+use Rattle.meaning.specs.Meaning.{answer_for, after_request}
 
 pub record Answered : Type 0 where
   pub own : Own
@@ -22,14 +22,14 @@ pub record Answered : Type 0 where
 abbrev pub line_asks : List ℕ → Request
 line_asks l = request_of (line_class l) (head_body l) (command_parameter l)
 
-abbrev pub swallowed : Own → Answered
-swallowed o = record { own = o; reply = [] }
+abbrev pub line_swallowed : Own → Answered
+line_swallowed o = record { own = o; reply = [] }
 
-abbrev pub replied : Settings → Own → List ℕ → Answered
-replied s o l = record {
-  own = done s o (line_asks l);
-  reply = reply_line (l at 1) (head_body l) (said_bytes (meant s o (line_asks l)));
+abbrev pub command_answer : Settings → Own → List ℕ → Answered
+command_answer s o l = record {
+  own = after_request s o (line_asks l);
+  reply = reply_line (l at 1) (head_body l) (said_bytes (answer_for s o (line_asks l)));
 }
 
 unfoldable pub line_answer : Settings → Own → List ℕ → Answered
-line_answer s o l = if is_command_form s.class_number l then replied s o l else swallowed o
+line_answer s o l = if is_command_form s.class_number l then command_answer s o l else line_swallowed o

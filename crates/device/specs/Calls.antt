@@ -3,7 +3,7 @@
 -- is 6).
 --   Result D              what a call gives over a record type D: its number, the bytes taken, the reply, the record
 --   receiving_rows, opening_rows, closing_rows   when each call is refused, and with which number
---   received d p bs room  receiving the bytes bs at place p with so much reply memory: refused, or what is taken in
+--   received_at d p bs room  receiving the bytes bs at place p with so much reply memory: refused, or what is taken in
 --   opened_by d r room    opening with the random number r: refused, or the greeting
 --   place_taken d room    the place that opening takes and reports; 0 where it is refused
 --   closed_by d p         closing at place p: refused, or the closed connection
@@ -30,8 +30,8 @@ pub record Result (D : Type 0) : Type 0 where
 abbrev pub refused_by : {D : Type 0} → ℕ → D → Result D
 refused_by n d = record { number = n; taken = 0; reply = []; device = d }
 
-abbrev pub made : {D : Type 0} → D → Result D
-made d = record { number = 0; taken = 0; reply = []; device = d }
+abbrev pub plain_result : {D : Type 0} → D → Result D
+plain_result d = record { number = 0; taken = 0; reply = []; device = d }
 
 -- lent memory under this many bytes is 2: room for the longest reply that the standard allows
 abbrev pub reply_room : ℕ
@@ -65,8 +65,8 @@ accepted_taken d p t = record {
   device = with_place d t.ended.own p t.ended.connection;
 }
 
-unfoldable pub received : Device → ℕ → List ℕ → ℕ → Result Device
-received d p bs room =
+unfoldable pub received_at : Device → ℕ → List ℕ → ℕ → Result Device
+received_at d p bs room =
     by_rows (receiving_rows d p room) (λ n. refused_by n d)
     (accepted_taken d p (taken_in d.settings d.own (connection_at d p) bs))
 
@@ -77,15 +77,15 @@ has_password s = not (s.password.len == 0)
 unfoldable pub greeting : Settings → ℕ → List ℕ
 greeting s r = if has_password s then greeting_secured (hex_digits 8 r) else greeting_open
 
-unfoldable pub greeted : Settings → ℕ → Connection
-greeted s r = begun_in (if has_password s then awaiting else opened) r
+unfoldable pub new_connection : Settings → ℕ → Connection
+new_connection s r = begun_in (if has_password s then awaiting else opened) r
 
 abbrev pub accepted_opening : Device → ℕ → Result Device
 accepted_opening d r = record {
   number = 0;
   taken = 0;
   reply = greeting d.settings r;
-  device = with_place d d.own (lowest_shut d.connections) (greeted d.settings r);
+  device = with_place d d.own (lowest_shut d.connections) (new_connection d.settings r);
 }
 
 unfoldable pub opened_by : Device → ℕ → ℕ → Result Device
@@ -95,4 +95,4 @@ unfoldable pub place_taken : Device → ℕ → ℕ
 place_taken d room = by_rows (opening_rows d room) (λ n. 0) (lowest_shut d.connections)
 
 unfoldable pub closed_by : Device → ℕ → Result Device
-closed_by d p = by_rows (closing_rows d p) (λ n. refused_by n d) (made (with_place d d.own p closed))
+closed_by d p = by_rows (closing_rows d p) (λ n. refused_by n d) (plain_result (with_place d d.own p closed))

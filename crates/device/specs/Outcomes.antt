@@ -1,6 +1,6 @@
 -- What a call says beside the record and the lent memory, in numbers.
 --   Told                 its number, the bytes taken, the length of the reply
---   told r               what `Calls` says that the call gives
+--   result_told r        what `Calls` says that the call gives
 --   receiving_told r, opening_told r     what the code's outcome says: a refusal takes nothing and replies nothing, and
 --                        an opening takes no bytes
 --   opened_place r           the place that an opening reports; 0 where it is refused
@@ -17,8 +17,8 @@ pub record Told : Type 0 where
   pub taken : ℕ
   pub length : ℕ
 
-abbrev pub told : {D : Type 0} → Given D → Told
-told r = record { number = r.number; taken = r.taken; length = length r.reply }
+abbrev pub result_told : {D : Type 0} → Given D → Told
+result_told r = record { number = r.number; taken = r.taken; length = length r.reply }
 
 abbrev pub refusal_told : Refusal → Told
 refusal_told r = record { number = refusal_number r; taken = 0; length = 0 }

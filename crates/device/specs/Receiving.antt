@@ -1,6 +1,6 @@
 -- Receiving on the parts: settings, the projector's own part, and one connection (RULES, Connection).
 --   begun_in phase r     a connection at the start of a phase: age 0, that random number, nothing collected
---   turned c phase       the connection at the start of another phase, its random number kept
+--   phase_start c phase  the connection at the start of another phase, its random number kept
 --   is_led_by r p l      the bytes l of a line start with the digest of r and the password p, and are at most 167
 --   is_match s c l       the line is not overlong and starts with the digest of the random number and the password
 --   line_ended s o c l   what the CR of the line l does
@@ -19,8 +19,8 @@ use Rattle.record.specs.declared.types.Own.{Own}
 use Rattle.record.specs.declared.types.Line.{Line}
 use Rattle.record.specs.declared.types.Connection.{Connection}
 use Rattle.stream.specs.declared.Gathered.{Gathered}
-use Rattle.stream.specs.Collecting.{empty_line, line_text, gathered}
-use Rattle.device.specs.Answering.{Answered, line_answer, swallowed}
+use Rattle.stream.specs.Collecting.{empty_line, line_text, gathered_from}
+use Rattle.device.specs.Answering.{Answered, line_answer, line_swallowed}
 
 pub record Ended : Type 0 where
   pub own : Own
@@ -34,8 +34,8 @@ pub record Taken : Type 0 where
 abbrev pub begun_in : ℕ → ℕ → Connection
 begun_in phase random = record { phase = phase; age = 0; random = random; line = empty_line }
 
-abbrev pub turned : Connection → ℕ → Connection
-turned c phase = begun_in phase c.random
+abbrev pub phase_start : Connection → ℕ → Connection
+phase_start c phase = begun_in phase c.random
 
 abbrev pub digest_long : ℕ
 digest_long = 32
@@ -55,19 +55,19 @@ is_match s c l =
 abbrev pub no_reply : Own → Connection → Ended
 no_reply o c = record { own = o; connection = c; reply = [] }
 
-abbrev pub spoken : Connection → Answered → Ended
-spoken c a = record { own = a.own; connection = turned c opened; reply = a.reply }
+abbrev pub served_line : Connection → Answered → Ended
+served_line c a = record { own = a.own; connection = phase_start c opened; reply = a.reply }
 
 abbrev pub refused_digest : Own → Connection → Ended
-refused_digest o c = record { own = o; connection = turned c failed; reply = erra_line }
+refused_digest o c = record { own = o; connection = phase_start c failed; reply = erra_line }
 
 -- open: an overlong line is swallowed; awaiting: the rest of a line with the matching digest is a line, any other line
 -- is refused; failed: ignored
 unfoldable pub line_ended : Settings → Own → Connection → Line → Ended
 line_ended s o c l =
-    if c.phase == opened then spoken c (if l.overlong then swallowed o else line_answer s o (line_text l))
+    if c.phase == opened then served_line c (if l.overlong then line_swallowed o else line_answer s o (line_text l))
     else if c.phase == awaiting then
-    (if is_match s c l then spoken c (line_answer s o (drop digest_long (line_text l))) else refused_digest o c)
+    (if is_match s c l then served_line c (line_answer s o (drop digest_long (line_text l))) else refused_digest o c)
     else no_reply o c
 
 -- a failed connection takes bytes and keeps none
@@ -80,4 +80,4 @@ taken_of s o c g =
     else record { ended = no_reply o (keeping_line c g.line); taken = g.before }
 
 unfoldable pub taken_in : Settings → Own → Connection → List ℕ → Taken
-taken_in s o c bs = taken_of s o c (gathered (held_most c.phase) c.line bs)
+taken_in s o c bs = taken_of s o c (gathered_from (held_most c.phase) c.line bs)

@@ -3,8 +3,8 @@
 ghost use Rattle.std.specs.Prelude.{◌≡◌, length};
 ghost use Rattle.text.specs.Words.{over};
 ghost use Rattle.record.specs.Refusals.{outcome_number};
-ghost use Rattle.device.specs.Calls.{received, opened_by, place_taken, closed_by};
-ghost use Rattle.device.specs.Outcomes.{told, receiving_told, opening_told, opened_place};
+ghost use Rattle.device.specs.Calls.{received_at, opened_by, place_taken, closed_by};
+ghost use Rattle.device.specs.Outcomes.{result_told, receiving_told, opening_told, opened_place};
 
 use crate::on_legal;
 use record::refusal::Refusal;
@@ -26,7 +26,7 @@ pub struct Opened {
 
 /// Bytes from the network at a place: up to and including the first CR, or all. Refused, even for no bytes: `NotLegal`,
 /// `NoRoom` for less than 136 bytes of memory, `OutOfRange` for no such place, `Closed`, in that order.
-#[tactic(auto, unfolding(crate::specs::Calls::received))]
+#[tactic(auto, unfolding(crate::specs::Calls::received_at))]
 pub fn receive(
     device: &mut Device,
     place: usize,
@@ -34,9 +34,9 @@ pub fn receive(
     out: &mut [u8],
 ) -> Result<Received, Refusal>
     ensures told { receiving_told result
-        ≡ told (received device.old place bytes.now (length out.old)) }
-    ensures device { device.new ≡ (received device.old place bytes.now (length out.old)).device }
-    ensures reply { out.new ≡ over (received device.old place bytes.now (length out.old)).reply
+        ≡ result_told (received_at device.old place bytes.now (length out.old)) }
+    ensures device { device.new ≡ (received_at device.old place bytes.now (length out.old)).device }
+    ensures reply { out.new ≡ over (received_at device.old place bytes.now (length out.old)).reply
         out.old }
 {
     if !device.is_legal() {
@@ -49,7 +49,7 @@ pub fn receive(
 /// `NoRoom` for less than 136 bytes of memory, `NoPlace` where none is closed, in that order.
 #[tactic(auto, unfolding(crate::specs::Calls::opened_by, crate::specs::Calls::place_taken))]
 pub fn open(device: &mut Device, random: u32, out: &mut [u8]) -> Result<Opened, Refusal>
-    ensures told { opening_told result ≡ told (opened_by device.old random (length out.old)) }
+    ensures told { opening_told result ≡ result_told (opened_by device.old random (length out.old)) }
     ensures place { opened_place result ≡ place_taken device.old (length out.old) }
     ensures device { device.new ≡ (opened_by device.old random (length out.old)).device }
     ensures reply { out.new ≡ over (opened_by device.old random (length out.old)).reply

@@ -4,8 +4,8 @@ ghost use Rattle.std.specs.Prelude.{◌≡◌, true, ◌≤◌, length};
 ghost use Rattle.text.specs.Words.{over};
 ghost use Rattle.record.specs.Legal.{is_legal};
 ghost use Rattle.record.specs.Refusals.{outcome_number};
-ghost use Rattle.device.specs.Calls.{received, opened_by, place_taken, closed_by, greeting, greeted};
-ghost use Rattle.device.specs.Outcomes.{told, receiving_told, opening_told, opened_place};
+ghost use Rattle.device.specs.Calls.{received_at, opened_by, place_taken, closed_by, greeting, new_connection};
+ghost use Rattle.device.specs.Outcomes.{result_told, receiving_told, opening_told, opened_place};
 
 use crate::calls::{Opened, Received};
 use crate::receiving::Taken;
@@ -20,7 +20,7 @@ use words::codec::Line;
 pub const REPLY_ROOM: usize = 136;
 
 /// As `calls::receive`, but for `NotLegal`.
-#[tactic(auto, unfolding(crate::specs::Calls::received))]
+#[tactic(auto, unfolding(crate::specs::Calls::received_at))]
 pub fn receive(
     device: &mut Device,
     place: usize,
@@ -29,9 +29,9 @@ pub fn receive(
 ) -> Result<Received, Refusal>
     requires { is_legal device.old ≡ true }
     ensures told { receiving_told result
-        ≡ told (received device.old place bytes.now (length out.old)) }
-    ensures device { device.new ≡ (received device.old place bytes.now (length out.old)).device }
-    ensures reply { out.new ≡ over (received device.old place bytes.now (length out.old)).reply
+        ≡ result_told (received_at device.old place bytes.now (length out.old)) }
+    ensures device { device.new ≡ (received_at device.old place bytes.now (length out.old)).device }
+    ensures reply { out.new ≡ over (received_at device.old place bytes.now (length out.old)).reply
         out.old }
 {
     if out.len() < REPLY_ROOM {
@@ -82,9 +82,9 @@ fn greeting(s: &Settings, random: u32) -> Line
 }
 
 // The connection as a greeting leaves it: open where there is no password, else awaiting the digest.
-#[tactic(auto, unfolding(crate::specs::Calls::greeted))]
+#[tactic(auto, unfolding(crate::specs::Calls::new_connection))]
 fn greet(s: &Settings, random: u32, c: &mut Connection)
-    ensures { c.new ≡ greeted s.now random }
+    ensures { c.new ≡ new_connection s.now random }
 {
     let phase = if s.password.len == 0 {
         Phase::Open { random }
@@ -98,7 +98,7 @@ fn greet(s: &Settings, random: u32, c: &mut Connection)
 #[tactic(auto, unfolding(crate::specs::Calls::opened_by, crate::specs::Calls::place_taken))]
 pub fn open(device: &mut Device, random: u32, out: &mut [u8]) -> Result<Opened, Refusal>
     requires { is_legal device.old ≡ true }
-    ensures told { opening_told result ≡ told (opened_by device.old random (length out.old)) }
+    ensures told { opening_told result ≡ result_told (opened_by device.old random (length out.old)) }
     ensures place { opened_place result ≡ place_taken device.old (length out.old) }
     ensures device { device.new ≡ (opened_by device.old random (length out.old)).device }
     ensures reply { out.new ≡ over (opened_by device.old random (length out.old)).reply

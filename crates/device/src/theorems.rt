@@ -13,35 +13,36 @@ ghost use Rattle.record.specs.declared.types.Own.{Own};
 ghost use Rattle.record.specs.declared.types.Connection.{Connection};
 ghost use Rattle.record.specs.declared.types.Device.{Device};
 ghost use Rattle.stream.specs.Collecting.{empty_line};
-ghost use Rattle.device.specs.Receiving.{begun_in, turned, no_reply, taken_in};
-ghost use Rattle.device.specs.Calls.{has_password, greeting, greeted, reply_room};
-ghost use Rattle.device.specs.Calls.{opened_by, place_taken, closed_by, received};
-ghost use Rattle.device.specs.Outcomes.{Told, told};
+ghost use Rattle.device.specs.Receiving.{begun_in, phase_start, no_reply, taken_in};
+ghost use Rattle.device.specs.Calls.{has_password, greeting, new_connection, reply_room};
+ghost use Rattle.device.specs.Calls.{opened_by, place_taken, closed_by, received_at};
+ghost use Rattle.device.specs.Outcomes.{Told, result_told};
 ghost use Rattle.text.specs.Words.{over};
 
 /// Two results that meet the promise of a call are equal: what it says, the record and the lent memory.
 pub fn one_result()
     ensures opening { (d : Device) (random : ℕ) (out : List ℕ) (r s : Told) (p q : ℕ) (x y : Device) (m n : List ℕ)
         → let o = opened_by d random (length out) in
-        (r ≡ told o) × (p ≡ place_taken d (length out)) × (x ≡ o.device) × (m ≡ over o.reply out)
-        → (s ≡ told o) × (q ≡ place_taken d (length out)) × (y ≡ o.device) × (n ≡ over o.reply out)
+        (r ≡ result_told o) × (p ≡ place_taken d (length out)) × (x ≡ o.device) × (m ≡ over o.reply out)
+        → (s ≡ result_told o) × (q ≡ place_taken d (length out)) × (y ≡ o.device) × (n ≡ over o.reply out)
         → (r ≡ s) × (p ≡ q) × (x ≡ y) × (m ≡ n) }
     ensures closing { (d : Device) (p : ℕ) (r s : ℕ) (x y : Device)
         → (r ≡ (closed_by d p).number) × (x ≡ (closed_by d p).device)
         → (s ≡ (closed_by d p).number) × (y ≡ (closed_by d p).device) → (r ≡ s) × (x ≡ y) }
     ensures receiving { (d : Device) (p : ℕ) (bs out : List ℕ) (r s : Told) (x y : Device) (m n : List ℕ)
-        → let t = received d p bs (length out) in
-        (r ≡ told t) × (x ≡ t.device) × (m ≡ over t.reply out)
-        → (s ≡ told t) × (y ≡ t.device) × (n ≡ over t.reply out) → (r ≡ s) × (x ≡ y) × (m ≡ n) }
+        → let t = received_at d p bs (length out) in
+        (r ≡ result_told t) × (x ≡ t.device) × (m ≡ over t.reply out)
+        → (s ≡ result_told t) × (y ≡ t.device) × (n ≡ over t.reply out) → (r ≡ s) × (x ≡ y) × (m ≡ n) }
 {}
 
 /// The greeting and the connection that it opens, with a password and without (RULES, Passwords).
 #[tactic(auto, using(crate::proofs::Cases::greetings))]
 pub fn a_password_is_asked_for()
     ensures secured { (s : Settings) (random : ℕ) → has_password s ≡ true
-        → (greeting s random ≡ greeting_secured (hex_digits 8 random)) × (greeted s random ≡ begun_in awaiting random) }
+        → (greeting s random ≡ greeting_secured (hex_digits 8 random))
+        × (new_connection s random ≡ begun_in awaiting random) }
     ensures unsecured { (s : Settings) (random : ℕ) → has_password s ≡ false
-        → (greeting s random ≡ greeting_open) × (greeted s random ≡ begun_in opened random) }
+        → (greeting s random ≡ greeting_open) × (new_connection s random ≡ begun_in opened random) }
 {}
 
 /// A call takes the bytes up to and including the first CR, or all of them if there is none, in list_all phase; of no
@@ -60,15 +61,15 @@ pub fn a_call_takes_one_line()
 /// (RULES, Connection).
 pub fn what_receiving_keeps()
     ensures own { (d : Device) (p : ℕ) (bytes : List ℕ) (room : ℕ)
-        → let o = (received d p bytes room).device.own in
+        → let o = (received_at d p bytes room).device.own in
         (o.lamps ≡ d.own.lamps) × (o.enabled ≡ d.own.enabled) × (o.fault ≡ d.own.fault) × (o.errors ≡ d.own.errors) }
     ensures open_between_lines { (d : Device) (p : ℕ) → p < places_count → is_legal d ≡ true
         → let c = connection_at d p in
-        c.phase ≡ opened → c.line ≡ empty_line → turned c opened ≡ c }
+        c.phase ≡ opened → c.line ≡ empty_line → phase_start c opened ≡ c }
     ensures failed_record { (d : Device) (p : ℕ) (bytes : List ℕ) (room : ℕ)
-        → (connection_at d p).phase ≡ failed → (received d p bytes room).device ≡ d }
+        → (connection_at d p).phase ≡ failed → (received_at d p bytes room).device ≡ d }
     ensures failed_reply { (d : Device) (p : ℕ) (bytes : List ℕ) (room : ℕ)
-        → (connection_at d p).phase ≡ failed → (received d p bytes room).reply ≡ [] }
+        → (connection_at d p).phase ≡ failed → (received_at d p bytes room).reply ≡ [] }
 {}
 
 /// More lent memory than a call asks for changes nothing of what it does.
@@ -78,5 +79,5 @@ pub fn more_memory_changes_nothing()
         → opened_by d random reply_room ≡ opened_by d random room }
     ensures place { (d : Device) (room : ℕ) → reply_room ≤ room → place_taken d reply_room ≡ place_taken d room }
     ensures receiving { (d : Device) (p : ℕ) (bytes : List ℕ) (room : ℕ) → reply_room ≤ room
-        → received d p bytes reply_room ≡ received d p bytes room }
+        → received_at d p bytes reply_room ≡ received_at d p bytes room }
 {}

@@ -8,7 +8,7 @@
 -- Assumes nothing.
 use Rattle.std.specs.Prelude.{ℕ, zero, suc, ◌*◌, ◌/◌, List, ◌++◌, length, take, drop}
 use Rattle.std.specs.Int.{to_le_bytes, w32}
-use Rattle.digest.specs.Padding.{padding, padded}
+use Rattle.digest.specs.Padding.{padding, padded_message}
 use Rattle.digest.specs.Rounds.{block_of}
 use Rattle.digest.specs.declared.Buffer.{Buffer}
 
@@ -26,7 +26,7 @@ abbrev pub digest_bytes : Buffer → List ℕ
 digest_bytes q = to_le_bytes w32 q.a ++ (to_le_bytes w32 q.b ++ (to_le_bytes w32 q.c ++ to_le_bytes w32 q.d))
 
 unfoldable pub md5_of : List ℕ → List ℕ
-md5_of s = digest_bytes (whole_blocks (padded s) start_words)
+md5_of s = digest_bytes (whole_blocks (padded_message s) start_words)
 
 abbrev pub finishing : Buffer → List ℕ → ℕ → List ℕ
 finishing q s b = digest_bytes (whole_blocks (s ++ padding (length s) b) q)

@@ -2,7 +2,7 @@
 --   zeros_after n     how many zero bytes bring n + 1 bytes to 448 bits modulo 512: to 56 bytes modulo 64
 --   bit_length n      the length in bits of n bytes, modulo 2^64 ("only the low-order 64 bits of b are used")
 --   padding n b       after n bytes: a single "1" bit, "0" bits, and the 64 bits of b, low-order byte first
---   padded s          the message s with its padding and its length
+--   padded_message s  the message s with its padding and its length
 -- Assumes nothing.
 use Rattle.std.specs.Prelude.{ℕ, ◌+◌, ◌-◌, ◌*◌, ◌%◌, ◌^◌, List, ◌∷◌, ◌++◌, length, replicate}
 use Rattle.std.specs.Int.{to_le_bytes, w64}
@@ -16,5 +16,5 @@ bit_length n = (8 * n) % 2 ^ 64
 unfoldable pub padding : ℕ → ℕ → List ℕ
 padding n b = 0x80 ∷ (replicate (zeros_after n) 0 ++ to_le_bytes w64 b)
 
-abbrev pub padded : List ℕ → List ℕ
-padded s = s ++ padding (length s) (bit_length (length s))
+abbrev pub padded_message : List ℕ → List ℕ
+padded_message s = s ++ padding (length s) (bit_length (length s))

@@ -5,10 +5,10 @@
 --   shifts                their s, a round a row: each row is gone through four times
 --   by_round i w x y z    w, x, y or z, as operation i is of round 1, 2, 3 or 4
 --   in_row f i            what f is of four operations, a row [ABCD k s i] [DABC k s i] [CDAB k s i] [BCDA k s i]
---   operated q f x s t    a = b + ((a + f + x + t) <<< s), after which DABC are called ABCD, for the next operation
+--   operated_with q f x s t  a = b + ((a + f + x + t) <<< s), after which DABC are called ABCD, for the next operation
 --   operation xs i q      operation i on the block xs
 --   operations i n xs q   n operations, the first of them operation i
---   added p q             the four words q, each increased by what it was before the block
+--   buffer_sum p q        the four words q, each increased by what it was before the block
 --   block_of xs q         the four words after the block xs, from the four words q
 -- Assumes nothing.
 use Rattle.std.specs.Prelude.{ℕ, zero, suc, ◌+◌, ◌*◌, ◌/◌, ◌%◌, List, [], ◌∷◌, bit_and, bit_or, bit_xor, nat_lt}
@@ -75,20 +75,20 @@ function_of i b c d = by_round i (fn_f b c d) (fn_g b c d) (fn_h b c d) (fn_i b 
 abbrev pub in_row : (ℕ → ℕ) → ℕ → List ℕ
 in_row f i = f i ∷ f (i + 1) ∷ f (i + 2) ∷ f (i + 3) ∷ []
 
-unfoldable pub operated : Buffer → ℕ → ℕ → ℕ → ℕ → Buffer
-operated q f x s t =
+unfoldable pub operated_with : Buffer → ℕ → ℕ → ℕ → ℕ → Buffer
+operated_with q f x s t =
     record { a = q.d; b = q.b plus ((q.a plus f plus x plus t) <<< s); c = q.b; d = q.c }
 
 unfoldable pub operation : List ℕ → ℕ → Buffer → Buffer
 operation xs i q =
-    operated q (function_of i q.b q.c q.d) (word_at xs (4 * word_number i)) (shift_of i) (constant_of i)
+    operated_with q (function_of i q.b q.c q.d) (word_at xs (4 * word_number i)) (shift_of i) (constant_of i)
 
 unfoldable pub operations : ℕ → ℕ → List ℕ → Buffer → Buffer
 operations i zero xs q = q
 operations i (suc n) xs q = operation xs (i + n) (operations i n xs q)
 
-unfoldable pub added : Buffer → Buffer → Buffer
-added p q = record { a = p.a plus q.a; b = p.b plus q.b; c = p.c plus q.c; d = p.d plus q.d }
+unfoldable pub buffer_sum : Buffer → Buffer → Buffer
+buffer_sum p q = record { a = p.a plus q.a; b = p.b plus q.b; c = p.c plus q.c; d = p.d plus q.d }
 
 unfoldable pub block_of : List ℕ → Buffer → Buffer
-block_of xs q = added q (operations 0 64 xs q)
+block_of xs q = buffer_sum q (operations 0 64 xs q)

@@ -2,15 +2,15 @@
 mod rounds;
 
 ghost use Rattle.std.specs.Prelude.{◌≡◌, length};
-ghost use Rattle.digest.specs.Rounds.{added, block_of};
+ghost use Rattle.digest.specs.Rounds.{buffer_sum, block_of};
 ghost use Rattle.digest.specs.Md5.{whole_blocks};
 
 use crate::Buffer;
 use std::num::wrapping_add_u32;
 
-#[tactic(auto, unfolding(crate::specs::Rounds::added))]
+#[tactic(auto, unfolding(crate::specs::Rounds::buffer_sum))]
 fn add(p: Buffer, q: Buffer) -> Buffer
-    ensures { result ≡ added p q }
+    ensures { result ≡ buffer_sum p q }
 {
     Buffer {
         a: wrapping_add_u32(p.a, q.a),

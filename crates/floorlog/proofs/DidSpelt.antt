@@ -3,28 +3,28 @@
 use Rattle.std.proofs.Common.{ℕ, ◌≡◌, refl, List}
 use Rattle.record.specs.Given.{given_by}
 use Rattle.record.specs.declared.types.Device.{Device}
-use Rattle.clock.specs.Passing.{passed}
-use Rattle.device.specs.Calls.{made, reply_room, received, closed_by}
+use Rattle.clock.specs.Passing.{time_passed}
+use Rattle.device.specs.Calls.{plain_result, reply_room, received_at, closed_by}
 use Rattle.floorlog.specs.Events.{opens, receives, passes, closes, no_such}
-use Rattle.floorlog.specs.Doing.{changed_to, log_place, opened_in_log, did}
+use Rattle.floorlog.specs.Doing.{changed_to, log_place, opened_in_log, event_result}
 
 module _ (d : Device) where
-  pub did_opening : (r : ℕ) → did d (opens r) ≡ opened_in_log d r
-  unfolding did
+  pub did_opening : (r : ℕ) → event_result d (opens r) ≡ opened_in_log d r
+  unfolding event_result
   did_opening r = refl
 
-  pub did-receives : (bs : List ℕ) → did d (receives bs) ≡ received d log_place bs reply_room
-  unfolding did
-  did-receives bs = refl
+  pub event_result-receives : (bs : List ℕ) → event_result d (receives bs) ≡ received_at d log_place bs reply_room
+  unfolding event_result
+  event_result-receives bs = refl
 
-  pub did_passing : (n : ℕ) → did d (passes n) ≡ changed_to (given_by d (passed d n))
-  unfolding did
+  pub did_passing : (n : ℕ) → event_result d (passes n) ≡ changed_to (given_by d (time_passed d n))
+  unfolding event_result
   did_passing n = refl
 
-  pub did_closing : did d closes ≡ closed_by d log_place
-  unfolding did
+  pub did_closing : event_result d closes ≡ closed_by d log_place
+  unfolding event_result
   did_closing = refl
 
-  pub did_nothing : did d no_such ≡ made d
-  unfolding did
+  pub did_nothing : event_result d no_such ≡ plain_result d
+  unfolding event_result
   did_nothing = refl

@@ -13,11 +13,11 @@ use Rattle.clock.specs.Second.{times, connection_second, second}
 use Rattle.clock.proofs.InOneGo.{parts_pass}
 use Rattle.clock.proofs.TimeAdds.{no_seconds}
 use Rattle.clock.proofs.Cases.{passed_by}
-use Rattle.device.specs.Calls.{reply_room, greeted}
+use Rattle.device.specs.Calls.{reply_room, new_connection}
 use Rattle.device.proofs.Cases.{received_by, opened_by_lem, closed_by_lem}
 use Rattle.floorlog.specs.declared.line.Says.{Says}
 use Rattle.floorlog.specs.Events.{LogEvent, opens, receives, passes, closes, no_such, event_of}
-use Rattle.floorlog.specs.Doing.{log_place, did}
+use Rattle.floorlog.specs.Doing.{log_place, event_result}
 use Rattle.floorlog.specs.Told.{seconds_of, places_after, Drives}
 use Rattle.floorlog.proofs.LogOpenings.{log_opened_by}
 use Rattle.floorlog.proofs.OnePlace.{first_is_lowest_shut}
@@ -51,17 +51,17 @@ module _ (d : Device) where
   pub itself_kept : Kept d
   itself_kept = set-get_or before log_place no_connection
 
-  opening_kept : (r : ℕ) → Kept (did d (opens r)).device
-  unfolding did
+  opening_kept : (r : ℕ) → Kept (event_result d (opens r)).device
+  unfolding event_result
   opening_kept r =
       log_opened_by d r (λ q. Kept q.device) (λ n z. itself_kept)
       (λ legal free. opened_by_lem d r reply_room (λ q. Kept q.device) (λ n z. itself_kept)
-      (λ h s c. let new = greeted d.settings r in subst
+      (λ h s c. let new = new_connection d.settings r in subst
       (λ (k : ℕ). set before log_place (slice_index_or (set before k new) log_place no_connection) ≡ set before k new)
       (sym (first_is_lowest_shut before free)) (put_there before new)))
 
-  passing_drives : (n : ℕ) → Drives n d (did d (passes n)).device
-  unfolding did
+  passing_drives : (n : ℕ) → Drives n d (event_result d (passes n)).device
+  unfolding event_result
   passing_drives n =
       passed_by (λ r. Drives n d r.device) d n
       (λ illegal. ap (λ (t : Bool). set (places_after t n before) log_place (connection_at d log_place)) illegal
@@ -71,16 +71,16 @@ module _ (d : Device) where
       ∙ ap (λ (e : Device). set e.connections log_place (connection_at after log_place)) (sym (parts_pass n d))
       ∙ set-get_or after.connections log_place no_connection)
 
-  pub did_drives : (e : LogEvent) → Drives (seconds_of e) d (did d e).device
-  unfolding did
-  did_drives (opens r) = none_pass (did d (opens r)).device (opening_kept r)
+  pub did_drives : (e : LogEvent) → Drives (seconds_of e) d (event_result d e).device
+  unfolding event_result
+  did_drives (opens r) = none_pass (event_result d (opens r)).device (opening_kept r)
   did_drives (receives bs) =
-      none_pass (did d (receives bs)).device
+      none_pass (event_result d (receives bs)).device
       (received_by d log_place bs reply_room (λ q. Kept q.device) (λ n z. itself_kept)
       (λ h s t c. put_there before _))
   did_drives (passes n) = passing_drives n
   did_drives closes =
-      none_pass (did d closes).device
+      none_pass (event_result d closes).device
       (closed_by_lem d log_place (λ q. Kept q.device) (λ n z. itself_kept) (λ h t c. put_there before _))
   did_drives no_such = none_pass d itself_kept
 
@@ -88,7 +88,8 @@ module _ (d : Device) where
 seconds_said : (says : Says) (bs : List ℕ) → seconds_of (event_of says []) ≡ seconds_of (event_of says bs)
 seconds_said says bs = grind arith
 
-pub driven : (d : Device) (says : Says) (bs : List ℕ) {after : Device} → after ≡ (did d (event_of says bs)).device
+pub driven : (d : Device) (says : Says) (bs : List ℕ) {after : Device}
+    → after ≡ (event_result d (event_of says bs)).device
     → Drives (seconds_of (event_of says [])) d after
 driven d says bs {after} left =
     subst (λ (n : ℕ). Drives n d after) (sym (seconds_said says bs))

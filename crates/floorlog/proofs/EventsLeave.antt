@@ -20,7 +20,7 @@ use Rattle.floorlog.specs.declared.line.Says.TheVariants.{NoSuch}
 use Rattle.floorlog.specs.declared.outcome.Outcome.TheVariants.{Refused}
 use Rattle.floorlog.specs.Outcomes.{outcome_text}
 use Rattle.floorlog.specs.Events.{LogEvent, opens, receives, passes, closes, no_such, event_of}
-use Rattle.floorlog.specs.Doing.{log_place, did, shown}
+use Rattle.floorlog.specs.Doing.{log_place, event_result, result_text}
 use Rattle.floorlog.proofs.LogOpenings.{log_opened_by, log_opened_illegal}
 
 abbrev pub illegal_number : LogEvent → ℕ
@@ -28,18 +28,18 @@ illegal_number no_such = 0
 illegal_number e = 1
 
 module _ (d : Device) where
-  pub did-settings : (e : LogEvent) → (did d e).device.settings ≡ d.settings
-  unfolding did
-  did-settings (opens r) =
+  pub event_result-settings : (e : LogEvent) → (event_result d e).device.settings ≡ d.settings
+  unfolding event_result
+  event_result-settings (opens r) =
       log_opened_by d r (λ q. q.device.settings ≡ d.settings) (λ n z. refl)
       (λ h c. opening_keeps_settings d r reply_room)
-  did-settings (receives bs) = receiving_keeps_settings d log_place bs reply_room
-  did-settings (passes n) = (passed_leaves d n).settings
-  did-settings closes = closing_keeps_settings d log_place
-  did-settings no_such = refl
+  event_result-settings (receives bs) = receiving_keeps_settings d log_place bs reply_room
+  event_result-settings (passes n) = (passed_leaves d n).settings
+  event_result-settings closes = closing_keeps_settings d log_place
+  event_result-settings no_such = refl
 
-  pub did_legality : (e : LogEvent) → is_legal (did d e).device ≡ is_legal d
-  unfolding did
+  pub did_legality : (e : LogEvent) → is_legal (event_result d e).device ≡ is_legal d
+  unfolding event_result
   did_legality (opens r) =
       log_opened_by d r (λ q. is_legal q.device ≡ is_legal d) (λ n z. refl) (λ h c. opened_legality d r reply_room)
   did_legality (receives bs) = received_legality d log_place bs reply_room
@@ -47,16 +47,16 @@ module _ (d : Device) where
   did_legality closes = closed_legality d log_place
   did_legality no_such = refl
 
-  pub did_illegal : (e : LogEvent) → is_legal d ≡ false → did d e ≡ refused_by (illegal_number e) d
-  unfolding did
+  pub did_illegal : (e : LogEvent) → is_legal d ≡ false → event_result d e ≡ refused_by (illegal_number e) d
+  unfolding event_result
   did_illegal e h = grind (arith, log_opened_illegal, received_illegal, passed_illegal, closed_illegal)
 
-  pub illegal_kept : (e : LogEvent) → is_legal d ≡ false → d ≡ (did d e).device
+  pub illegal_kept : (e : LogEvent) → is_legal d ≡ false → d ≡ (event_result d e).device
   illegal_kept e h = ap (λ (r : Played Device). r.device) (sym (did_illegal e h))
 
-  pub illegal_silent : (e : LogEvent) (m : List ℕ) → is_legal d ≡ false → m ≡ over (did d e).reply m
+  pub illegal_silent : (e : LogEvent) (m : List ℕ) → is_legal d ≡ false → m ≡ over (event_result d e).reply m
   illegal_silent e m h = ap (λ (r : Played Device). over r.reply m) (sym (did_illegal e h))
 
   pub illegal_text : (says : Says) (bs m : List ℕ) → is_legal d ≡ false → (says ≡ NoSuch → ⊥)
-      → outcome_text (Refused NotLegal) m ≡ shown (event_of says bs) (did d (event_of says bs))
+      → outcome_text (Refused NotLegal) m ≡ result_text (event_of says bs) (event_result d (event_of says bs))
   illegal_text says bs m h g = grind (arith, did_illegal)

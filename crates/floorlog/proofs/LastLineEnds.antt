@@ -15,7 +15,7 @@ use Rattle.numbers.specs.Decimal.{digits, is_digit}
 use Rattle.numbers.proofs.Digits.{digits_at_least_1, is_digit-slice_index_or}
 use Rattle.record.specs.declared.types.Device.{Device}
 use Rattle.floorlog.specs.LastLine.{lamps_shown, last_line_of}
-use Rattle.floorlog.specs.Playing.{replayed}
+use Rattle.floorlog.specs.Playing.{replay_text}
 
 record EndsIn (f : ℕ → Bool) (l : List ℕ) : Type 0 where
   before : List ℕ
@@ -84,6 +84,6 @@ module _ (before : List ℕ) (power : ℕ) (lamps : List ℕ) where
       false≢true (sym h ∙ ap ends_last (sym same) ∙ s.passes)
 
 pub no_log_ends_in : (d : Device) (log other : List ℕ) (c : ℕ) → (is_digit c || c is "s") ≡ false
-    → replayed d log ≡ other ++ (c ∷ codes "\n") → ⊥
-unfolding replayed
+    → replay_text d log ≡ other ++ (c ∷ codes "\n") → ⊥
+unfolding replay_text
 no_log_ends_in d log other c h e = grind (arith, last_line_ends)

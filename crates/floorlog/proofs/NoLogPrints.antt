@@ -6,11 +6,11 @@ use Prim.Native.Char.{code}
 use Rattle.record.specs.declared.types.Device.{Device}
 use Rattle.textio.specs.declared.lines.Failure.{Failure}
 use Rattle.textio.specs.declared.lines.Failure.TheVariants.{Read, Write, TooLong}
-use Rattle.floorlog.specs.Playing.{replayed}
+use Rattle.floorlog.specs.Playing.{replay_text}
 use Rattle.floorlog.proofs.LastLineEnds.{no_log_ends_in}
 use Rattle.floorlog.specs.Cuts.{failure_line}
 
-pub no_log_prints : (f : Failure) (d : Device) (log before : List ℕ) → replayed d log ≡ before ++ failure_line f → ⊥
+pub no_log_prints : (f : Failure) (d : Device) (log before : List ℕ) → replay_text d log ≡ before ++ failure_line f → ⊥
 no_log_prints (Read x) d log before e =
     no_log_ends_in d log (before ++ codes "! read faile") (code "d") refl
     (e ∙ sym (append_assoc before (codes "! read faile") (codes "d\n")))

@@ -12,13 +12,13 @@ use Rattle.record.proofs.LowestShut.{below_lowest}
 use Rattle.record.proofs.Spelt.{closed_spelt, blank_spelt}
 use Rattle.record.proofs.Calls.{set_up_by}
 use Rattle.record.proofs.ConnectionsTold.{all_closed_at}
-use Rattle.record.proofs.Started.{connection_at-started}
+use Rattle.record.proofs.Started.{connection_at-start_device}
 use Rattle.clock.proofs.Untouched.{passed_leaves}
 use Rattle.device.specs.Calls.{reply_room, place_taken}
 use Rattle.device.proofs.Cases.{opened_lowest}
 use Rattle.device.proofs.Untouched.{receiving_keeps_others, opening_keeps_others, connection_at-closed_by}
 use Rattle.floorlog.specs.Events.{LogEvent, opens, receives, passes, closes, no_such, events}
-use Rattle.floorlog.specs.Doing.{log_place, did}
+use Rattle.floorlog.specs.Doing.{log_place, event_result}
 use Rattle.floorlog.specs.Playing.{sample_device, state_after}
 use Rattle.floorlog.proofs.LogOpenings.{log_opened_by}
 
@@ -42,15 +42,15 @@ unfolding sample_device
 sample_closed p there =
     let none = blank-closed p there in
     set_up_by _ (λ r. connection_at r.device p ≡ closed) none none
-    (λ h. connection_at-started _ p there)
+    (λ h. connection_at-start_device _ p there)
 
 module _ (p : ℕ) (other : p ≡ log_place → ⊥) where
   -- a closed place
   abbrev pub ClosedAt : Device → Type 0
   ClosedAt d = connection_at d p ≡ closed
 
-  pub event_elsewhere : (d : Device) (e : LogEvent) → ClosedAt d → ClosedAt (did d e).device
-  unfolding did
+  pub event_elsewhere : (d : Device) (e : LogEvent) → ClosedAt d → ClosedAt (event_result d e).device
+  unfolding event_result
   event_elsewhere d (opens r) shut =
       log_opened_by d r (λ q. ClosedAt q.device) (λ n z. shut)
       (λ legal free. opening_keeps_others d r reply_room p (λ same. other (same ∙ log_place_taken d legal free)) ∙ shut)
@@ -62,7 +62,7 @@ module _ (p : ℕ) (other : p ≡ log_place → ⊥) where
   pub events_elsewhere : (d : Device) (es : List LogEvent) → ClosedAt d → ClosedAt (state_after d es)
   unfolding state_after
   events_elsewhere d [] shut = shut
-  events_elsewhere d (e ∷ es) shut = events_elsewhere (did d e).device es (event_elsewhere d e shut)
+  events_elsewhere d (e ∷ es) shut = events_elsewhere (event_result d e).device es (event_elsewhere d e shut)
 
   pub log_elsewhere : (log : List ℕ) → p < places_count → ClosedAt (state_after sample_device (events log))
   log_elsewhere log there = events_elsewhere sample_device (events log) (sample_closed p there)

@@ -10,8 +10,8 @@ use Rattle.textio.specs.Lines.{IsTooLong}
 use Rattle.floorlog.specs.Kept.{kept_lines}
 use Rattle.floorlog.specs.LastLine.{last_device_line}
 use Rattle.floorlog.specs.Events.{LogEvent, event}
-use Rattle.floorlog.specs.Doing.{did, printed}
-use Rattle.floorlog.specs.Playing.{state_after, lines_printed, replayed}
+use Rattle.floorlog.specs.Doing.{event_result, printed_line}
+use Rattle.floorlog.specs.Playing.{state_after, lines_printed, replay_text}
 use Rattle.floorlog.specs.Replaying.{IsReplayed, IsPlayedSoFar}
 use Rattle.floorlog.specs.Observing.{BreaksOff}
 use Rattle.floorlog.specs.declared.playing.Player.{Player}
@@ -29,20 +29,20 @@ module _ (d : Device) where
   unfolding lines_printed state_after
   printed_none n = refl
 
-  module _ (e : LogEvent) {after : Device} (is : after ≡ (did d e).device) (es : List LogEvent) where
+  module _ (e : LogEvent) {after : Device} (is : after ≡ (event_result d e).device) (es : List LogEvent) where
     pub state_more : state_after after es ≡ state_after d (e ∷ es)
     unfolding state_after
     state_more = ap (λ (x : Device). state_after x es) is
 
     pub printed_more : (n : ℕ)
-        → printed_from n d (e ∷ es) ≡ printed (n + 1) e (did d e) ++ printed_from (n + 1) after es
+        → printed_from n d (e ∷ es) ≡ printed_line (n + 1) e (event_result d e) ++ printed_from (n + 1) after es
     unfolding lines_printed state_after
     printed_more n = grind (arith, append_assoc)
 
 -- from the start of a log on
 module _ {begun d : Device} {n : ℕ} (first : n ≡ 0) (is : d ≡ begun) where
-  pub all_printed : (log : List ℕ) → printed_from n d (map event (kept_lines log)) ≡ replayed begun log
-  unfolding replayed
+  pub all_printed : (log : List ℕ) → printed_from n d (map event (kept_lines log)) ≡ replay_text begun log
+  unfolding replay_text
   all_printed log = (λ i. printed_from (first i) (is i) (events_kept log i))
 
   pub all_played : (a old new : Option (List ℕ)) (after : Device)

@@ -2,11 +2,11 @@
 --   log_place           the place that a log drives (RULES, Places)
 --   opened_in_log d r   opening there: a second `O` is refused with 5, by the replay's own test; else the device's
 --                       opening, which takes that place (proofs/OnePlace.antt)
---   did d e             what the event e does to the device d: the call's number, its reply and the record that it
+--   event_result d e    what the event e does to the device d: the call's number, its reply and the record that it
 --                       leaves
---   shown e r           what is printed for an event with that result: the reply without its CR, `-` for none, `! ` and
+--   result_text e r     what is printed for an event with that result: the reply without its CR, `-` for none, `! ` and
 --                       the number of a refusal, or `?` for a line of no such form
---   printed n e r       the line number n, a space, that, and LF
+--   printed_line n e r  the line number n, a space, that, and LF
 -- Assumes nothing.
 use Rattle.std.specs.Prelude.{ℕ, not, List, [], ◌∷◌, ◌++◌, if◌then◌else◌, ◌==◌, codes}
 use Rattle.text.specs.Rows.{Row, ◌when◌, by_rows}
@@ -15,8 +15,8 @@ use Rattle.record.specs.Legal.{is_legal}
 use Rattle.record.specs.Places.{connection_at, is_shut}
 use Rattle.record.specs.declared.types.Device.{Device}
 use Rattle.record.specs.Given.{Given, given_by}
-use Rattle.clock.specs.Passing.{passed}
-use Rattle.device.specs.Calls.{Result, refused_by, made, reply_room, received, opened_by, closed_by}
+use Rattle.clock.specs.Passing.{time_passed}
+use Rattle.device.specs.Calls.{Result, refused_by, plain_result, reply_room, received_at, opened_by, closed_by}
 use Rattle.floorlog.specs.Outcomes.{reply_text, refusal_shown}
 use Rattle.floorlog.specs.Events.{LogEvent, opens, receives, passes, closes, no_such}
 
@@ -33,19 +33,19 @@ log_opening_rows d = (1 when not (is_legal d)) ∷ (5 when not (is_shut (connect
 unfoldable pub opened_in_log : Device → ℕ → Result Device
 opened_in_log d r = by_rows (log_opening_rows d) (λ n. refused_by n d) (opened_by d r reply_room)
 
-unfoldable pub did : Device → LogEvent → Result Device
-did d (opens r) = opened_in_log d r
-did d (receives bs) = received d log_place bs reply_room
-did d (passes n) = changed_to (given_by d (passed d n))
-did d closes = closed_by d log_place
-did d no_such = made d
+unfoldable pub event_result : Device → LogEvent → Result Device
+event_result d (opens r) = opened_in_log d r
+event_result d (receives bs) = received_at d log_place bs reply_room
+event_result d (passes n) = changed_to (given_by d (time_passed d n))
+event_result d closes = closed_by d log_place
+event_result d no_such = plain_result d
 
 abbrev pub outcome : Result Device → List ℕ
 outcome r = if r.number == 0 then reply_text r.reply else refusal_shown r.number
 
-abbrev pub shown : LogEvent → Result Device → List ℕ
-shown no_such r = codes "?"
-shown e r = outcome r
+abbrev pub result_text : LogEvent → Result Device → List ℕ
+result_text no_such r = codes "?"
+result_text e r = outcome r
 
-unfoldable pub printed : ℕ → LogEvent → Result Device → List ℕ
-printed n e r = long_digits n ++ codes " " ++ shown e r ++ codes "\n"
+unfoldable pub printed_line : ℕ → LogEvent → Result Device → List ℕ
+printed_line n e r = long_digits n ++ codes " " ++ result_text e r ++ codes "\n"

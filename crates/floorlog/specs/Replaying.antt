@@ -9,10 +9,10 @@ use Rattle.std.specs.Io.KnownBytes.{Appends}
 use Rattle.record.specs.declared.types.Device.{Device}
 use Rattle.floorlog.specs.Kept.{kept_lines}
 use Rattle.floorlog.specs.Events.{event, events}
-use Rattle.floorlog.specs.Playing.{state_after, lines_printed, replayed}
+use Rattle.floorlog.specs.Playing.{state_after, lines_printed, replay_text}
 
 pub record IsReplayed (d : Device) (log : List ℕ) (old new : Option (List ℕ)) (after : Device) : Type 0 where
-  pub printed : Appends old new (replayed d log)
+  pub printed : Appends old new (replay_text d log)
   pub device : after ≡ state_after d (events log)
 
 pub record IsPlayedSoFar (d : Device) (log left : List ℕ) (old new : Option (List ℕ)) : Type 0 where

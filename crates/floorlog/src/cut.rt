@@ -3,7 +3,7 @@ ghost use Rattle.std.specs.Prelude.{[], List, ℕ, ◌≡◌, ◌≢◌, ◌++�
 ghost use Rattle.std.specs.declared.io.Error.{Error};
 ghost use Rattle.textio.specs.Fronts.{WritesText};
 ghost use Rattle.record.specs.declared.types.Device.{Device};
-ghost use Rattle.floorlog.specs.Playing.{replayed};
+ghost use Rattle.floorlog.specs.Playing.{replay_text};
 ghost use Rattle.floorlog.specs.Cuts.{failure_line, end_text, EndFails, number_line};
 
 use std::io;
@@ -14,7 +14,7 @@ use textio::writer::{ByteSink, put};
 /// What stands last for a failure. No log that is played back ends so by itself.
 pub fn last_line(failure: &Failure) -> &'static [u8]
     ensures line { result.now ≡ failure_line failure.now }
-    ensures no_log { (d : Device) (log before : List ℕ) → replayed d log ≢ before ++ result.now }
+    ensures no_log { (d : Device) (log before : List ℕ) → replay_text d log ≢ before ++ result.now }
 {
     match failure {
         Failure::Read(_) => b"! read failed\n",

@@ -3,10 +3,10 @@
 ghost use Rattle.std.specs.Prelude.{◌≡◌, true, List, [], ℕ};
 ghost use Rattle.text.specs.Words.{over};
 ghost use Rattle.record.specs.Legal.{is_legal};
-ghost use Rattle.device.specs.Calls.{reply_room, received, closed_by};
+ghost use Rattle.device.specs.Calls.{reply_room, received_at, closed_by};
 ghost use Rattle.floorlog.specs.Outcomes.{outcome_text, IsReplyWithin};
 ghost use Rattle.floorlog.specs.Events.{event_of};
-ghost use Rattle.floorlog.specs.Doing.{log_place, opened_in_log, did, outcome, shown, printed};
+ghost use Rattle.floorlog.specs.Doing.{log_place, opened_in_log, event_result, outcome, result_text, printed_line};
 ghost use Rattle.floorlog.specs.Told.{seconds_of, Drives};
 
 use crate::line::Says;
@@ -42,9 +42,9 @@ fn open(device: &mut Device, random: u32, reply: &mut [u8; REPLY_ROOM]) -> Outco
 fn receive(device: &mut Device, bytes: &[u8], reply: &mut [u8; REPLY_ROOM]) -> Outcome
     requires { is_legal device.old ≡ true }
     ensures within { IsReplyWithin result reply_room }
-    ensures text { outcome_text result reply.new ≡ outcome (received device.old log_place bytes.now reply_room) }
-    ensures device { device.new ≡ (received device.old log_place bytes.now reply_room).device }
-    ensures reply { reply.new ≡ over (received device.old log_place bytes.now reply_room).reply reply.old }
+    ensures text { outcome_text result reply.new ≡ outcome (received_at device.old log_place bytes.now reply_room) }
+    ensures device { device.new ≡ (received_at device.old log_place bytes.now reply_room).device }
+    ensures reply { reply.new ≡ over (received_at device.old log_place bytes.now reply_room).reply reply.old }
 {
     match on_legal::receive(device, PLACE, bytes, reply) {
         Ok(received) => Outcome::Served(received.length),
@@ -66,7 +66,7 @@ fn close(device: &mut Device) -> Outcome
 }
 
 // The event that a line says, on a legal record; a text is lent with its CR.
-#[tactic(auto, unfolding(crate::specs::Doing::did), using(device::proofs::EnoughRoom::closing_quiet))]
+#[tactic(auto, unfolding(crate::specs::Doing::event_result), using(device::proofs::EnoughRoom::closing_quiet))]
 fn call_legal(
     device: &mut Device,
     says: Says,
@@ -76,9 +76,9 @@ fn call_legal(
     requires { is_legal device.old ≡ true }
     ensures within { IsReplyWithin result reply_room }
     ensures text { outcome_text result reply.new
-        ≡ shown (event_of says bytes.now) (did device.old (event_of says bytes.now)) }
-    ensures device { device.new ≡ (did device.old (event_of says bytes.now)).device }
-    ensures reply { reply.new ≡ over (did device.old (event_of says bytes.now)).reply reply.old }
+        ≡ result_text (event_of says bytes.now) (event_result device.old (event_of says bytes.now)) }
+    ensures device { device.new ≡ (event_result device.old (event_of says bytes.now)).device }
+    ensures reply { reply.new ≡ over (event_result device.old (event_of says bytes.now)).reply reply.old }
 {
     match says {
         Says::Opens(random) => open(device, random, reply),
@@ -97,9 +97,9 @@ fn call_legal(
 pub fn call(t: &mut Tested, says: Says, bytes: &[u8], reply: &mut [u8; REPLY_ROOM]) -> Outcome
     ensures within { IsReplyWithin result reply_room }
     ensures text { outcome_text result reply.new
-        ≡ shown (event_of says bytes.now) (did t.old.device (event_of says bytes.now)) }
-    ensures device { t.new.device ≡ (did t.old.device (event_of says bytes.now)).device }
-    ensures reply { reply.new ≡ over (did t.old.device (event_of says bytes.now)).reply reply.old }
+        ≡ result_text (event_of says bytes.now) (event_result t.old.device (event_of says bytes.now)) }
+    ensures device { t.new.device ≡ (event_result t.old.device (event_of says bytes.now)).device }
+    ensures reply { reply.new ≡ over (event_result t.old.device (event_of says bytes.now)).reply reply.old }
     ensures places { Drives (seconds_of (event_of says [])) t.old.device t.new.device }
 {
     if t.legal {
@@ -122,12 +122,12 @@ pub fn seconds_of(says: Says) -> u32
 }
 
 /// A line's event, and its printed line.
-#[tactic(auto, using(crate::proofs::Outcomes::line_lengths), unfolding(crate::specs::Doing::printed))]
+#[tactic(auto, using(crate::proofs::Outcomes::line_lengths), unfolding(crate::specs::Doing::printed_line))]
 pub fn print(t: &mut Tested, number: u64, says: Says, bytes: &[u8], out: &mut Printed)
     requires { out.old.items ≡ [] }
     ensures printed { out.new.items
-        ≡ printed number (event_of says bytes.now) (did t.old.device (event_of says bytes.now)) }
-    ensures device { t.new.device ≡ (did t.old.device (event_of says bytes.now)).device }
+        ≡ printed_line number (event_of says bytes.now) (event_result t.old.device (event_of says bytes.now)) }
+    ensures device { t.new.device ≡ (event_result t.old.device (event_of says bytes.now)).device }
 {
     let mut reply = [0; REPLY_ROOM];
     let outcome = call(t, says, bytes, &mut reply);

@@ -21,7 +21,7 @@ ghost use Rattle.textio.specs.Lines.{count_most, IsTooLong};
 ghost use Rattle.textio.specs.Fronts.{WritesFront};
 ghost use Rattle.textio.specs.Ahead.{left_in};
 ghost use Rattle.textio.specs.NextLine.{FailureComesOf, OnFailedRead};
-ghost use Rattle.floorlog.specs.Playing.{sample_device, replayed};
+ghost use Rattle.floorlog.specs.Playing.{sample_device, replay_text};
 ghost use Rattle.floorlog.specs.Replaying.{IsReplayed, IsPlayedSoFar};
 
 use crate::playing::Player;
@@ -68,7 +68,7 @@ pub fn replay<R: ByteSource, W: ByteSink>(
     ensures whole { IfOk result (λ after. IfSome (left_in R.remaining from.old) (λ log.
         IsReplayed begun log (W.contents to.old) (W.contents to.new) after)) }
     ensures front { IfSome (left_in R.remaining from.old) (λ log.
-        WritesFront (W.contents to.old) (W.contents to.new) (replayed begun log)) }
+        WritesFront (W.contents to.old) (W.contents to.new) (replay_text begun log)) }
     ensures none_waits { OnOk result (W.waiting to.new ≡ []) }
     ensures read { IfErr result (OnFailedRead (W.waiting to.new ≡ [])) }
     ensures broken { IfErr result (OnFailedRead (IfSome (left_in R.remaining from.old) (λ log.

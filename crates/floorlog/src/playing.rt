@@ -4,7 +4,7 @@ ghost use Rattle.textio.specs.Fronts.{WritesText};
 ghost use Rattle.floorlog.specs.KeptText.{kept_text};
 ghost use Rattle.floorlog.specs.LastLine.{last_device_line};
 ghost use Rattle.floorlog.specs.Events.{event};
-ghost use Rattle.floorlog.specs.Doing.{did, printed};
+ghost use Rattle.floorlog.specs.Doing.{event_result, printed_line};
 ghost use Rattle.floorlog.specs.Playing.{state_after, lines_printed};
 
 use crate::kept::KeptLine;
@@ -40,9 +40,9 @@ impl Player {
 
 // The line with that number, played and printed.
 fn play<W: ByteSink>(t: &mut Tested, number: u64, line: &mut KeptLine, to: &mut W) -> io::Result<()>
-    ensures device { t.new.device ≡ (did t.old.device (event (kept_text line.old))).device }
+    ensures device { t.new.device ≡ (event_result t.old.device (event (kept_text line.old))).device }
     ensures text { WritesText W.fails_with (W.contents to.old) (W.contents to.new) result
-        (printed number (event (kept_text line.old)) (did t.old.device (event (kept_text line.old)))) }
+        (printed_line number (event (kept_text line.old)) (event_result t.old.device (event (kept_text line.old)))) }
 {
     let mut out = Printed::new();
     let says = line::line_says(line.text());

@@ -7,18 +7,18 @@ use Rattle.std.specs.Prelude.{IfSome, option_map}
 use Rattle.record.specs.Legal.{is_legal}
 use Rattle.record.specs.Given.{Given}
 use Rattle.record.specs.declared.types.Device.{Device}
-use Rattle.stored.specs.Loading.{loaded}
+use Rattle.stored.specs.Loading.{loaded_from}
 use Rattle.stored.specs.Told.{load_error_number, loading_told}
 use Rattle.stored.specs.declared.error.LoadError.{LoadError}
 use Rattle.stored.specs.declared.error.LoadError.TheVariants.{OtherVersion, CutShort, LeftOver, NotLegal}
 use Rattle.stored.proofs.Results.{accepted_legal}
 use Rattle.stored.proofs.Fields.{Bytes}
-use Rattle.stored.proofs.FormWithin.{loaded-take}
+use Rattle.stored.proofs.FormWithin.{loaded_from-take}
 use Rattle.formfile.specs.Begun.{form_room, IsBegunBy}
 use Rattle.formfile.specs.declared.NotBegun.{NotBegun}
 use Rattle.formfile.specs.declared.NotBegun.TheVariants.{Unread, Refused}
 
-pub loaded_is_legal : (bytes : List ℕ) (d : Device) → loading_told (Ok d) ≡ loaded bytes → is_legal d ≡ true
+pub loaded_is_legal : (bytes : List ℕ) (d : Device) → loading_told (Ok d) ≡ loaded_from bytes → is_legal d ≡ true
 loaded_is_legal bytes d e =
     ap (λ (g : Given Device). is_legal g.device) e
     ∙ accepted_legal bytes (sym (ap (λ (g : Given Device). g.number) e))
@@ -29,7 +29,8 @@ error_number_within CutShort = (omega arith, omega arith)
 error_number_within LeftOver = (omega arith, omega arith)
 error_number_within NotLegal = (omega arith, omega arith)
 
-begun_alike : (s t : List ℕ) (r : Result Device NotBegun) → loaded s ≡ loaded t → IsBegunBy s r → IsBegunBy t r
+begun_alike : (s t : List ℕ) (r : Result Device NotBegun) → loaded_from s ≡ loaded_from t → IsBegunBy s r
+    → IsBegunBy t r
 begun_alike s t (Ok d) e h = sym e ∙ h
 begun_alike s t (Err Unread) e h = h
 begun_alike s t (Err (Refused n)) e h = sym e ∙ h
@@ -37,7 +38,7 @@ begun_alike s t (Err (Refused n)) e h = sym e ∙ h
 -- as many bytes as no form has say what all of it says
 pub begun_by_front : (s form : List ℕ) (r : Result Device NotBegun) → Bytes s → IsBegunBy s r → s ≡ take form_room form
     → IsBegunBy form r
-begun_by_front s form r b h e = begun_alike s form r (ap loaded e ∙ loaded-take form (subst Bytes e b)) h
+begun_by_front s form r b h e = begun_alike s form r (ap loaded_from e ∙ loaded_from-take form (subst Bytes e b)) h
 
 -- what was read of a form after nothing, up to the limit
 pub begun_by_known : (given known : Option (List ℕ)) (limit : ℕ) (none s : List ℕ) (r : Result Device NotBegun)

@@ -5,10 +5,10 @@
 -- Assumes nothing.
 use Rattle.std.specs.Prelude.{ℕ, List, ◌≡◌, ◌≤◌, true, Result, Ok, Err}
 use Rattle.record.specs.Record.{blank}
-use Rattle.record.specs.Given.{accepted, refused}
+use Rattle.record.specs.Given.{acceptance_of, refusal_with}
 use Rattle.record.specs.Legal.{is_legal}
 use Rattle.record.specs.declared.types.Device.{Device}
-use Rattle.stored.specs.Loading.{loaded}
+use Rattle.stored.specs.Loading.{loaded_from}
 use Rattle.formfile.specs.declared.NotBegun.{NotBegun}
 use Rattle.formfile.specs.declared.NotBegun.TheVariants.{Unread, Refused}
 
@@ -21,6 +21,6 @@ abbrev pub form_room : ℕ
 form_room = 68867
 
 abbrev pub IsBegunBy : List ℕ → Result Device NotBegun → Type 0
-IsBegunBy form (Ok d) = loaded form ≡ accepted d
+IsBegunBy form (Ok d) = loaded_from form ≡ acceptance_of d
 IsBegunBy form (Err Unread) = ⊥
-IsBegunBy form (Err (Refused number)) = loaded form ≡ refused number blank
+IsBegunBy form (Err (Refused number)) = loaded_from form ≡ refusal_with number blank

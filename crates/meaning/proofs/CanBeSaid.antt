@@ -41,7 +41,7 @@ use Rattle.record.proofs.FactsTold.{own_is, settings_is}
 use Rattle.meaning.specs.SetUpInputs.{no_input, pairs_of, inputs_of, place_of}
 use Rattle.meaning.specs.Rules.{is_undefined, is_unlisted}
 use Rattle.meaning.proofs.LampsSaid.{length-lamps_said, list_all-lamps_said}
-use Rattle.meaning.specs.Meaning.{chosen_of, lamp_said, lamps_of, table_answer, request_answer, meant}
+use Rattle.meaning.specs.Meaning.{chosen_of, lamp_said, lamps_of, table_answer, request_answer, answer_for}
 use Rattle.meaning.proofs.InputsByPlace.{inputs_counted, input_in_use}
 use Rattle.record.specs.Views.{class_seen}
 use Rattle.meaning.proofs.Cases.{Passes, meant_by}
@@ -143,7 +143,7 @@ module _ (s : Settings) (o : Own) (settings : is_settings s ≡ true) (own : is_
   told_can_be_said (VolumeStep v up) e = done refl
   told_can_be_said (NameQuery i) e = input_name _ refl (name_kept _ s.names set_up.names (place_of s i)).follows
 
-  pub meant_can_be_said : (c : Command) → CanSay c (meant s o (Ok c))
+  pub meant_can_be_said : (c : Command) → CanSay c (answer_for s o (Ok c))
   meant_can_be_said c =
       meant_by s o (Ok c) (CanSay c)
       (λ a. refuses 1 (omega arith) (omega arith) (any_refused c))
@@ -152,7 +152,7 @@ module _ (s : Settings) (o : Own) (settings : is_settings s ≡ true) (own : is_
       (λ a b f u. refuses 3 (omega arith) (omega arith) (any_refused c))
       (λ p. told_can_be_said c p.defined)
 
-  pub meant_fits : (r : Request) → Fits (meant s o r)
+  pub meant_fits : (r : Request) → Fits (answer_for s o r)
   meant_fits r =
       meant_by s o r Fits (λ a. refusal_fits 1 (omega arith) (omega arith))
       (λ a b. refusal_fits 2 (omega arith) (omega arith)) (λ a b c. refusal_fits 4 (omega arith) (omega arith))

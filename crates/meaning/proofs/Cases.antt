@@ -10,7 +10,7 @@ use Rattle.pjlink.specs.Said.{Said, refused}
 use Rattle.record.specs.declared.types.Settings.{Settings}
 use Rattle.record.specs.declared.types.Own.{Own}
 use Rattle.meaning.specs.Rules.{is_undefined, is_out_of_parameter, is_failure, is_unavailable}
-use Rattle.meaning.specs.Meaning.{request_answer, carried_out, meant, done}
+use Rattle.meaning.specs.Meaning.{request_answer, carried_out, answer_for, after_request}
 
 -- the first of four tests decides
 first_of : {A B : Type 0} (P : A → B → Type 0) (a b c d : Bool) {w x y z t : A} {k m : B}
@@ -34,8 +34,8 @@ module _ (s : Settings) (o : Own) (r : Request) where
       → (is_undefined s r ≡ false → is_out_of_parameter s r ≡ false → is_failure o r ≡ false → is_unavailable o r ≡ true
       → P (refused 3) o)
       → (Passes → P (request_answer s o r) (carried_out s o r))
-      → P (meant s o r) (done s o r)
-  unfolding meant done
+      → P (answer_for s o r) (after_request s o r)
+  unfolding answer_for after_request
   decided_by P p q u v n = grind arith
 
   pub meant_by : (P : Said → Type 0)
@@ -45,47 +45,47 @@ module _ (s : Settings) (o : Own) (r : Request) where
       → (is_undefined s r ≡ false → is_out_of_parameter s r ≡ false → is_failure o r ≡ false → is_unavailable o r ≡ true
       → P (refused 3))
       → (Passes → P (request_answer s o r))
-      → P (meant s o r)
+      → P (answer_for s o r)
   meant_by P = decided_by (λ m k. P m)
 
   -- either some rule refuses and nothing is done, or none does
   pub refused_or_passed : (P : Said → Own → Type 0) → ((n : ℕ) → P (refused n) o)
-      → (Passes → P (request_answer s o r) (carried_out s o r)) → P (meant s o r) (done s o r)
+      → (Passes → P (request_answer s o r) (carried_out s o r)) → P (answer_for s o r) (after_request s o r)
   refused_or_passed P refuses =
       decided_by P (λ a. refuses 1) (λ a b. refuses 2) (λ a b c. refuses 4) (λ a b c d. refuses 3)
 
-  pub done_by : (P : Own → Type 0) → P o → (Passes → P (carried_out s o r)) → P (done s o r)
+  pub done_by : (P : Own → Type 0) → P o → (Passes → P (carried_out s o r)) → P (after_request s o r)
   done_by P kept = refused_or_passed (λ m k. P k) (λ n. kept)
 
   -- what is meant, where the rules are known
   module _ (a : is_undefined s r ≡ true) where
-    pub err1 : meant s o r ≡ refused 1
-    unfolding meant
+    pub err1 : answer_for s o r ≡ refused 1
+    unfolding answer_for
     err1 = if_yes _ _ a
 
   module _ (a : is_undefined s r ≡ false) (b : is_out_of_parameter s r ≡ true) where
-    pub err2 : meant s o r ≡ refused 2
-    unfolding meant
+    pub err2 : answer_for s o r ≡ refused 2
+    unfolding answer_for
     err2 = if_no _ _ a ∙ if_yes _ _ b
 
   module _ (a : is_undefined s r ≡ false) (b : is_out_of_parameter s r ≡ false) (c : is_failure o r ≡ true) where
-    pub err4 : meant s o r ≡ refused 4
-    unfolding meant
+    pub err4 : answer_for s o r ≡ refused 4
+    unfolding answer_for
     err4 = if_no _ _ a ∙ if_no _ _ b ∙ if_yes _ _ c
 
   module _ (a : is_undefined s r ≡ false) (b : is_out_of_parameter s r ≡ false) (c : is_failure o r ≡ false)
       (d : is_unavailable o r ≡ true) where
-    pub err3 : meant s o r ≡ refused 3
-    unfolding meant
+    pub err3 : answer_for s o r ≡ refused 3
+    unfolding answer_for
     err3 = if_no _ _ a ∙ if_no _ _ b ∙ if_no _ _ c ∙ if_yes _ _ d
 
   module _ (p : Passes) where
-    pub meant_passed : meant s o r ≡ request_answer s o r
-    unfolding meant
+    pub meant_passed : answer_for s o r ≡ request_answer s o r
+    unfolding answer_for
     meant_passed = if_no _ _ p.defined ∙ if_no _ _ p.listed ∙ if_no _ _ p.sound ∙ if_no _ _ p.timely
 
-    pub done_passed : done s o r ≡ carried_out s o r
-    unfolding done
+    pub done_passed : after_request s o r ≡ carried_out s o r
+    unfolding after_request
     done_passed = if_no o (carried_out s o r) (λ j. p.defined j || p.listed j || p.sound j || p.timely j)
 
 pub ruleset first_rule = (err1, err2, err4, err3, meant_passed, done_passed)

@@ -23,8 +23,9 @@ use Rattle.record.specs.declared.views.Power.TheVariants.{WarmUp, Cooling}
 use Rattle.record.proofs.PowerSeen.{written}
 use Rattle.record.proofs.FactsTold.{own_is, settings_is}
 use Rattle.meaning.specs.Rules.{is_out_of_parameter}
-use Rattle.meaning.specs.Meaning.{level_after, after_power, after_mute, after_step, request_answer, carried_out, meant}
-use Rattle.meaning.specs.Meaning.{done}
+use Rattle.meaning.specs.Meaning.{level_after, after_power, after_mute, after_step, request_answer, carried_out}
+use Rattle.meaning.specs.Meaning.{answer_for}
+use Rattle.meaning.specs.Meaning.{after_request}
 use Rattle.meaning.proofs.Cases.{refused_or_passed, done_by}
 
 pub record Keeps (o k : Own) : Type 0 where
@@ -44,14 +45,14 @@ module _ (s : Settings) (o : Own) where
   after_keeps : (r : Request) → Keeps o (carried_out s o r)
   after_keeps r = grind (arith, power_keeps)
 
-  pub done_keeps : (r : Request) → Keeps o (done s o r)
+  pub done_keeps : (r : Request) → Keeps o (after_request s o r)
   done_keeps r = done_by s o r (Keeps o) all_kept (λ p. after_keeps r)
 
   told_or_kept : (r : Request) → (request_answer s o r ≡ okay → ⊥) → carried_out s o r ≡ o
   told_or_kept r h = grind arith
 
   -- what is not answered OK does nothing
-  pub done_or_okay : (r : Request) → (meant s o r ≡ okay → ⊥) → done s o r ≡ o
+  pub done_or_okay : (r : Request) → (answer_for s o r ≡ okay → ⊥) → after_request s o r ≡ o
   done_or_okay r = refused_or_passed s o r (λ m k. (m ≡ okay → ⊥) → k ≡ o) (λ n e. refl) (λ p. told_or_kept r)
 
   module _ (settings : is_settings s ≡ true) (own : is_own s o ≡ true) where
@@ -101,5 +102,5 @@ module _ (s : Settings) (o : Own) where
     is_own-carried_out (Ok (NameQuery i)) e = own
     is_own-carried_out (Err u) e = own
 
-    pub done_legal : (r : Request) → is_own s (done s o r) ≡ true
+    pub done_legal : (r : Request) → is_own s (after_request s o r) ≡ true
     done_legal r = done_by s o r (λ k. is_own s k ≡ true) own (λ p. is_own-carried_out r p.listed)

@@ -13,7 +13,7 @@ use Rattle.record.specs.Legal.{is_settings}
 use Rattle.record.specs.declared.types.Settings.{Settings}
 use Rattle.record.specs.declared.types.Own.{Own}
 use Rattle.meaning.specs.SetUpInputs.{no_input, inputs_of, place_of, is_listed}
-use Rattle.meaning.specs.Meaning.{chosen_of, meant, done}
+use Rattle.meaning.specs.Meaning.{chosen_of, answer_for, after_request}
 use Rattle.meaning.proofs.InputsByPlace.{found_at_place}
 use Rattle.meaning.proofs.CanBeSaid.{length-inputs_of, is_input-slice_index_or}
 use Rattle.meaning.proofs.Cases.{refused_or_passed, meant_passed}
@@ -32,10 +32,10 @@ module _ (s : Settings) (settings : is_settings s ≡ true) (i : Input) where
       ∙ is_input-slice_index_or s told (place_of s i) below
 
   -- INPT with the input, answered OK, and then INPT ?
-  pub set_then_asked : (o : Own) → meant s o (Ok (InputSet i)) ≡ okay
-      → meant s (done s o (Ok (InputSet i))) (Ok (Query Inpt)) ≡ chosen_is i
+  pub set_then_asked : (o : Own) → answer_for s o (Ok (InputSet i)) ≡ okay
+      → answer_for s (after_request s o (Ok (InputSet i))) (Ok (Query Inpt)) ≡ chosen_is i
   set_then_asked o =
-      refused_or_passed s o (Ok (InputSet i)) (λ m k. m ≡ okay → meant s k (Ok (Query Inpt)) ≡ chosen_is i)
+      refused_or_passed s o (Ok (InputSet i)) (λ m k. m ≡ okay → answer_for s k (Ok (Query Inpt)) ≡ chosen_is i)
       (λ n e. cc)
       (λ p e.
       meant_passed s (with_chosen o (place_of s i)) (Ok (Query Inpt))

@@ -11,13 +11,13 @@ use Rattle.words.specs.declared.lamp.LampHours.{LampHours}
 use Rattle.record.specs.Limits.{is_lit}
 use Rattle.record.specs.declared.types.Settings.{Settings}
 use Rattle.record.specs.declared.types.Own.{Own}
-use Rattle.meaning.specs.Meaning.{lamp_said, lamps_of, meant}
+use Rattle.meaning.specs.Meaning.{lamp_said, lamps_of, answer_for}
 use Rattle.meaning.proofs.LampsSaid.{said_at}
 use Rattle.meaning.proofs.Cases.{meant_passed}
 
 module _ (s : Settings) (o : Own) where
   -- neither the fault mark nor the power keeps LAMP from its answer
-  pub lamps_answered : 1 ≤ s.lamp_count → meant s o (Ok (Query Lamp)) ≡ lamps_are (lamps_of s o)
+  pub lamps_answered : 1 ≤ s.lamp_count → answer_for s o (Ok (Query Lamp)) ≡ lamps_are (lamps_of s o)
   lamps_answered h = grind (arith, meant_passed, ne_eqb)
 
   pub lamp_told : (k : ℕ) (d : LampHours) → k < s.lamp_count → k < length o.lamps

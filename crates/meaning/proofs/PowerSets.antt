@@ -14,7 +14,7 @@ use Rattle.record.specs.Limits.{off, on, cooling, warming, is_between}
 use Rattle.record.specs.Updates.{with_power_left}
 use Rattle.record.specs.declared.types.Settings.{Settings}
 use Rattle.record.specs.declared.types.Own.{Own}
-use Rattle.meaning.specs.Meaning.{after_power, after_mute, request_answer, carried_out, meant, done}
+use Rattle.meaning.specs.Meaning.{after_power, after_mute, request_answer, carried_out, answer_for, after_request}
 use Rattle.meaning.proofs.Cases.{refused_or_passed, meant_passed}
 
 pub data PowerTurn (s : Settings) (o : Own) (r : Request) (m : Said) (k : Own) : Type 0 where
@@ -32,7 +32,7 @@ module _ (s : Settings) (o : Own) where
   unfolding after_power
   turns r = grind arith
 
-  pub power_turns : (r : Request) → PowerTurn s o r (meant s o r) (done s o r)
+  pub power_turns : (r : Request) → PowerTurn s o r (answer_for s o r) (after_request s o r)
   power_turns r = refused_or_passed s o r (PowerTurn s o r) (λ n. stays refl refl) (λ p. turns r)
 
   -- a power set passes exactly when the projector is neither at fault nor between on and off
@@ -40,35 +40,35 @@ module _ (s : Settings) (o : Own) where
     abbrev OkayOnly : Said → Type 0
     OkayOnly m = m ≡ okay → (o.fault ≡ false) × (is_between o.power ≡ false)
 
-    pub power_set_only : OkayOnly (meant s o (Ok (PowerSet wanted)))
+    pub power_set_only : OkayOnly (answer_for s o (Ok (PowerSet wanted)))
     power_set_only =
         refused_or_passed s o (Ok (PowerSet wanted)) (λ m k. OkayOnly m) (λ n e. cc) (λ p e. (p.sound, p.timely))
 
-    pub power_set_passes : o.fault ≡ false → is_between o.power ≡ false → meant s o (Ok (PowerSet wanted)) ≡ okay
+    pub power_set_passes : o.fault ≡ false → is_between o.power ≡ false → answer_for s o (Ok (PowerSet wanted)) ≡ okay
     power_set_passes f b = grind (arith, meant_passed)
 
-    pub power_set_done : meant s o (Ok (PowerSet wanted)) ≡ okay
-        → done s o (Ok (PowerSet wanted)) ≡ after_power s o wanted
+    pub power_set_done : answer_for s o (Ok (PowerSet wanted)) ≡ okay
+        → after_request s o (Ok (PowerSet wanted)) ≡ after_power s o wanted
     power_set_done =
         refused_or_passed s o (Ok (PowerSet wanted)) (λ m k. m ≡ okay → k ≡ after_power s o wanted)
         (λ n e. cc) (λ p e. refl)
 
-  pub on_when_off : meant s o (Ok (PowerSet true)) ≡ okay → o.power ≡ off
-      → done s o (Ok (PowerSet true)) ≡ with_power_left o warming s.warm
+  pub on_when_off : answer_for s o (Ok (PowerSet true)) ≡ okay → o.power ≡ off
+      → after_request s o (Ok (PowerSet true)) ≡ with_power_left o warming s.warm
   unfolding after_power
   on_when_off e h = power_set_done true e ∙ if_yes _ _ (eq-eqb o.power off h)
 
-  pub on_otherwise : meant s o (Ok (PowerSet true)) ≡ okay → (o.power ≡ off → ⊥)
-      → done s o (Ok (PowerSet true)) ≡ o
+  pub on_otherwise : answer_for s o (Ok (PowerSet true)) ≡ okay → (o.power ≡ off → ⊥)
+      → after_request s o (Ok (PowerSet true)) ≡ o
   unfolding after_power
   on_otherwise e h = power_set_done true e ∙ if_no _ _ (ne_eqb o.power off h)
 
-  pub off_when_on : meant s o (Ok (PowerSet false)) ≡ okay → o.power ≡ on
-      → done s o (Ok (PowerSet false)) ≡ with_power_left o cooling s.cool
+  pub off_when_on : answer_for s o (Ok (PowerSet false)) ≡ okay → o.power ≡ on
+      → after_request s o (Ok (PowerSet false)) ≡ with_power_left o cooling s.cool
   unfolding after_power
   off_when_on e h = power_set_done false e ∙ if_yes _ _ (eq-eqb o.power on h)
 
-  pub off_otherwise : meant s o (Ok (PowerSet false)) ≡ okay → (o.power ≡ on → ⊥)
-      → done s o (Ok (PowerSet false)) ≡ o
+  pub off_otherwise : answer_for s o (Ok (PowerSet false)) ≡ okay → (o.power ≡ on → ⊥)
+      → after_request s o (Ok (PowerSet false)) ≡ o
   unfolding after_power
   off_otherwise e h = power_set_done false e ∙ if_no _ _ (ne_eqb o.power on h)

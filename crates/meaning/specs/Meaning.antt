@@ -5,8 +5,8 @@
 --   level_after up level     a volume one step up or down, which stops at the ends (RULES, Class 2)
 --   request_answer s o r, carried_out s o r
 --                         the same of a request; one that is no command is always refused, so `nothing` is never said
---   meant s o r           the answer to the request r
---   done s o r            the own part after it
+--   answer_for s o r      the answer to the request r
+--   after_request s o r   the own part after it
 -- Assumes nothing.
 use Rattle.std.specs.Prelude.{ℕ, ◌+◌, ◌-◌, ◌/◌, Bool, false, not, ◌&&◌, ◌||◌, List, [], ◌∷◌, take}
 use Prim.Native.Char.{code}
@@ -151,8 +151,8 @@ carried_out s o (Ok c) = after_command s o c
 carried_out s o (Err u) = o
 
 -- The first that applies.
-unfoldable pub meant : Settings → Own → Request → Said
-meant s o r =
+unfoldable pub answer_for : Settings → Own → Request → Said
+answer_for s o r =
     if is_undefined s r then refused 1
     else if is_out_of_parameter s r then refused 2
     else if is_failure o r then refused 4
@@ -162,5 +162,5 @@ meant s o r =
 abbrev pub is_refused : Settings → Own → Request → Bool
 is_refused s o r = is_undefined s r || is_out_of_parameter s r || is_failure o r || is_unavailable o r
 
-unfoldable pub done : Settings → Own → Request → Own
-done s o r = if is_refused s o r then o else carried_out s o r
+unfoldable pub after_request : Settings → Own → Request → Own
+after_request s o r = if is_refused s o r then o else carried_out s o r

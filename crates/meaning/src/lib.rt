@@ -9,7 +9,7 @@ pub mod theorems;
 
 ghost use Rattle.std.specs.Prelude.{◌≡◌, Ok};
 ghost use Rattle.pjlink.specs.Carried.{said_by};
-ghost use Rattle.meaning.specs.Meaning.{meant, done};
+ghost use Rattle.meaning.specs.Meaning.{answer_for, after_request};
 
 use pjlink::answer::Reply;
 use pjlink::command::Command;
@@ -18,10 +18,10 @@ use record::types::{Own, Settings};
 use words::refusal::Refusal;
 
 // A command: the first rule that applies refuses it; else it is answered, and then carried out.
-#[tactic(auto, unfolding(crate::specs::Meaning::meant, crate::specs::Meaning::done))]
+#[tactic(auto, unfolding(crate::specs::Meaning::answer_for, crate::specs::Meaning::after_request))]
 fn answer<'a>(s: &'a Settings, o: &mut Own, c: Command) -> Reply<'a>
-    ensures said { said_by result ≡ meant s.now o.old (Ok c) }
-    ensures own { o.new ≡ done s.now o.old (Ok c) }
+    ensures said { said_by result ≡ answer_for s.now o.old (Ok c) }
+    ensures own { o.new ≡ after_request s.now o.old (Ok c) }
 {
     if rules::is_undefined(s, c) {
         return Err(Refusal::Undefined);
@@ -44,10 +44,10 @@ fn answer<'a>(s: &'a Settings, o: &mut Own, c: Command) -> Reply<'a>
 }
 
 /// What a legal projector answers, and the own part that the request leaves.
-#[tactic(auto, unfolding(crate::specs::Meaning::meant, crate::specs::Meaning::done))]
+#[tactic(auto, unfolding(crate::specs::Meaning::answer_for, crate::specs::Meaning::after_request))]
 pub fn decide<'a>(s: &'a Settings, o: &mut Own, r: Result<Command, Unasked>) -> Reply<'a>
-    ensures said { said_by result ≡ meant s.now o.old r }
-    ensures own { o.new ≡ done s.now o.old r }
+    ensures said { said_by result ≡ answer_for s.now o.old r }
+    ensures own { o.new ≡ after_request s.now o.old r }
 {
     match r {
         Ok(c) => answer(s, o, c),

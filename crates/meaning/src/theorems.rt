@@ -20,47 +20,51 @@ ghost use Rattle.record.specs.declared.types.Settings.{Settings};
 ghost use Rattle.record.specs.declared.types.Own.{Own};
 ghost use Rattle.meaning.specs.SetUpInputs.{is_listed};
 ghost use Rattle.meaning.specs.Rules.{is_undefined, is_out_of_parameter, is_failure, is_unavailable};
-ghost use Rattle.meaning.specs.Meaning.{power_said, power_digit, request_answer, carried_out, meant, done};
+ghost use Rattle.meaning.specs.Meaning.{power_said, power_digit, request_answer, carried_out, answer_for};
+ghost use Rattle.meaning.specs.Meaning.{after_request};
 
 /// Two results that meet the promise of a call say the same, and leave the same.
 pub fn one_result()
     ensures { (s : Settings) (o : Own) (r : Request) (m n : Result Answer Refusal) (k l : Own)
-        → (said_by m ≡ meant s o r) × (k ≡ done s o r) → (said_by n ≡ meant s o r) × (l ≡ done s o r)
+        → (said_by m ≡ answer_for s o r) × (k ≡ after_request s o r)
+        → (said_by n ≡ answer_for s o r) × (l ≡ after_request s o r)
         → (said_by m ≡ said_by n) × (k ≡ l) }
 {}
 
 /// The first of the four rules that applies refuses, with its own refusal (RULES, Commands).
 #[tactic(auto, using(crate::proofs::Cases::first_rule))]
 pub fn the_first_rule_decides()
-    ensures undefined { (s : Settings) (o : Own) (r : Request) → is_undefined s r ≡ true → meant s o r ≡ refused 1 }
+    ensures undefined { (s : Settings) (o : Own) (r : Request) → is_undefined s r ≡ true
+        → answer_for s o r ≡ refused 1 }
     ensures out_of_parameter { (s : Settings) (o : Own) (r : Request) → is_undefined s r ≡ false
-        → is_out_of_parameter s r ≡ true → meant s o r ≡ refused 2 }
+        → is_out_of_parameter s r ≡ true → answer_for s o r ≡ refused 2 }
     ensures failure { (s : Settings) (o : Own) (r : Request) → is_undefined s r ≡ false
-        → is_out_of_parameter s r ≡ false → is_failure o r ≡ true → meant s o r ≡ refused 4 }
+        → is_out_of_parameter s r ≡ false → is_failure o r ≡ true → answer_for s o r ≡ refused 4 }
     ensures unavailable { (s : Settings) (o : Own) (r : Request) → is_undefined s r ≡ false
         → is_out_of_parameter s r ≡ false → is_failure o r ≡ false → is_unavailable o r ≡ true
-        → meant s o r ≡ refused 3 }
+        → answer_for s o r ≡ refused 3 }
     ensures passed { (s : Settings) (o : Own) (r : Request) → is_undefined s r ≡ false
         → is_out_of_parameter s r ≡ false → is_failure o r ≡ false → is_unavailable o r ≡ false
-        → (meant s o r ≡ request_answer s o r) × (done s o r ≡ carried_out s o r) }
+        → (answer_for s o r ≡ request_answer s o r) × (after_request s o r ≡ carried_out s o r) }
 {}
 
 /// What is not answered OK does nothing. Of AVMT's two halves "the unnamed half stays", whatever becomes of the set
 /// (RULES, Commands).
 pub fn what_a_request_leaves()
-    ensures unless_okay { (s : Settings) (o : Own) (r : Request) → (meant s o r ≡ okay → ⊥) → done s o r ≡ o }
+    ensures unless_okay { (s : Settings) (o : Own) (r : Request) → (answer_for s o r ≡ okay → ⊥)
+        → after_request s o r ≡ o }
     ensures audio { (s : Settings) (o : Own) (wanted : Bool)
-        → (done s o (Ok (MuteSet VideoHalf wanted))).audio_muted ≡ o.audio_muted }
+        → (after_request s o (Ok (MuteSet VideoHalf wanted))).audio_muted ≡ o.audio_muted }
     ensures video { (s : Settings) (o : Own) (wanted : Bool)
-        → (done s o (Ok (MuteSet AudioHalf wanted))).video_muted ≡ o.video_muted }
+        → (after_request s o (Ok (MuteSet AudioHalf wanted))).video_muted ≡ o.video_muted }
 {}
 
 /// The input that was set is the one that is then answered, and only an input that a line can carry is listed.
 #[tactic(auto, using(crate::proofs::InputSets::set_then_asked, crate::proofs::InputSets::listed_is_input))]
 pub fn an_input_set_is_answered()
     ensures answered { (s : Settings) (o : Own) (i : Input) → is_settings s ≡ true
-        → meant s o (Ok (InputSet i)) ≡ okay
-        → meant s (done s o (Ok (InputSet i))) (Ok (Query Inpt)) ≡ chosen_is i }
+        → answer_for s o (Ok (InputSet i)) ≡ okay
+        → answer_for s (after_request s o (Ok (InputSet i))) (Ok (Query Inpt)) ≡ chosen_is i }
     ensures carried { (s : Settings) (i : Input) → is_settings s ≡ true → is_listed s i ≡ true → is_input i ≡ true }
 {}
 
@@ -74,7 +78,7 @@ pub fn the_power_is_answered_by_its_number()
 #[tactic(auto, using(crate::proofs::PowerSets::power_set_only, crate::proofs::PowerSets::power_set_passes))]
 pub fn when_a_power_set_passes()
     ensures passes { (s : Settings) (o : Own) (wanted : Bool) → o.fault ≡ false → is_between o.power ≡ false
-        → meant s o (Ok (PowerSet wanted)) ≡ okay }
-    ensures only { (s : Settings) (o : Own) (wanted : Bool) → meant s o (Ok (PowerSet wanted)) ≡ okay
+        → answer_for s o (Ok (PowerSet wanted)) ≡ okay }
+    ensures only { (s : Settings) (o : Own) (wanted : Bool) → answer_for s o (Ok (PowerSet wanted)) ≡ okay
         → (o.fault ≡ false) × (is_between o.power ≡ false) }
 {}

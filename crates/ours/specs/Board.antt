@@ -17,9 +17,9 @@ use Rattle.record.specs.Wanted.{Wanted}
 use Rattle.record.specs.SetUp.{set_up}
 use Rattle.record.specs.HostCalls.{fault_set, errors_set, mark_set}
 use Rattle.stored.specs.Form.{StoredAs, stored_by}
-use Rattle.stored.specs.Loading.{loaded}
-use Rattle.clock.specs.Passing.{passed}
-use Rattle.device.specs.Calls.{Result, opened_by, place_taken, closed_by, received}
+use Rattle.stored.specs.Loading.{loaded_from}
+use Rattle.clock.specs.Passing.{time_passed}
+use Rattle.device.specs.Calls.{Result, opened_by, place_taken, closed_by, received_at}
 use Rattle.controller.specs.Writing.{WrittenAs, written_command}
 use Rattle.controller.specs.Reading.{ReadAs, read_reply}
 use Rattle.controller.specs.Greetings.{read_greeting}
@@ -96,9 +96,9 @@ ours = record {
   -- device::calls::close
   closing = λ d p. closed_as (closed_by d p);
   -- device::calls::receive
-  receive = λ d p bs m. lent_by (received d p bs (length m)) m;
+  receive = λ d p bs m. lent_by (received_at d p bs (length m)) m;
   -- clock::pass::pass
-  pass = λ d n. given_by d (passed d n);
+  pass = λ d n. given_by d (time_passed d n);
   -- record::types::Device::set_fault (record/src/host.rt)
   set_fault = λ d mark. given_by d (fault_set d mark);
   -- record::types::Device::set_errors (record/src/host.rt)
@@ -108,7 +108,7 @@ ours = record {
   -- stored::storing::store
   store = λ d m. form_by (stored_by d (length m)) m;
   -- stored::loading::load
-  load = λ s. loaded s;
+  load = λ s. loaded_from s;
   -- digest::md5
   md5 = md5_of;
   -- controller::writing::write_command

@@ -13,7 +13,7 @@ use Rattle.panel.specs.Entries.{fresh_entry}
 use Rattle.panel.specs.Stepping.{heard_line, lost_entry, is_unready}
 use Rattle.panel.specs.LegalPanels.{panel_most, is_panel}
 use Rattle.panel.specs.PanelCalls.{PanelAs, panel_kept, panel_made, entry_at, with_entry, grown_by}
-use Rattle.panel.specs.PanelCalls.{projector_rows, added_to, sent_at, commanded, stepped_at, lost_at}
+use Rattle.panel.specs.PanelCalls.{projector_rows, added_to, sent_at, command_at, stepped_at, lost_at}
 use Rattle.panel.specs.declared.types.Panel.{Panel}
 
 -- a refusal keeps the panel; its number is not 0
@@ -41,12 +41,12 @@ module _ (p : Panel) (i : ℕ) (k : Coded) (room : ℕ) where
     pub ready : is_unready (entry_at p i) ≡ false
 
   pub commanded_by : (P : PanelAs → Type 0) → Refusals p P → (Commands → P (sent_at p i k room))
-      → P (commanded p i k room)
-  unfolding commanded
+      → P (command_at p i k room)
+  unfolding command_at
   commanded_by P refused done = grind arith
 
-  pub commanded_done : Commands → commanded p i k room ≡ sent_at p i k room
-  unfolding commanded
+  pub commanded_done : Commands → command_at p i k room ≡ sent_at p i k room
+  unfolding command_at
   commanded_done c = grind (arith, c.legal, c.enough, c.there, c.named, c.ready)
 
 -- the two calls that only name a projector

@@ -10,7 +10,7 @@ use Rattle.pjlink.specs.declared.command.Command.{Command}
 use Rattle.controller.specs.Reading.{ReadAs, reading_outcome_number}
 use Rattle.controller.proofs.Cases.{reply_unformed, greeting_refused}
 use Rattle.panel.specs.Entries.{ungreeted}
-use Rattle.panel.specs.Stepping.{strayed, heard_line}
+use Rattle.panel.specs.Stepping.{with_stray, heard_line}
 use Rattle.panel.specs.StepTable.{IsUnderWay, malformed}
 use Rattle.panel.specs.declared.types.Entry.{Entry}
 use Rattle.panel.proofs.StepsByTable.{stray_steps, step_late}
@@ -20,29 +20,29 @@ unheaded : (long class ends plain : Bool) → (long && false && class && ends &&
 unheaded long class ends plain = grind arith
 
 module _ (e : Entry) where
-  pub erra_before_greeting : e.greeting ≡ ungreeted → heard_line e erra_line ≡ strayed e
+  pub erra_before_greeting : e.greeting ≡ ungreeted → heard_line e erra_line ≡ with_stray e
   erra_before_greeting g = grind (arith, stray_steps, greeting_refused)
 
   module _ (greeted : e.greeting ≡ ungreeted → ⊥) (rests : e.under_way ≡ false) where
-    pub erra_late : heard_line e erra_line ≡ strayed e
+    pub erra_late : heard_line e erra_line ≡ with_stray e
     erra_late = step_late e erra_line greeted rests
 
-    pub greeting_late : heard_line e greeting_open ≡ strayed e
+    pub greeting_late : heard_line e greeting_open ≡ with_stray e
     greeting_late = step_late e greeting_open greeted rests
 
   module _ (c : Command) (waits : IsUnderWay e c) where
     -- neither the ERRA line nor of a reply's form
     pub unformed_strays : (l : List ℕ) → same_by itself l erra_line ≡ false → is_reply_form (command_class c) l ≡ false
-        → heard_line e l ≡ strayed e
+        → heard_line e l ≡ with_stray e
     unformed_strays l line form =
         stray_steps e l
         (malformed c waits (ap (λ (r : ReadAs). reading_outcome_number r.outcome) (reply_unformed c l line form)))
 
-    pub greeting_malformed : heard_line e greeting_open ≡ strayed e
+    pub greeting_malformed : heard_line e greeting_open ≡ with_stray e
     unfolding pjlink
     greeting_malformed = unformed_strays greeting_open refl refl
 
     -- whatever its random number
-    pub secured_greeting_malformed : (digits : List ℕ) → heard_line e (greeting_secured digits) ≡ strayed e
+    pub secured_greeting_malformed : (digits : List ℕ) → heard_line e (greeting_secured digits) ≡ with_stray e
     unfolding pjlink
     secured_greeting_malformed digits = grind (arith, unformed_strays)

@@ -5,7 +5,7 @@
 use Rattle.std.proofs.Common.{ℕ, ◌≡◌, refl, List, get_or-set_other}
 use Rattle.codes.specs.declared.command.Coded.{Coded}
 use Rattle.panel.specs.Entries.{blank_entry}
-use Rattle.panel.specs.PanelCalls.{entry_at, with_entry, added_to, commanded, stepped_at, lost_at}
+use Rattle.panel.specs.PanelCalls.{entry_at, with_entry, added_to, command_at, stepped_at, lost_at}
 use Rattle.panel.specs.declared.types.Entry.{Entry}
 use Rattle.panel.specs.declared.types.Panel.{Panel}
 use Rattle.panel.proofs.Cases.{added_by, commanded_by, stepped_by, lost_by}
@@ -26,7 +26,7 @@ module _ (p : Panel) (i : ℕ) where
   step_touches_its_entry l =
       stepped_by p i l (λ r. OnlyAt p i r.panel) (λ n z. nothing_touched) (λ legal there. one_touched _)
 
-  pub command_touches_its_entry : (k : Coded) (room : ℕ) → OnlyAt p i (commanded p i k room).panel
+  pub command_touches_its_entry : (k : Coded) (room : ℕ) → OnlyAt p i (command_at p i k room).panel
   command_touches_its_entry k room =
       commanded_by p i k room (λ r. OnlyAt p i r.panel) (λ n z. nothing_touched) (λ served. one_touched _)
 

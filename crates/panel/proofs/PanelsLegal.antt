@@ -21,7 +21,7 @@ use Rattle.panel.specs.Entries.{Talk, Shown, talk_of, shown_of, entry_of, ungree
 use Rattle.panel.specs.Showing.{showing}
 use Rattle.panel.specs.Stepping.{strays_most, lost_entry, sent_entry, heard_line, is_unready}
 use Rattle.panel.specs.LegalPanels.{panel_most, is_talk, is_shown, is_entry, is_unused, is_panel}
-use Rattle.panel.specs.PanelCalls.{PanelAs, no_panel, entry_at, with_entry, grown_by, added_to, commanded, stepped_at}
+use Rattle.panel.specs.PanelCalls.{PanelAs, no_panel, entry_at, with_entry, grown_by, added_to, command_at, stepped_at}
 use Rattle.panel.specs.PanelCalls.{lost_at}
 use Rattle.panel.specs.StepTable.{StepTo, greets_open, greets_secured, strays, answers, refuses}
 use Rattle.panel.specs.declared.talk.Greeted.TheVariants.{NotYet, Open, Secured}
@@ -140,8 +140,8 @@ module _ (p : Panel) (legal : is_panel p ≡ true) where
       added_by p s StaysLegal (λ n z. legal) (λ h word free. grown (fresh_entry s) free (is_entry-fresh_entry s word))
 
   module _ (i : ℕ) where
-    pub commanded_stays_legal : (k : Coded) (room : ℕ) → StaysLegal (commanded p i k room)
-    unfolding commanded
+    pub commanded_stays_legal : (k : Coded) (room : ℕ) → StaysLegal (command_at p i k room)
+    unfolding command_at
     commanded_stays_legal k room = grind (arith, placed, is_entry-sent_entry, entry_at_legal)
 
     pub stepped_stays_legal : (l : List ℕ) → StaysLegal (stepped_at p i l)

@@ -5,7 +5,7 @@
 use Rattle.std.specs.List.{list_all}
 use Rattle.std.proofs.Common.{ℕ, ◌≤◌, ◌<◌, ◌≡◌, ◌↔◌, Bool, true, List, arith, length, slice_index_or, drop, Option}
 use Rattle.std.proofs.Common.{is_some, ◌==◌}
-use Rattle.text.specs.Rooms.{used, holds, Uses}
+use Rattle.text.specs.Rooms.{used_part, holds, Uses}
 use Rattle.text.proofs.RoomsTold.{uses_told}
 use Rattle.text.proofs.Scanning.{list_all_at}
 use Rattle.words.specs.Texts.{is_password}
@@ -45,7 +45,7 @@ some_holds : {A : Type 0} (u : Option (List A)) → is_some u ≡ holds (λ _. t
 some_holds u = grind arith
 
 pub room_told : {A : Type 0} (blank : A → Bool) (room : ℕ) (s : List A) (n : ℕ)
-    → (is_some (used blank room s n) ≡ true) ↔ Uses blank room (λ _. true) s n
+    → (is_some (used_part blank room s n) ≡ true) ↔ Uses blank room (λ _. true) s n
 room_told blank room s n = grind (arith, some_holds, uses_told)
 
 pub record PanelTold (p : Panel) : Type 0 where

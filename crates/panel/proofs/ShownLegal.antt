@@ -6,7 +6,7 @@ use Rattle.std.proofs.Common.{ℕ, ◌+◌, ◌≤◌, ◌≡◌, refl, sym, ap,
 use Rattle.std.proofs.Common.{map, arith, length, drop, replicate, nat_le, ◌==◌}
 use Rattle.std.proofs.lemmas.List.{length-map, length-replicate}
 use Rattle.std.proofs.Math.Seq.{sets-eq}
-use Rattle.text.specs.Rooms.{kept, Uses}
+use Rattle.text.specs.Rooms.{filled_room, Uses}
 use Rattle.text.proofs.RoomsTold.{rest_kept, uses_told, kept_used}
 use Rattle.text.proofs.Scanning.{list_all-map}
 use Rattle.words.specs.Inputs.{is_input}
@@ -58,7 +58,7 @@ room_used : {A : Type 0} (blank : A → Bool) (x : A) (rule : List A → Bool) (
 room_used blank x rule xs {n} long few blanks follows =
     let size : length (replicate lamps_carried x) ≡ lamps_carried = length-replicate lamps_carried x in
     let from : 0 + length xs ≡ length xs = omega arith in
-    let stands : filled_to lamps_carried x xs ≡ kept x lamps_carried xs
+    let stands : filled_to lamps_carried x xs ≡ filled_room x lamps_carried xs
     = sets-eq xs (replicate lamps_carried x) 0 (omega arith)
     ∙ ap (λ (m : ℕ). xs ++ drop m (replicate lamps_carried x)) from ∙ rest_kept x xs lamps_carried in
     subst (Uses blank lamps_carried rule (filled_to lamps_carried x xs)) (sym long)

@@ -16,7 +16,7 @@ use Rattle.controller.proofs.Refusals.{erra_read}
 use Rattle.controller.proofs.ReadsSound.{erra_exactly}
 use Rattle.codes.specs.Commands.{coded_command}
 use Rattle.panel.specs.Entries.{ungreeted}
-use Rattle.panel.specs.Stepping.{strayed, greeted_as, heard_as, heard_by, replied_to, heard_line}
+use Rattle.panel.specs.Stepping.{with_stray, greeted_as, heard_as, heard_by, replied_to, heard_line}
 use Rattle.panel.specs.LegalPanels.{is_entry}
 use Rattle.panel.specs.StepTable.{is_greeting, IsUnderWay, IsStray, ungreeted_malformed, late, malformed, foreign}
 use Rattle.panel.specs.StepTable.{not_allowed, StepTo, greets_open, greets_secured, strays, answers, refuses}
@@ -27,7 +27,7 @@ use Rattle.panel.proofs.TalksTold.{is_some-coded_command}
 module _ (e : Entry) (l : List ℕ) where
   pub step_by : (P : Entry → Type 0)
       → (e.greeting ≡ ungreeted → P (greeted_as e (read_greeting l)))
-      → ((e.greeting ≡ ungreeted → ⊥) → e.under_way ≡ false → P (strayed e))
+      → ((e.greeting ≡ ungreeted → ⊥) → e.under_way ≡ false → P (with_stray e))
       → ((e.greeting ≡ ungreeted → ⊥) → e.under_way ≡ true → P (replied_to e (coded_command e.command) l))
       → P (heard_line e l)
   unfolding heard_line
@@ -37,7 +37,7 @@ module _ (e : Entry) (l : List ℕ) where
   unfolding heard_line
   step_greets g = if_yes _ _ (eq-eqb e.greeting ungreeted g)
 
-  pub step_late : (e.greeting ≡ ungreeted → ⊥) → e.under_way ≡ false → heard_line e l ≡ strayed e
+  pub step_late : (e.greeting ≡ ungreeted → ⊥) → e.under_way ≡ false → heard_line e l ≡ with_stray e
   unfolding heard_line
   step_late g w = if_no _ _ (ne_eqb e.greeting ungreeted g) ∙ if_yes _ _ (ap not w)
 
@@ -46,13 +46,13 @@ module _ (e : Entry) (l : List ℕ) where
   step_replied c u = grind (arith, if_no, ne_eqb)
 
   -- each row is the step
-  not_greeting : (g : Option Greeting) → is_greeting g ≡ false → greeted_as e g ≡ strayed e
+  not_greeting : (g : Option Greeting) → is_greeting g ≡ false → greeted_as e g ≡ with_stray e
   not_greeting g h = grind arith
 
-  numbered : (r : ReadAs) {n : ℕ} → (n ≡ 0 → ⊥) → reading_outcome_number r.outcome ≡ n → heard_by e r ≡ strayed e
+  numbered : (r : ReadAs) {n : ℕ} → (n ≡ 0 → ⊥) → reading_outcome_number r.outcome ≡ n → heard_by e r ≡ with_stray e
   numbered r {n} some h = grind arith
 
-  pub stray_steps : IsStray e l → heard_line e l ≡ strayed e
+  pub stray_steps : IsStray e l → heard_line e l ≡ with_stray e
   unfolding heard_line
   stray_steps h = grind (arith, step_greets, not_greeting, step_late, step_replied, numbered)
 

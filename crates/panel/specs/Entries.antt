@@ -16,7 +16,7 @@
 -- Assumes nothing.
 use Rattle.std.specs.Prelude.{ℕ, Bool, true, false, not, ◌&&◌, List, take, replicate, ◌==◌}
 use Rattle.pjlink.specs.Carried.{lamps_carried}
-use Rattle.codes.specs.Commands.{coded}
+use Rattle.codes.specs.Commands.{code_with}
 use Rattle.codes.specs.declared.command.Coded.{Coded}
 use Rattle.panel.specs.Passwords.{password_of, no_password}
 use Rattle.panel.specs.declared.types.Password.{Password}
@@ -96,7 +96,7 @@ entry_of password talk shown strays = record {
 }
 
 abbrev pub none_coded : Coded
-none_coded = coded 0 0 0
+none_coded = code_with 0 0 0
 
 abbrev pub greeted_by : ℕ → ℕ → Talk
 greeted_by n r = record { greeting = n; random = r; led = false; under_way = false; command = none_coded }

@@ -9,7 +9,7 @@
 -- Assumes nothing.
 use Rattle.std.specs.List.{list_all}
 use Rattle.std.specs.Prelude.{ℕ, ◌==◌, Bool, not, ◌&&◌, ◌||◌, List, if◌then◌else◌, is_some, nat_le}
-use Rattle.text.specs.Rooms.{used, holds}
+use Rattle.text.specs.Rooms.{used_part, holds}
 use Rattle.pjlink.specs.Carried.{lamps_carried}
 use Rattle.words.specs.Numerals.{hours_most}
 use Rattle.codes.specs.Commands.{coded_command}
@@ -50,10 +50,10 @@ abbrev pub is_hours : List ℕ → Bool
 is_hours hs = list_all (λ h. nat_le h hours_most) hs
 
 abbrev pub is_hours_room : List ℕ → ℕ → Bool
-is_hours_room hours count = holds is_hours (used (λ x. x == 0) lamps_carried hours count)
+is_hours_room hours count = holds is_hours (used_part (λ x. x == 0) lamps_carried hours count)
 
 unfoldable pub is_lit_room : List Bool → ℕ → Bool
-is_lit_room lit count = is_some (used not lamps_carried lit count)
+is_lit_room lit count = is_some (used_part not lamps_carried lit count)
 
 unfoldable pub shows_lamps : Bool → ℕ → List ℕ → List Bool → Bool
 shows_lamps known count hours lit =
@@ -74,4 +74,4 @@ is_unused e =
     && not e.lamps_known && e.strays == 0
 
 unfoldable pub is_panel : Panel → Bool
-is_panel p = is_some (used is_unused panel_most p.entries p.count) && list_all is_entry p.entries
+is_panel p = is_some (used_part is_unused panel_most p.entries p.count) && list_all is_entry p.entries

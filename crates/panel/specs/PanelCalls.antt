@@ -5,7 +5,7 @@
 --   entry_at p i, with_entry p i e   the entry of the projector i; the panel with the entry e there
 --   adding_rows, commanding_rows, projector_rows   when each call is refused, and with which number
 --   added_to p s             a projector more, with the password s: 1, then 3
---   commanded p i k room   the command k to the projector i: 1, 2, 3, 9, or its line
+--   command_at p i k room  the command k to the projector i: 1, 2, 3, 9, or its line
 --   stepped_at p i l       the line l from the projector i: 1, 3, or the step on its entry alone
 --   lost_at p i            its connection is gone: 1, 3
 -- Assumes nothing.
@@ -65,8 +65,8 @@ sent_at p i k room = record {
   panel = with_entry p i (sent_entry (entry_at p i) k);
 }
 
-unfoldable pub commanded : Panel → ℕ → Coded → ℕ → PanelAs
-commanded p i k room = by_rows (commanding_rows p i k room) (panel_kept p) (sent_at p i k room)
+unfoldable pub command_at : Panel → ℕ → Coded → ℕ → PanelAs
+command_at p i k room = by_rows (commanding_rows p i k room) (panel_kept p) (sent_at p i k room)
 
 unfoldable pub stepped_at : Panel → ℕ → List ℕ → PanelAs
 stepped_at p i l =

@@ -5,7 +5,7 @@
 --   is_password_kept t   the password is legal: one that the controller's writer takes, and nothing after it
 -- Assumes nothing.
 use Rattle.std.specs.Prelude.{ℕ, ◌==◌, Bool, List, length, replicate}
-use Rattle.text.specs.Rooms.{used, holds, kept}
+use Rattle.text.specs.Rooms.{used_part, holds, filled_room}
 use Rattle.words.specs.Texts.{is_password}
 use Rattle.panel.specs.declared.types.Password.{Password}
 
@@ -13,10 +13,10 @@ abbrev pub password_room : ℕ
 password_room = 64
 
 abbrev pub password_of : List ℕ → Password
-password_of s = record { len = length s; bytes = kept 0 password_room s }
+password_of s = record { len = length s; bytes = filled_room 0 password_room s }
 
 abbrev pub no_password : Password
 no_password = record { len = 0; bytes = replicate password_room 0 }
 
 abbrev pub is_password_kept : Password → Bool
-is_password_kept t = holds is_password (used (λ x. x == 0) password_room t.bytes t.len)
+is_password_kept t = holds is_password (used_part (λ x. x == 0) password_room t.bytes t.len)

@@ -14,7 +14,7 @@ use Rattle.controller.specs.declared.greeting.Greeting.{Greeting}
 use Rattle.controller.specs.declared.greeting.Greeting.TheVariants.{Open, Secured}
 use Rattle.codes.specs.Commands.{coded_command}
 use Rattle.panel.specs.Entries.{ungreeted, greeted_open, greeted_secured, greeted_by}
-use Rattle.panel.specs.Stepping.{strayed, with_talk, answered_entry, erra_entry}
+use Rattle.panel.specs.Stepping.{with_stray, with_talk, answered_entry, erra_entry}
 use Rattle.panel.specs.declared.types.Entry.{Entry}
 
 abbrev pub is_greeting : Option Greeting → Bool
@@ -39,6 +39,6 @@ pub data StepTo (e : Entry) (l : List ℕ) : Entry → Type 0 where
       → StepTo e l (with_talk e (greeted_by greeted_open 0))
   greets_secured : (random : ℕ) → e.greeting ≡ ungreeted → read_greeting l ≡ Some (Secured random)
       → StepTo e l (with_talk e (greeted_by greeted_secured random))
-  strays : IsStray e l → StepTo e l (strayed e)
+  strays : IsStray e l → StepTo e l (with_stray e)
   answers : (c : Command) (m : Said) → IsUnderWay e c → read_reply c l ≡ meaning m → StepTo e l (answered_entry e m)
   refuses : (c : Command) → IsUnderWay e c → l ≡ erra_line → StepTo e l (erra_entry e)

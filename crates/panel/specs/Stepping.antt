@@ -1,5 +1,5 @@
 -- The step on a lent line (RULES, Panel). Each clause is a sentence there:
---   strayed e           "A late, foreign or malformed reply changes nothing but a per-projector count of such lines,
+--   with_stray e        "A late, foreign or malformed reply changes nothing but a per-projector count of such lines,
 --                       stopped at 65,535."
 --   greeted_as e g      "Until a greeting is accepted, any other line is malformed": the ERRA line too
 --   heard_line e l      "after it, a line with no command under way is late": whatever the line is
@@ -31,8 +31,8 @@ use Rattle.panel.specs.declared.types.Entry.{Entry}
 abbrev pub strays_most : ℕ
 strays_most = 65535
 
-abbrev pub strayed : Entry → Entry
-strayed e = entry_of e.password (talk_of e) (shown_of e) (min strays_most (e.strays + 1))
+abbrev pub with_stray : Entry → Entry
+with_stray e = entry_of e.password (talk_of e) (shown_of e) (min strays_most (e.strays + 1))
 
 abbrev pub with_talk : Entry → Talk → Entry
 with_talk e t = entry_of e.password t (shown_of e) e.strays
@@ -55,12 +55,12 @@ sent_entry e k = with_talk e (sent_on (talk_of e) k)
 abbrev pub greeted_as : Entry → Option Greeting → Entry
 greeted_as e (Some Open) = with_talk e (greeted_by greeted_open 0)
 greeted_as e (Some (Secured random)) = with_talk e (greeted_by greeted_secured random)
-greeted_as e g = strayed e
+greeted_as e g = with_stray e
 
 abbrev pub heard_as : Entry → Outcome → Said → Entry
 heard_as e means_it m = answered_entry e m
 heard_as e erra_said m = erra_entry e
-heard_as e o m = strayed e
+heard_as e o m = with_stray e
 
 abbrev pub heard_by : Entry → ReadAs → Entry
 heard_by e r = heard_as e r.outcome r.said
@@ -68,12 +68,12 @@ heard_by e r = heard_as e r.outcome r.said
 -- the command under way is one, in a legal entry
 abbrev pub replied_to : Entry → Option Command → List ℕ → Entry
 replied_to e (Some c) l = heard_by e (read_reply c l)
-replied_to e None l = strayed e
+replied_to e None l = with_stray e
 
 unfoldable pub heard_line : Entry → List ℕ → Entry
 heard_line e l =
     if e.greeting == ungreeted then greeted_as e (read_greeting l)
-    else if not e.under_way then strayed e
+    else if not e.under_way then with_stray e
     else replied_to e (coded_command e.command) l
 
 abbrev pub is_unready : Entry → Bool

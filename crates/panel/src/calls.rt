@@ -3,7 +3,7 @@
 ghost use Rattle.std.specs.Prelude.{◌≡◌, length};
 ghost use Rattle.text.specs.Words.{over};
 ghost use Rattle.panel.specs.Entries.{entry_of, no_talk, nothing_shown};
-ghost use Rattle.panel.specs.PanelCalls.{no_panel, added_to, commanded, stepped_at, lost_at};
+ghost use Rattle.panel.specs.PanelCalls.{no_panel, added_to, command_at, stepped_at, lost_at};
 ghost use Rattle.panel.specs.Refusals.{panel_outcome_number, length_sent};
 
 use crate::refusal::Refusal;
@@ -71,14 +71,14 @@ impl Panel {
     /// A command to a projector: its line is written from the start of the lent memory, and is so long. Refused:
     /// `NotLegal`, `NoRoom` for less than 168 bytes, `OutOfRange` for no such projector and for no command, `NotReady`
     /// before the greeting or over another command, in that order.
-    #[tactic(auto, using(crate::proofs::PanelsTold::projectors_there), unfolding(crate::specs::PanelCalls::commanded))]
+    #[tactic(auto, using(crate::proofs::PanelsTold::projectors_there), unfolding(crate::specs::PanelCalls::command_at))]
     pub fn send(&mut self, projector: usize, coded: Coded, out: &mut [u8]) -> Result<usize, Refusal>
         ensures number { panel_outcome_number result
-            ≡ (commanded self.old projector coded (length out.old)).number }
+            ≡ (command_at self.old projector coded (length out.old)).number }
         ensures length { length_sent result
-            ≡ length (commanded self.old projector coded (length out.old)).line }
-        ensures panel { self.new ≡ (commanded self.old projector coded (length out.old)).panel }
-        ensures line { out.new ≡ over (commanded self.old projector coded (length out.old)).line
+            ≡ length (command_at self.old projector coded (length out.old)).line }
+        ensures panel { self.new ≡ (command_at self.old projector coded (length out.old)).panel }
+        ensures line { out.new ≡ over (command_at self.old projector coded (length out.old)).line
             out.old }
     {
         if !self.is_legal() {

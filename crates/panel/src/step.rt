@@ -4,7 +4,8 @@ ghost use Rattle.controller.specs.Greetings.{read_greeting};
 ghost use Rattle.controller.specs.Reading.{read_as};
 ghost use Rattle.codes.specs.Commands.{coded_command};
 ghost use Rattle.panel.specs.Entries.{talk_of, rested_on};
-ghost use Rattle.panel.specs.Stepping.{strays_most, strayed, with_talk, erra_entry, lost_entry, greeted_as, heard_as};
+ghost use Rattle.panel.specs.Stepping.{strays_most, with_stray, with_talk, erra_entry, lost_entry, greeted_as};
+ghost use Rattle.panel.specs.Stepping.{heard_as};
 ghost use Rattle.panel.specs.Stepping.{replied_to, heard_line};
 
 use crate::talk::{Awaits, Greeted};
@@ -27,7 +28,7 @@ fn one_more(strays: u32) -> u32
 impl Entry {
     // A late, foreign or malformed line changes nothing but the count of such lines.
     fn stray(&mut self)
-        ensures { self.new ≡ strayed self.old }
+        ensures { self.new ≡ with_stray self.old }
     {
         self.strays = one_more(self.strays);
     }

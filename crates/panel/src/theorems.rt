@@ -20,7 +20,7 @@ ghost use Rattle.panel.specs.LegalPanels.{is_entry, is_panel};
 ghost use Rattle.panel.specs.StepTable.{IsUnderWay, IsStray, StepTo};
 ghost use Rattle.panel.specs.Talks.{Happens, is_first_led, led_in_talk};
 ghost use Rattle.panel.specs.PanelCalls.{no_panel, entry_at, adding_rows, commanding_rows, projector_rows};
-ghost use Rattle.panel.specs.PanelCalls.{added_to, commanded, stepped_at, lost_at};
+ghost use Rattle.panel.specs.PanelCalls.{added_to, command_at, stepped_at, lost_at};
 ghost use Rattle.panel.specs.declared.types.Entry.{Entry};
 ghost use Rattle.panel.specs.declared.types.Panel.{Panel};
 
@@ -71,7 +71,7 @@ pub fn only_a_reading_is_shown()
 pub fn a_refusal_keeps_the_panel()
     ensures adding { (p : Panel) (s : List ℕ) → let a = added_to p s in
         a.number ≢ 0 → (a.panel ≡ p) × (a.line ≡ []) }
-    ensures sending { (p : Panel) (i : ℕ) (k : Coded) (room : ℕ) → let c = commanded p i k room in
+    ensures sending { (p : Panel) (i : ℕ) (k : Coded) (room : ℕ) → let c = command_at p i k room in
         c.number ≢ 0 → (c.panel ≡ p) × (c.line ≡ []) }
     ensures hearing { (p : Panel) (i : ℕ) (l : List ℕ) → let h = stepped_at p i l in
         h.number ≢ 0 → (h.panel ≡ p) × (h.line ≡ []) }
@@ -79,7 +79,7 @@ pub fn a_refusal_keeps_the_panel()
         l.number ≢ 0 → (l.panel ≡ p) × (l.line ≡ []) }
     ensures adding_number { (p : Panel) (s : List ℕ) → (added_to p s).number ≡ first_of (adding_rows p s) }
     ensures sending_number { (p : Panel) (i : ℕ) (k : Coded) (room : ℕ)
-        → (commanded p i k room).number ≡ first_of (commanding_rows p i k room) }
+        → (command_at p i k room).number ≡ first_of (commanding_rows p i k room) }
     ensures hearing_number { (p : Panel) (i : ℕ) (l : List ℕ)
         → (stepped_at p i l).number ≡ first_of (projector_rows p i) }
     ensures losing_number { (p : Panel) (i : ℕ) → (lost_at p i).number ≡ first_of (projector_rows p i) }
@@ -101,7 +101,7 @@ pub fn one_result()
         → let a = added_to p password in
         (r ≡ a.number) × (x ≡ a.panel) → (s ≡ a.number) × (y ≡ a.panel) → (r ≡ s) × (x ≡ y) }
     ensures sent { (p : Panel) (i : ℕ) (k : Coded) (out : List ℕ) (r s v w : ℕ) (x y : Panel) (m n : List ℕ)
-        → let c = commanded p i k (length out) in
+        → let c = command_at p i k (length out) in
         (r ≡ c.number) × (v ≡ length c.line) × (x ≡ c.panel) × (m ≡ over c.line out)
         → (s ≡ c.number) × (w ≡ length c.line) × (y ≡ c.panel) × (n ≡ over c.line out)
         → (r ≡ s) × (v ≡ w) × (x ≡ y) × (m ≡ n) }

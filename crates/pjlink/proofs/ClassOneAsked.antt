@@ -9,7 +9,7 @@ use Rattle.std.specs.Option.{option_map}
 use Rattle.text.specs.Words.{◌is◌, ◌from◌to◌}
 use Rattle.text.proofs.Choices.{if_all}
 use Rattle.words.specs.Bytes.{◌at◌}
-use Rattle.words.specs.Codec.{whole}
+use Rattle.words.specs.Codec.{whole_value}
 use Rattle.words.specs.Powers.{switch_read}
 use Rattle.words.specs.Inputs.{is_input_text, input_named, read_input, input_of}
 use Rattle.words.specs.declared.input.Input.{Input}
@@ -21,9 +21,11 @@ use Rattle.pjlink.specs.declared.body.Body.TheVariants.{Powr, Inpt, Avmt, Erst, 
 use Rattle.pjlink.specs.declared.body.Body.TheVariants.{Info, Clss}
 use Rattle.pjlink.specs.declared.command.Command.TheVariants.{PowerSet, InputSet, MuteSet, Query}
 use Rattle.words.proofs.ClassOneKept.{InputKept, input_as_before, input_of_class_2, inputs_kept, input_by_two}
-use Rattle.pjlink.specs.Requests.{Request, mute_of, set_of, is_question, or_unlisted, asked_of, asked, request_of}
+use Rattle.pjlink.specs.Requests.{Request, mute_of, set_of, is_question, or_unlisted, asked_of, body_request}
+use Rattle.pjlink.specs.Requests.{request_of}
 use Rattle.pjlink.specs.ClassOneAsked.{is_body_1, body_named_1, power_asked_1, input_given_1, input_asked_1}
-use Rattle.pjlink.specs.ClassOneAsked.{half_named_1, mute_asked_1, set_asked_1, asked_of_1, asked1, request_of_1}
+use Rattle.pjlink.specs.ClassOneAsked.{half_named_1, mute_asked_1, set_asked_1, asked_of_1, body_request_1}
+use Rattle.pjlink.specs.ClassOneAsked.{request_of_1}
 use Rattle.pjlink.specs.declared.request.Unasked.TheVariants.{Unlisted}
 
 pub data KeptAs (now before : Request) : Type 0 where
@@ -33,7 +35,7 @@ pub data KeptAs (now before : Request) : Type 0 where
 
 -- a parameter of one character, and of two, by its length and its characters
 switch_by_one : (p : List ℕ)
-    → whole switch_read p ≡ (if length p == 1 && p at 0 from "0" to "1" then Some (p at 0 is "1") else None)
+    → whole_value switch_read p ≡ (if length p == 1 && p at 0 from "0" to "1" then Some (p at 0 is "1") else None)
 switch_by_one p = grind arith
 
 mute_by_two : (p : List ℕ)
@@ -44,7 +46,7 @@ mute_by_two : (p : List ℕ)
 unfolding half_named_1
 mute_by_two p = grind (arith, nat_tests)
 
-power_kept : (p : List ℕ) → or_unlisted Powr (option_map PowerSet (whole switch_read p)) ≡ power_asked_1 p
+power_kept : (p : List ℕ) → or_unlisted Powr (option_map PowerSet (whole_value switch_read p)) ≡ power_asked_1 p
 unfolding power_asked_1
 power_kept p = grind arith
 
@@ -72,7 +74,8 @@ input_asked_kept p = rw (input_by_two p) (by (length p == 2))
 
 module _ (p : List ℕ) where
   abbrev KeptOf : Option Row → Type 0
-  KeptOf m = KeptAs (asked (option_map (λ (r : Row). r.body) m) p) (asked1 (option_map (λ (r : Row). r.body) m) p)
+  KeptOf m = KeptAs (body_request (option_map (λ (r : Row). r.body) m) p)
+      (body_request_1 (option_map (λ (r : Row). r.body) m) p)
 
   questioned : (b : Body) → has_query b ≡ true → KeptAs (or_unlisted b (set_of (row_of b).set p)) (set_asked_1 b p)
       → KeptAs (asked_of b p) (asked_of_1 b p)

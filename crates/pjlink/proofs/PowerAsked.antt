@@ -6,12 +6,12 @@ use Rattle.std.proofs.Common.{Option, Some, Ok, Err}
 use Rattle.std.specs.List.{list_all}
 use Rattle.std.specs.Option.{option_map}
 use Rattle.text.proofs.Choices.{both_right}
-use Rattle.words.specs.Codec.{◌>>=◌, ended}
+use Rattle.words.specs.Codec.{◌>>=◌, value_at_end}
 use Rattle.words.specs.Powers.{switch_read, switch_text}
 use Rattle.pjlink.specs.Bodies.{row_of, is_named, is_body}
 use Rattle.pjlink.specs.declared.body.TheConstants.{BODIES}
 use Rattle.pjlink.specs.declared.body.Row.{Row}
-use Rattle.pjlink.specs.Requests.{name_query_of, set_of, Request, or_unlisted, asked_of, asked, request_of}
+use Rattle.pjlink.specs.Requests.{name_query_of, set_of, Request, or_unlisted, asked_of, body_request, request_of}
 use Rattle.pjlink.specs.declared.body.Body.{Body}
 use Rattle.pjlink.specs.declared.body.Body.TheVariants.{Powr}
 use Rattle.pjlink.specs.declared.body.Sets.{Sets}
@@ -44,7 +44,7 @@ abbrev with_switch : Half × List ℕ → Option (Command × List ℕ)
 with_switch h = switch_read h.1 >>= set_mute h.0
 
 abbrev at_end : Command × List ℕ → Option Command
-at_end r = ended r.0 r.1
+at_end r = value_at_end r.0 r.1
 
 muted : (b : Body) (m : Option (Half × List ℕ)) → No (or_unlisted b (m >>= with_switch >>= at_end))
 muted b m = grind arith
@@ -60,7 +60,7 @@ module _ (p : List ℕ) where
   named_none b n = grind (arith, set_none)
 
   abbrev NoIn : Option Row → Type 0
-  NoIn m = No (asked (option_map (λ (r : Row). r.body) m) p)
+  NoIn m = No (body_request (option_map (λ (r : Row). r.body) m) p)
 
   others_none : (rs : List Row) (k : ℕ) (h : List ℕ) → list_all (λ (r : Row). sets_other r.body) rs ≡ true
       → NoIn (find (is_named k h) rs)
@@ -73,7 +73,7 @@ module _ (p : List ℕ) where
 
   pub powr_asked : (k : ℕ) (h : List ℕ) → is_body k h Powr ≡ true → request_of k h p ≡ asked_of Powr p
   unfolding request_of
-  powr_asked k h e = ap (λ (m : Option Body). asked m p) (body_is_named k h Powr e)
+  powr_asked k h e = ap (λ (m : Option Body). body_request m p) (body_is_named k h Powr e)
 
 -- and POWR with 0 or 1 only
 pub power_parameter : (p : List ℕ) (wanted : Bool) → asked_of Powr p ≡ Ok (PowerSet wanted) → p ≡ switch_text wanted

@@ -9,7 +9,7 @@ use Rattle.std.proofs.lemmas.List.{append-nil}
 use Prim.Native.Char.{code}
 use Rattle.text.proofs.Choices.{if_by, both_left, both_right}
 use Rattle.text.proofs.Sameness.{same_is}
-use Rattle.words.specs.Codec.{Plain, whole}
+use Rattle.words.specs.Codec.{Plain, whole_value}
 use Rattle.words.specs.Combinations.{whole_says, list_says}
 use Rattle.words.specs.ErrorDigits.{is_error_digit, errors_read}
 use Rattle.words.specs.Classes.{class_read}
@@ -82,9 +82,9 @@ plain_list (i ∷ j ∷ is) p (t, rest, w, more, e) =
 
 module _ (p : List ℕ) where
   chosen_sound : {b : Body} → ((i : Input) → is_input i ≡ true → CanSay (Query b) (chosen_is i))
-      → CanRead (Query b) p (said_or chosen_is (whole input_read p))
+      → CanRead (Query b) p (said_or chosen_is (whole_value input_read p))
   chosen_sound can =
-      found chosen_is (whole input_read p) (λ i e.
+      found chosen_is (whole_value input_read p) (λ i e.
       let w = (whole_says input_codec).sound p i e in
       by_row (can i w.0) w.1)
 
@@ -104,7 +104,7 @@ module _ (p : List ℕ) where
 
   errors_sound : CanRead (Query Erst) p (read_queried Erst p)
   errors_sound =
-      found errors_are (whole errors_read p) (λ ds e.
+      found errors_are (whole_value errors_read p) (λ ds e.
       let w = (whole_says errors_codec).sound p ds e in
       by_row (errors ds (eqb-true (length ds) 6 (both_left (length ds == 6) (list_all is_error_digit ds) w.0))
       (both_right (length ds == 6) (list_all is_error_digit ds) w.0)) w.1)
@@ -127,10 +127,10 @@ module _ (p : List ℕ) where
 
 queried_sound : (b : Body) (p : List ℕ) → CanRead (Query b) p (read_queried b p)
 queried_sound Powr p =
-    found power_is (whole power_read p) (λ q e. by_row (power q) ((whole_says power_codec).sound p q e).1)
+    found power_is (whole_value power_read p) (λ q e. by_row (power q) ((whole_says power_codec).sound p q e).1)
 queried_sound Inpt p = chosen_sound p input
 queried_sound Avmt p =
-    found (λ m. mutes_are m.video m.audio) (whole mutes_read p)
+    found (λ m. mutes_are m.video m.audio) (whole_value mutes_read p)
     (λ m e. by_row (mutes m.video m.audio) ((whole_says mutes_codec).sound p m e).1)
 queried_sound Erst p = errors_sound p
 queried_sound Lamp p = lamps_sound p
@@ -140,9 +140,9 @@ queried_sound Inf1 p = text_sound p (is_info p) (maker p)
 queried_sound Inf2 p = text_sound p (is_info p) (model p)
 queried_sound Info p = text_sound p (is_info p) (other p)
 queried_sound Clss p =
-    found class_is (whole class_read p) (λ k e. by_row (class_said k) ((whole_says class_codec).sound p k e).1)
+    found class_is (whole_value class_read p) (λ k e. by_row (class_said k) ((whole_says class_codec).sound p k e).1)
 queried_sound Frez p =
-    found freeze_is (whole switch_read p) (λ on e. by_row (freeze on) ((whole_says switch_codec).sound p on e).1)
+    found freeze_is (whole_value switch_read p) (λ on e. by_row (freeze on) ((whole_says switch_codec).sound p on e).1)
 queried_sound Svol p = no_answer
 queried_sound Mvol p = no_answer
 queried_sound Snum p = text_sound p (is_info p) (serial p)
@@ -167,7 +167,7 @@ value_sound (Query b) p = queried_sound b p
 refusal_range : (r : Refusal) → (1 ≤ refusal_digit r) × (refusal_digit r ≤ 4)
 refusal_range r = grind arith
 
-by_refusal : (c : Command) (p : List ℕ) (o : Option Refusal) → whole refusal_read p ≡ o
+by_refusal : (c : Command) (p : List ℕ) (o : Option Refusal) → whole_value refusal_read p ≡ o
     → CanRead c p (refusal_or c o (read_value c p))
 by_refusal c p None e = value_sound c p
 by_refusal c p (Some r) e =
@@ -176,4 +176,4 @@ by_refusal c p (Some r) e =
 
 pub read_sound : (c : Command) (p : List ℕ) → CanRead c p (read_parameter c p)
 unfolding read_parameter
-read_sound c p = by_refusal c p (whole refusal_read p) refl
+read_sound c p = by_refusal c p (whole_value refusal_read p) refl

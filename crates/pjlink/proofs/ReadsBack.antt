@@ -10,7 +10,7 @@ use Rattle.std.proofs.lemmas.Bool.{eq-eqb}
 use Rattle.std.proofs.lemmas.List.{length-map}
 use Prim.Native.Char.{code}
 use Rattle.text.proofs.Choices.{if_yes, both}
-use Rattle.words.specs.Codec.{Codec, Ends, Plain, whole}
+use Rattle.words.specs.Codec.{Codec, Ends, Plain, whole_value}
 use Rattle.words.specs.Combinations.{whole_says, list_says}
 use Rattle.words.specs.Classes.{class_text}
 use Rattle.words.specs.ErrorDigits.{is_error_digit, errors_text}
@@ -43,7 +43,7 @@ use Rattle.pjlink.proofs.SaidRows.{said_row}
 use Rattle.pjlink.proofs.Written.{list_legal, said_is_written}
 
 -- the value is read once no refusal is found
-value : (c : Command) (p : List ℕ) {m : Said} → whole refusal_read p ≡ None → read_value c p ≡ m →
+value : (c : Command) (p : List ℕ) {m : Said} → whole_value refusal_read p ≡ None → read_value c p ≡ m →
     read_parameter c p ≡ m
 unfolding read_parameter
 value c p z e = ap (λ o. refusal_or c o (read_value c p)) z ∙ e
@@ -99,7 +99,7 @@ module _
     {read : List ℕ → Option (A × List ℕ)}
     (it : Codec Ends legal text (Plain legal text) read)
   where
-    own_back : (says : A → Said) (x : A) → legal x ≡ true → said_or says (whole read (text x)) ≡ says x
+    own_back : (says : A → Said) (x : A) → legal x ≡ true → said_or says (whole_value read (text x)) ≡ says x
     own_back says x h = ap (said_or says) ((whole_says it).back x (text x) (h, refl))
 
 inputs_back : (is : List Input) → 1 ≤ length is → length is ≤ inputs_carried → list_all is_input is ≡ true

@@ -1,7 +1,7 @@
 -- What a line asks for, as it stood before Class 2 came (RULES, Class 2): word for word the definitions of Class 1,
 -- under names with a 1. Nothing is built on them; proofs/ClassOneAsked.antt has that a set-up of Class 1 goes by them
 -- still.
---   rows1                 the rows of the table that are of Class 1
+--   rows_1                the rows of the table that are of Class 1
 --   request_of_1 s p      what the body s with the parameter p asks for
 -- Assumes nothing.
 use Rattle.std.specs.Prelude.{Bool, ◌&&◌, List, ℕ, length, filter, find, if◌then◌else◌}
@@ -26,14 +26,14 @@ use Rattle.pjlink.specs.declared.body.Sets.TheVariants.{SetsPower, SetsInput, Se
 use Rattle.pjlink.specs.Requests.{Request, is_question}
 use Rattle.pjlink.specs.declared.request.Unasked.TheVariants.{Unlisted, UnknownBody}
 
-abbrev pub rows1 : List Row
-rows1 = filter (λ (r : Row). class_as_number r.class == 1) BODIES
+abbrev pub rows_1 : List Row
+rows_1 = filter (λ (r : Row). class_as_number r.class == 1) BODIES
 
 abbrev pub is_body_1 : List ℕ → Row → Bool
 is_body_1 s r = same_by upper_of s r.letters
 
 unfoldable pub body_named_1 : List ℕ → Option Body
-body_named_1 s = option_map (λ (r : Row). r.body) (find (is_body_1 s) rows1)
+body_named_1 s = option_map (λ (r : Row). r.body) (find (is_body_1 s) rows_1)
 
 -- POWR: 0 or 1
 unfoldable pub power_asked_1 : List ℕ → Request
@@ -71,9 +71,9 @@ set_asked_1 b p = set_by_1 (row_of b).set b p
 unfoldable pub asked_of_1 : Body → List ℕ → Request
 asked_of_1 b p = if is_question p then Ok (Query b) else set_asked_1 b p
 
-abbrev pub asked1 : Option Body → List ℕ → Request
-asked1 (Some b) p = asked_of_1 b p
-asked1 None p = Err UnknownBody
+abbrev pub body_request_1 : Option Body → List ℕ → Request
+body_request_1 (Some b) p = asked_of_1 b p
+body_request_1 None p = Err UnknownBody
 
 unfoldable pub request_of_1 : List ℕ → List ℕ → Request
-request_of_1 s p = asked1 (body_named_1 s) p
+request_of_1 s p = body_request_1 (body_named_1 s) p

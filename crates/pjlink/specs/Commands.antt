@@ -12,7 +12,7 @@
 -- Assumes nothing.
 use Rattle.std.specs.Prelude.{Bool, true, List, [], ◌∷◌, ◌++◌, ℕ, ◌+◌, Option, codes}
 use Prim.Native.Char.{code}
-use Rattle.words.specs.Codec.{named, letter}
+use Rattle.words.specs.Codec.{first_named, letter}
 use Rattle.words.specs.Inputs.{is_input, input_text}
 use Rattle.words.specs.Powers.{switch_code}
 use Rattle.pjlink.specs.Bodies.{row_of, class_of, has_query}
@@ -62,7 +62,7 @@ abbrev pub half_text : Half → List ℕ
 half_text h = half_code h ∷ []
 
 abbrev pub half_named : ℕ → Option Half
-half_named b = named half_code all_halves b
+half_named b = first_named half_code all_halves b
 
 abbrev pub half_read : List ℕ → Option (Half × List ℕ)
 half_read s = letter half_named s

@@ -11,7 +11,7 @@
 -- Assumes nothing.
 use Rattle.std.specs.Prelude.{ℕ, Bool, List, Option, Some, None, if◌then◌else◌, codes}
 use Rattle.text.specs.Scans.{same_by, itself}
-use Rattle.words.specs.Codec.{whole}
+use Rattle.words.specs.Codec.{whole_value}
 use Rattle.words.specs.Joined.{list_read}
 use Rattle.words.specs.Powers.{power_read, switch_read}
 use Rattle.words.specs.Inputs.{input_read}
@@ -47,24 +47,24 @@ abbrev pub read_ok : List ℕ → Said
 read_ok p = if p spells codes "OK" then okay else nothing
 
 abbrev pub read_queried : Body → List ℕ → Said
-read_queried Powr p = said_or power_is (whole power_read p)
-read_queried Inpt p = said_or chosen_is (whole input_read p)
-read_queried Avmt p = said_or (λ m. mutes_are m.video m.audio) (whole mutes_read p)
-read_queried Erst p = said_or errors_are (whole errors_read p)
+read_queried Powr p = said_or power_is (whole_value power_read p)
+read_queried Inpt p = said_or chosen_is (whole_value input_read p)
+read_queried Avmt p = said_or (λ m. mutes_are m.video m.audio) (whole_value mutes_read p)
+read_queried Erst p = said_or errors_are (whole_value errors_read p)
 read_queried Lamp p = said_or lamps_are (list_read lamp_read lamps_carried p)
 read_queried Inst p = said_or inputs_are (list_read input_read inputs_carried p)
 read_queried Name p = text_or (is_name p) p
 read_queried Inf1 p = text_or (is_info p) p
 read_queried Inf2 p = text_or (is_info p) p
 read_queried Info p = text_or (is_info p) p
-read_queried Clss p = said_or class_is (whole class_read p)
-read_queried Frez p = said_or freeze_is (whole switch_read p)
+read_queried Clss p = said_or class_is (whole_value class_read p)
+read_queried Frez p = said_or freeze_is (whole_value switch_read p)
 read_queried Svol p = nothing
 read_queried Mvol p = nothing
 read_queried Snum p = text_or (is_info p) p
 read_queried Sver p = text_or (is_info p) p
 read_queried Innm p = text_or (is_input_name p) p
-read_queried Inpt2 p = said_or chosen_is (whole input_read p)
+read_queried Inpt2 p = said_or chosen_is (whole_value input_read p)
 read_queried Inst2 p = said_or inputs_are (list_read input_read inputs_carried p)
 
 abbrev pub read_value : Command → List ℕ → Said
@@ -75,4 +75,4 @@ refusal_or c None m = m
 refusal_or c (Some r) m = if is_refusal_to c (refusal_digit r) then refused (refusal_digit r) else nothing
 
 unfoldable pub read_parameter : Command → List ℕ → Said
-read_parameter c p = refusal_or c (whole refusal_read p) (read_value c p)
+read_parameter c p = refusal_or c (whole_value refusal_read p) (read_value c p)

@@ -17,7 +17,7 @@ use Rattle.std.specs.Prelude.{Option, Some, None, Result, Ok, Err, ◌==◌}
 use Rattle.std.specs.Option.{option_map}
 use Rattle.text.specs.Words.{◌is◌}
 use Rattle.words.specs.Bytes.{◌at◌}
-use Rattle.words.specs.Codec.{whole, pair_of}
+use Rattle.words.specs.Codec.{whole_value, pair_of}
 use Rattle.words.specs.Inputs.{input_of}
 use Rattle.words.specs.Powers.{switch_read}
 use Rattle.pjlink.specs.Bodies.{row_of, body_named, has_query}
@@ -35,7 +35,7 @@ use Rattle.pjlink.specs.declared.request.Unasked.TheVariants.{Unlisted, UnknownB
 
 -- AVMT: 10 11 20 21 30 31
 abbrev pub mute_of : List ℕ → Option Command
-mute_of p = whole (pair_of MuteSet half_read switch_read) p
+mute_of p = whole_value (pair_of MuteSet half_read switch_read) p
 
 -- INNM: `?` and two characters that name an input
 unfoldable pub name_query_of : List ℕ → Option Command
@@ -43,13 +43,13 @@ name_query_of p = if p at 0 is "?" then option_map NameQuery (input_of (drop 1 p
 
 -- POWR, FREZ: off and on; SVOL, MVOL: down and up; INPT: two characters that name an input
 abbrev pub set_of : Sets → List ℕ → Option Command
-set_of SetsPower p = option_map PowerSet (whole switch_read p)
+set_of SetsPower p = option_map PowerSet (whole_value switch_read p)
 set_of SetsInput p = option_map InputSet (input_of p)
 set_of SetsMute p = mute_of p
 set_of SetsInput2 p = option_map InputSet2 (input_of p)
-set_of SetsFreeze p = option_map FreezeSet (whole switch_read p)
-set_of StepsSpeaker p = option_map (VolumeStep Speaker) (whole switch_read p)
-set_of StepsMicrophone p = option_map (VolumeStep Microphone) (whole switch_read p)
+set_of SetsFreeze p = option_map FreezeSet (whole_value switch_read p)
+set_of StepsSpeaker p = option_map (VolumeStep Speaker) (whole_value switch_read p)
+set_of StepsMicrophone p = option_map (VolumeStep Microphone) (whole_value switch_read p)
 set_of NamesInput p = name_query_of p
 set_of QueryOnly p = None
 
@@ -69,9 +69,9 @@ or_unlisted b None = Err (Unlisted b)
 unfoldable pub asked_of : Body → List ℕ → Request
 asked_of b p = or_unlisted b (command_of b p)
 
-abbrev pub asked : Option Body → List ℕ → Request
-asked (Some b) p = asked_of b p
-asked None p = Err UnknownBody
+abbrev pub body_request : Option Body → List ℕ → Request
+body_request (Some b) p = asked_of b p
+body_request None p = Err UnknownBody
 
 unfoldable pub request_of : ℕ → List ℕ → List ℕ → Request
-request_of k s p = asked (body_named k s) p
+request_of k s p = body_request (body_named k s) p

@@ -10,7 +10,7 @@ use Rattle.std.proofs.lemmas.List.{take-append-le, set_at}
 use Rattle.std.proofs.Math.ListN.{get_or-eq_default}
 use Rattle.std.proofs.Math.Seq.{take-append_seam, take-suc}
 use native.Mathlib.Numerals.{unary_clauses}
-use Rattle.text.specs.Rooms.{kept}
+use Rattle.text.specs.Rooms.{filled_room}
 use Rattle.text.proofs.RoomsTold.{kept_used}
 use Rattle.text.proofs.Scanning.{list_all_at, list_all_by_place}
 use Rattle.record.specs.Record.{zeros, in_room}
@@ -49,7 +49,7 @@ pub filled_kept : (room : ℕ) (rule : List ℕ → Bool) (s : List ℕ) → len
 unfolding in_room
 filled_kept room rule s fits h = kept_used is_zero 0 room rule s fits refl h
 
-pub kept_in_room : (room : ℕ) (s : List ℕ) → kept 0 room s ≡ in_room room s
+pub kept_in_room : (room : ℕ) (s : List ℕ) → filled_room 0 room s ≡ in_room room s
 unfolding in_room
 kept_in_room room s = refl
 
@@ -75,14 +75,14 @@ one_more_kept room rule s n b k l h =
     }
 
 -- one item more, where there is room for it
-pub set-kept : {A : Type 0} (x : A) (room : ℕ) (items : List A) (a : A) → length items < room
-    → set (kept x room items) (length items) a ≡ kept x room (items ++ (a ∷ []))
-set-kept x room items a h = grind (arith, set_at, append_assoc, length-append)
+pub set-filled_room : {A : Type 0} (x : A) (room : ℕ) (items : List A) (a : A) → length items < room
+    → set (filled_room x room items) (length items) a ≡ filled_room x room (items ++ (a ∷ []))
+set-filled_room x room items a h = grind (arith, set_at, append_assoc, length-append)
 
 pub room_more : (room : ℕ) (s : List ℕ) (b : ℕ) → length s < room
     → set (in_room room s) (length s) b ≡ in_room room (s ++ (b ∷ []))
 unfolding in_room
-room_more = set-kept 0
+room_more = set-filled_room 0
 
 pub room_first : (room : ℕ) (s : List ℕ) (n : ℕ) → n ≤ length s → take n (in_room room s) ≡ take n s
 unfolding in_room
@@ -92,14 +92,14 @@ room_first room s n h = take-append-le n s (zeros (room - length s)) h
 module _ {A : Type 0} (x : A) (room : ℕ) (s : List A) where
   pub record IsCopied (l : List A) (i : ℕ) : Type 0 where
     pub inside : i ≤ length s
-    pub stored : l ≡ kept x room (take i s)
+    pub stored : l ≡ filled_room x room (take i s)
 
   pub none_copied : IsCopied (replicate room x) 0
   none_copied = record { inside = omega arith; stored = simp unary_clauses refl }
 
   module _ (fits : length s ≤ room) {l : List A} {i : ℕ} (p : IsCopied l i) where
     pub one_copied : {a : A} → i < length s → a ≡ slice_index_or s i x → IsCopied (set l i a) (i + 1)
-    one_copied {a} h e = grind (arith, length-take-le, take-suc, set-kept)
+    one_copied {a} h e = grind (arith, length-take-le, take-suc, set-filled_room)
 
-    pub all_copied : length s ≤ i → l ≡ kept x room s
-    all_copied h = p.stored ∙ ap (kept x room) (take_all i s h)
+    pub all_copied : length s ≤ i → l ≡ filled_room x room s
+    all_copied h = p.stored ∙ ap (filled_room x room) (take_all i s h)

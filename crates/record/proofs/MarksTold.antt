@@ -6,12 +6,12 @@ use Rattle.std.specs.List.{list_all}
 use Rattle.std.proofs.Common.{ℕ, ◌+◌, ◌≤◌, ◌<◌, ◌≡◌, refl, ap, subst, Bool, true, false, not, List}
 use Rattle.std.proofs.Common.{arith, length, take, drop, set, replicate, length-set, drop-set-lt, length-take-le}
 use Rattle.std.proofs.lemmas.List.{length-replicate, take-replicate, replicate-append-replicate}
-use Rattle.text.specs.Rooms.{kept}
+use Rattle.text.specs.Rooms.{filled_room}
 use Rattle.text.proofs.RoomsTold.{kept_used}
 use Rattle.record.specs.Limits.{lamps_most}
 use Rattle.record.specs.Rules.{is_marks}
 use Rattle.record.specs.Record.{all_marks}
-use Rattle.record.proofs.Kept.{set-kept}
+use Rattle.record.proofs.Kept.{set-filled_room}
 
 module _ (n : ℕ) (ms : List Bool) where
   module _ (legal : is_marks n ms ≡ true) where
@@ -48,14 +48,14 @@ module _ (n : ℕ) (few : n ≤ lamps_most) where
   all_marks_legal =
       let many : length (replicate n true) ≡ n = length-replicate n true in
       let t = kept_used not false lamps_most (λ ms. true) (replicate n true) (omega (arith, many)) refl refl in
-      let room = kept false lamps_most (replicate n true) in
+      let room = filled_room false lamps_most (replicate n true) in
       let past = subst (λ (m : ℕ). list_all not (drop m room) ≡ true) many t.clear in
       marks_shown n (all_marks n) t.long past (one_set n)
 
-  pub marks_kept : kept false lamps_most (take n (replicate lamps_most true)) ≡ all_marks n
+  pub marks_kept : filled_room false lamps_most (take n (replicate lamps_most true)) ≡ all_marks n
   unfolding all_marks
-  marks_kept = ap (kept false lamps_most) (take-replicate n lamps_most true few)
+  marks_kept = ap (filled_room false lamps_most) (take-replicate n lamps_most true few)
 
 pub set-all_marks : (k : ℕ) → k < lamps_most → set (all_marks k) k true ≡ all_marks (k + 1)
 unfolding all_marks
-set-all_marks k inside = grind (arith, common_steps, length-replicate, set-kept, replicate-append-replicate)
+set-all_marks k inside = grind (arith, common_steps, length-replicate, set-filled_room, replicate-append-replicate)

@@ -4,7 +4,7 @@ use Rattle.std.proofs.Common.{◌≡◌, ℕ, ◌≤◌, Bool, true, List, lengt
 use Rattle.std.specs.Prelude.{is_some, not, ◌==◌, ◌||◌}
 use Rattle.std.proofs.lemmas.Grind.{common_steps}
 use Rattle.std.specs.List.{list_all}
-use Rattle.text.specs.Rooms.{used}
+use Rattle.text.specs.Rooms.{used_part}
 use Rattle.text.proofs.RoomsTold.{is_some_used, uses_told}
 use Rattle.record.specs.Limits.{lamps_most}
 use Rattle.record.specs.Rules.{is_marks}
@@ -15,6 +15,6 @@ unfolding fills_room
 fills_inside room rule s n h = ((uses_told is_zero room rule s n).0 h).inside
 
 pub marks_used : (n : ℕ) (ms : List Bool) → n ≤ lamps_most → length ms ≡ lamps_most → is_marks n ms
-    ≡ (is_some (used not lamps_most ms n) && (n == 0 || not (list_all not ms)))
+    ≡ (is_some (used_part not lamps_most ms n) && (n == 0 || not (list_all not ms)))
 unfolding is_marks
 marks_used n ms few long = grind (arith, common_steps, is_some_used not lamps_most ms n long)

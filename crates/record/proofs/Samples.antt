@@ -7,7 +7,7 @@ use Prim.Native.Char.{code}
 use Rattle.std.specs.Prelude.{Option, Some, None}
 use Rattle.record.specs.Limits.{lamp_limit}
 use Rattle.record.specs.Wanted.{Wanted, wanted_of, wanted_of_2, names_in}
-use Rattle.record.specs.Record.{started}
+use Rattle.record.specs.Record.{start_device}
 use Rattle.record.specs.Legal.{is_legal}
 use Rattle.record.specs.SetUp.{settings_in_order, set_up}
 use Rattle.record.specs.SetUpErrors.{setting_told}
@@ -68,11 +68,11 @@ pub passwords_numbered : with_passwords ≡ 0 ∷ 8 ∷ 8 ∷ 0 ∷ 0 ∷ 3 ∷ 
 unfolding computing
 passwords_numbered = refl
 
-pub seven_illegal : is_legal (started (secured "abcdef7" "11")) ≡ false
+pub seven_illegal : is_legal (start_device (secured "abcdef7" "11")) ≡ false
 unfolding computing
 seven_illegal = refl
 
-pub eight_legal : is_legal (started (secured "abcdefg8" "11")) ≡ true
+pub eight_legal : is_legal (start_device (secured "abcdefg8" "11")) ≡ true
 unfolding computing
 eight_legal = refl
 

@@ -9,7 +9,7 @@ use Rattle.record.specs.Limits.{text_room, input_room, lamps_most, places_count,
 use Rattle.record.specs.Wanted.{Wanted}
 use Rattle.record.specs.Rules.{is_new_input, is_inputs, is_lamps, is_error_list}
 use Rattle.record.specs.Record.{zeros, in_room, names_kept, closed, all_closed, all_marks, settings_of}
-use Rattle.record.specs.Record.{start_own, started, blank}
+use Rattle.record.specs.Record.{start_own, start_device, blank}
 use Rattle.record.specs.Legal.{is_settings, is_own, is_legal}
 use Rattle.record.specs.Facts.{Fills, IsNames}
 use Rattle.record.specs.Places.{connection_at}
@@ -105,30 +105,31 @@ module _ (w : Wanted) where
       microphone = omega arith;
     })
 
-    pub started_legal : is_legal (started w) ≡ true
-    unfolding started
-    started_legal = legal_by_parts (started w) is_settings-settings_of own_legal all_closed_legal
+    pub started_legal : is_legal (start_device w) ≡ true
+    unfolding start_device
+    started_legal = legal_by_parts (start_device w) is_settings-settings_of own_legal all_closed_legal
 
   -- the lamps' starting seconds, place by place
   pub started_lamp : (k : ℕ) → k < length w.lamps →
-      slice_index_or (started w).own.lamps k 0 ≡ slice_index_or w.lamps k 0
-  unfolding started in_room
+      slice_index_or (start_device w).own.lamps k 0 ≡ slice_index_or w.lamps k 0
+  unfolding start_device in_room
   started_lamp k l = get_or-append w.lamps (zeros (lamps_most - length w.lamps)) 0 k l
 
   -- each lamp is enabled (RULES, Lamps)
-  pub started_marks : (started w).own.enabled ≡ all_marks (length w.lamps)
-  unfolding started
+  pub started_marks : (start_device w).own.enabled ≡ all_marks (length w.lamps)
+  unfolding start_device
   started_marks = refl
 
   -- the started device, part by part
-  pub started_parts : started w ≡ record { settings = settings_of w; own = start_own w.lamps; connections = all_closed }
-  unfolding started
+  pub started_parts : start_device w
+      ≡ record { settings = settings_of w; own = start_own w.lamps; connections = all_closed }
+  unfolding start_device
   started_parts = refl
 
   -- at each place there is the closed connection
-  pub connection_at-started : (p : ℕ) → p < places_count → connection_at (started w) p ≡ closed
-  unfolding started
-  connection_at-started p there = all_closed_at p there
+  pub connection_at-start_device : (p : ℕ) → p < places_count → connection_at (start_device w) p ≡ closed
+  unfolding start_device
+  connection_at-start_device p there = all_closed_at p there
 
   -- an accepted set-up is legal, and gives the started device
   pub set_up_legal : (set_up_given (set_up w)).number ≡ 0 → is_legal (set_up_given (set_up w)).device ≡ true
@@ -136,7 +137,7 @@ module _ (w : Wanted) where
       set_up_by w (λ r. r.number ≡ 0 → is_legal r.device ≡ true) (λ e. absurd (omega arith))
       (λ e. absurd (omega arith)) (λ h e. started_legal h)
 
-  pub set_up_started : (set_up_given (set_up w)).number ≡ 0 → (set_up_given (set_up w)).device ≡ started w
+  pub set_up_started : (set_up_given (set_up w)).number ≡ 0 → (set_up_given (set_up w)).device ≡ start_device w
   set_up_started =
-      set_up_by w (λ r. r.number ≡ 0 → r.device ≡ started w) (λ e. absurd (omega arith))
+      set_up_by w (λ r. r.number ≡ 0 → r.device ≡ start_device w) (λ e. absurd (omega arith))
       (λ e. absurd (omega arith)) (λ h e. refl)

@@ -9,7 +9,7 @@ use Rattle.std.proofs.lemmas.List.{get_or-take, get_or-drop, get_or-replicate, g
 use Rattle.std.proofs.Math.Seq.{get_or-append_right}
 use Rattle.words.specs.Texts.{is_text_byte, is_text, is_refusal}
 use Rattle.words.proofs.WithinLength.{text_within, text_longer}
-use Rattle.text.specs.Rooms.{used}
+use Rattle.text.specs.Rooms.{used_part}
 use Rattle.record.specs.Legal.{is_zero, fills_room}
 use Rattle.record.proofs.Rules.{empty_text}
 use Rattle.text.proofs.RoomsTold.{used_many, used_blank, used_not_blank, is_some_used, holds_used}
@@ -25,7 +25,7 @@ none = replicate 128 0
 abbrev pub window : List ℕ
 window = spaces ++ none
 
-module _ (n m k : ℕ) (used : n ≤ 128) (room : m ≤ 128) (h : k < m) where
+module _ (n m k : ℕ) (fits : n ≤ 128) (room : m ≤ 128) (h : k < m) where
   abbrev cut : List ℕ
   cut = take ((128 - n + m) - (128 - n)) (drop (128 - n) window)
 
@@ -66,7 +66,7 @@ text_filled room s n most long = grind (arith, used_blank, used_not_blank, used_
 
 -- no name in its room: nothing of it is used
 module _ (room : ℕ) (s : List ℕ) (long : length s ≡ room) where
-  none_named : fills_room room (is_text 0) s 0 ≡ is_some (used is_zero room s 0)
+  none_named : fills_room room (is_text 0) s 0 ≡ is_some (used_part is_zero room s 0)
   unfolding fills_room
   none_named = grind (arith, empty_text, is_some_used, holds_used)
 
@@ -74,5 +74,5 @@ module _ (room : ℕ) (s : List ℕ) (long : length s ≡ room) where
   unfolding fills_room
   some_named n some = grind (arith, used_blank, used_not_blank, used_many, text_longer, length-take-le)
 
-  pub no_name : (n : ℕ) → fills_room room (is_text 0) s n ≡ (n == 0 && is_some (used is_zero room s 0))
+  pub no_name : (n : ℕ) → fills_room room (is_text 0) s n ≡ (n == 0 && is_some (used_part is_zero room s 0))
   no_name n = grind (arith, none_named, some_named)

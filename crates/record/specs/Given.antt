@@ -1,7 +1,7 @@
 -- What a call gives of a record, as a host is told of it: a number, 0 where it is served, and a record.
 --   Given R            the number and the record
---   accepted d         0 and the record d
---   refused n d        the number n and the record d
+--   acceptance_of d    0 and the record d
+--   refusal_with n d   the number n and the record d
 --   gives r d          what a call in place gives: its outcome r, with the record d that it leaves
 --   left_by d r        the record that a call on d leaves: as it was where the call is refused
 --   given_by d r       what a host is told of a call on d
@@ -19,11 +19,11 @@ pub record Given (R : Type 0) : Type 0 where
   pub number : ℕ
   pub device : R
 
-abbrev pub accepted : {R : Type 0} → R → Given R
-accepted d = record { number = 0; device = d }
+abbrev pub acceptance_of : {R : Type 0} → R → Given R
+acceptance_of d = record { number = 0; device = d }
 
-abbrev pub refused : {R : Type 0} → ℕ → R → Given R
-refused n d = record { number = n; device = d }
+abbrev pub refusal_with : {R : Type 0} → ℕ → R → Given R
+refusal_with n d = record { number = n; device = d }
 
 abbrev pub gives : {E : Type 0} → Result (Unit {0}) E → Device → Result Device E
 gives (Ok u) d = Ok d

@@ -23,7 +23,7 @@ use Rattle.std.specs.Prelude.{◌==◌}
 use Rattle.words.specs.Bytes.{no_cr}
 use Rattle.words.specs.Texts.{is_text, is_name, is_info, info_most, input_name_most}
 use Rattle.words.specs.Bytes.{command_most}
-use Rattle.text.specs.Rooms.{used, holds}
+use Rattle.text.specs.Rooms.{used_part, holds}
 use Rattle.record.specs.Limits.{text_room, listed_most, input_room, lamps_most, line_room, age_end}
 use Rattle.record.specs.Limits.{places_count, only_in_2, cooling, warming}
 use Rattle.record.specs.Limits.{shut, awaiting, opened, failed, is_power, is_phase}
@@ -39,7 +39,7 @@ abbrev pub is_zero : ℕ → Bool
 is_zero x = x == 0
 
 unfoldable pub fills_room : ℕ → (List ℕ → Bool) → List ℕ → ℕ → Bool
-fills_room room rule s n = holds rule (used is_zero room s n)
+fills_room room rule s n = holds rule (used_part is_zero room s n)
 
 abbrev pub fills_text_room : (List ℕ → Bool) → Text → Bool
 fills_text_room rule t = fills_room text_room rule t.bytes t.len
@@ -49,7 +49,7 @@ fills_name_room most t = fills_room input_name_most (is_text most) t.bytes t.len
 
 unfoldable pub is_names : ℕ → List InputName → Bool
 is_names n ns =
-    holds (list_all (fills_name_room input_name_most)) (used (fills_name_room 0) listed_most ns n)
+    holds (list_all (fills_name_room input_name_most)) (used_part (fills_name_room 0) listed_most ns n)
 
 unfoldable pub is_rest_of_2 : (class inputs : ℕ) (serial version : Text) (names : List InputName) → Bool
 is_rest_of_2 class inputs serial version names =

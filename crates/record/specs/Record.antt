@@ -11,10 +11,10 @@
 --   all_marks n          the enabled marks of n lamps, all set (RULES, Lamps)
 --   blank_own            off, both mutes off, the first input, no fault, error status 000000, no mark: all zero
 --   start_own lamps      the same, with the lamps' starting seconds, each lamp enabled, and both volumes half way
---   started w            the device that an accepted set-up gives
+--   start_device w       the device that an accepted set-up gives
 -- Assumes nothing.
 use Rattle.std.specs.Prelude.{ℕ, ◌/◌, Bool, true, false, List, map, length, replicate}
-use Rattle.text.specs.Rooms.{kept}
+use Rattle.text.specs.Rooms.{filled_room}
 use Rattle.words.specs.Texts.{input_name_most}
 use Rattle.record.specs.Limits.{text_room, input_room, listed_most, lamps_most, line_room}
 use Rattle.record.specs.Limits.{errors_count, places_count, off, shut, volume_start}
@@ -31,7 +31,7 @@ abbrev pub zeros : ℕ → List ℕ
 zeros n = replicate n 0
 
 unfoldable pub in_room : ℕ → List ℕ → List ℕ
-in_room n s = kept 0 n s
+in_room n s = filled_room 0 n s
 
 abbrev pub text_of : List ℕ → Text
 text_of s = record { len = length s; bytes = in_room text_room s }
@@ -43,7 +43,7 @@ abbrev pub blank_name : InputName
 blank_name = record { len = 0; bytes = zeros input_name_most }
 
 unfoldable pub names_kept : List (List ℕ) → List InputName
-names_kept ns = kept blank_name listed_most (map name_of ns)
+names_kept ns = filled_room blank_name listed_most (map name_of ns)
 
 unfoldable pub closed : Connection
 closed = record {
@@ -91,7 +91,7 @@ blank_own = record {
 }
 
 unfoldable pub all_marks : ℕ → List Bool
-all_marks n = kept false lamps_most (replicate n true)
+all_marks n = filled_room false lamps_most (replicate n true)
 
 abbrev pub start_own : List ℕ → Own
 start_own lamps =
@@ -99,8 +99,8 @@ start_own lamps =
     (with_marks (with_seconds blank_own (in_room lamps_most lamps)) (all_marks (length lamps))) volume_start
     volume_start
 
-unfoldable pub started : Wanted → Device
-started w = record { settings = settings_of w; own = start_own w.lamps; connections = all_closed }
+unfoldable pub start_device : Wanted → Device
+start_device w = record { settings = settings_of w; own = start_own w.lamps; connections = all_closed }
 
 abbrev pub blank_text : Text
 blank_text = record { len = 0; bytes = zeros text_room }

@@ -18,7 +18,7 @@ use Rattle.words.specs.Texts.{is_text, is_name, is_info, is_password, info_most}
 use Rattle.record.specs.Limits.{only_in_2}
 use Rattle.record.specs.Wanted.{Wanted}
 use Rattle.record.specs.Rules.{is_long_enough, is_inputs, is_lamps, is_stretch, are_names}
-use Rattle.record.specs.Record.{started}
+use Rattle.record.specs.Record.{start_device}
 use Rattle.record.specs.declared.types.Device.{Device}
 use Rattle.record.specs.declared.set_up_error.SetUpError.{SetUpError}
 use Rattle.record.specs.declared.set_up_error.SetUpError.TheVariants.{OutOfRange, ShortPassword}
@@ -64,4 +64,4 @@ unless_out None r = r
 unfoldable pub set_up : Wanted → Result Device SetUpError
 set_up w =
     unless_out (first_out_of_range w)
-    (if is_long_enough (length w.password) then Ok (started w) else Err ShortPassword)
+    (if is_long_enough (length w.password) then Ok (start_device w) else Err ShortPassword)

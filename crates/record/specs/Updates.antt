@@ -7,7 +7,7 @@
 --                                  Lamps)
 --   with_freeze o mark             the freeze mark (RULES, Class 2)
 --   with_volumes o speaker microphone    both volumes (RULES, Class 2)
---   aged c age, with_line c l      the connection at that age; with that line
+--   with_age c age, with_line c l  the connection at that age; with that line
 --   with_own d o                   the device with that own part
 -- Assumes nothing.
 use Rattle.std.specs.Prelude.{ℕ, Bool, List}
@@ -79,8 +79,8 @@ module _ (o : Own) where
       own_of o.power o.left o.chosen o.video_muted o.audio_muted o.fault o.errors o.lamps
       o.enabled o.frozen s m
 
-abbrev pub aged : Connection → ℕ → Connection
-aged c age = record { phase = c.phase; age = age; random = c.random; line = c.line }
+abbrev pub with_age : Connection → ℕ → Connection
+with_age c age = record { phase = c.phase; age = age; random = c.random; line = c.line }
 
 abbrev pub with_line : Connection → Line → Connection
 with_line c l = record { phase = c.phase; age = c.age; random = c.random; line = l }

@@ -2,7 +2,7 @@
 use Rattle.std.proofs.Common.{◌≡◌, ℕ, ◌+◌, ◌-◌, ◌*◌, ◌/◌, ◌<◌, ◌≤◌, min, max, Bool, List, [], arith, lt-ltb, le-ltb}
 use Rattle.std.specs.List.{flat_map, range_with_len}
 use Rattle.text.proofs.Choices.{if_yes, if_no}
-use Rattle.report.specs.Days.{day_length, days_of, rows_before, bars, bars_in, drawn_in, drawn}
+use Rattle.report.specs.Days.{day_length, days_of, rows_before, bars, bars_in, drawn_in, stretch_drawn}
 
 module _ (day : ℕ) (lit : List Bool) (from to x y : ℕ) (begins : x ≡ from - (day - 1) * day_length)
     (ends : y ≡ min (to - (day - 1) * day_length) day_length) where
@@ -15,14 +15,14 @@ module _ (day : ℕ) (lit : List Bool) (from to x y : ℕ) (begins : x ≡ from 
   bars_in_some h = rw (begins, ends) (if_yes _ _ (lt-ltb _ _ (rw (begins, ends) at h)))
 
 module _ (rows : ℕ) (lit : List Bool) (from to : ℕ) where
-  pub drawn_none : to ≤ from → drawn rows lit from to ≡ []
-  unfolding drawn
+  pub drawn_none : to ≤ from → stretch_drawn rows lit from to ≡ []
+  unfolding stretch_drawn
   drawn_none h = if_no _ _ (le-ltb from to h)
 
-  pub drawn_some : from < to → drawn rows lit from to
+  pub drawn_some : from < to → stretch_drawn rows lit from to
       ≡ flat_map (drawn_in rows lit from to)
       (range_with_len (from / day_length + 1) (days_of to - from / day_length))
-  unfolding drawn
+  unfolding stretch_drawn
   drawn_some h = if_yes _ _ (lt-ltb from to h)
 
 pub rows_before_next : (rows from day : ℕ) → from / day_length + 1 ≤ day

@@ -11,7 +11,7 @@
 --                             title tells the whole stretch"
 --   bars_in day lit from to   "a bar for each stretch with a second in that day, cut at the day's ends", for each lamp
 --                             whose mark of `lit` is set
---   drawn rows lit from to    what is written of a stretch, where there are `rows`
+--   stretch_drawn rows lit from to  what is written of a stretch, where there are `rows`
 -- Assumes nothing.
 use Rattle.std.specs.Prelude.{ℕ, ◌+◌, ◌-◌, ◌*◌, ◌/◌, ◌%◌, min, max, nat_lt, Bool, false, List, [], ◌∷◌, ◌++◌}
 use Rattle.std.specs.Prelude.{length, codes, if◌then◌else◌, slice_index_or}
@@ -88,8 +88,8 @@ rows_before rows from day = if nat_lt (from / day_length + 1) day then max rows 
 abbrev pub drawn_in : ℕ → List Bool → ℕ → ℕ → ℕ → List ℕ
 drawn_in rows lit from to day = rows_opened (length lit) (rows_before rows from day) day ++ bars_in day lit from to
 
-unfoldable pub drawn : ℕ → List Bool → ℕ → ℕ → List ℕ
-drawn rows lit from to = if nat_lt from to
+unfoldable pub stretch_drawn : ℕ → List Bool → ℕ → ℕ → List ℕ
+stretch_drawn rows lit from to = if nat_lt from to
     then flat_map (drawn_in rows lit from to)
     (range_with_len (from / day_length + 1) (days_of to - from / day_length))
     else []

@@ -1,5 +1,5 @@
 -- What is printed of a lamp.
---   numbered word n          a word, and a number after it
+--   with_number word n       a word, and a number after it
 --   stretch_line k f t       the lamp with the number k burnt from the second f to the second t
 --   stretch_lines k ms f t   the line of a stretch for each lamp whose mark of ms is set, the first having the number k
 --   total_line k a b c       it had a seconds at the start, burnt b, and has c now
@@ -9,12 +9,12 @@ use Rattle.std.specs.Prelude.{ℕ, ◌+◌, Bool, List, [], ◌∷◌, ◌++◌,
 use Rattle.std.specs.List.{flat_map, range_with_len}
 use Rattle.numbers.specs.Decimal.{long_digits}
 
-abbrev pub numbered : List ℕ → ℕ → List ℕ
-numbered word n = word ++ long_digits n
+abbrev pub with_number : List ℕ → ℕ → List ℕ
+with_number word n = word ++ long_digits n
 
 unfoldable pub stretch_line : ℕ → ℕ → ℕ → List ℕ
 stretch_line lamp f t =
-    ((numbered (codes "lamp ") lamp ++ numbered (codes " from ") f) ++ numbered (codes " to ") t) ++ codes "\n"
+    ((with_number (codes "lamp ") lamp ++ with_number (codes " from ") f) ++ with_number (codes " to ") t) ++ codes "\n"
 
 unfoldable pub stretch_lines : ℕ → List Bool → ℕ → ℕ → List ℕ
 stretch_lines lamp [] f t = []
@@ -22,8 +22,8 @@ stretch_lines lamp (m ∷ ms) f t = (if m then stretch_line lamp f t else []) ++
 
 unfoldable pub total_line : ℕ → ℕ → ℕ → ℕ → List ℕ
 total_line lamp start burnt now =
-    (((numbered (codes "lamp ") lamp ++ numbered (codes " start ") start) ++ numbered (codes " burnt ") burnt)
-    ++ numbered (codes " now ") now) ++ codes "\n"
+    (((with_number (codes "lamp ") lamp ++ with_number (codes " start ") start) ++ with_number (codes " burnt ") burnt)
+    ++ with_number (codes " now ") now) ++ codes "\n"
 
 abbrev pub total_line_at : List ℕ → List ℕ → List ℕ → ℕ → List ℕ
 total_line_at starts burnt lasts k =

@@ -7,7 +7,7 @@
 -- Assumes nothing.
 use Rattle.std.specs.Prelude.{ℕ, Bool, true, false, List, []}
 use Rattle.report.specs.LampLines.{stretch_lines, total_lines}
-use Rattle.report.specs.Days.{rows_drawn, drawn}
+use Rattle.report.specs.Days.{rows_drawn, stretch_drawn}
 use Rattle.report.specs.Frame.{page_begun, page_ended}
 use Rattle.report.specs.declared.Report.{Report}
 use Rattle.report.specs.declared.Report.TheVariants.{Lines, Page}
@@ -22,7 +22,7 @@ begun_text (Page rows) = page_begun
 
 abbrev pub told_text : Report → List Bool → ℕ → ℕ → List ℕ
 told_text Lines lit from to = stretch_lines 1 lit from to
-told_text (Page rows) lit from to = drawn rows lit from to
+told_text (Page rows) lit from to = stretch_drawn rows lit from to
 
 abbrev pub report_told : Report → ℕ → ℕ → Report
 report_told Lines from to = Lines

@@ -4,7 +4,7 @@
 // be told from another.
 ghost use Rattle.std.specs.Prelude.{◌≡◌, ◌≤◌, length, IfOk};
 ghost use Rattle.textio.specs.Fronts.{WritesText};
-ghost use Rattle.report.specs.Days.{days_of, rows_drawn, drawn};
+ghost use Rattle.report.specs.Days.{days_of, rows_drawn, stretch_drawn};
 ghost use Rattle.report.specs.Frame.{page_begun, page_ended};
 
 use crate::lamps::Totals;
@@ -45,7 +45,7 @@ pub fn draw<W: ByteSink>(out: &mut W, rows: u64, lit: &[bool], s: Stretch) -> io
     requires { length lit.now ≤ 8 }
     ensures rows { IfOk result (λ n. n ≡ rows_drawn rows s.from s.to) }
     ensures text { WritesText W.fails_with (W.contents out.old) (W.contents out.new) result
-        (drawn rows lit.now s.from s.to) }
+        (stretch_drawn rows lit.now s.from s.to) }
 {
     if s.to <= s.from {
         return Ok(rows);

@@ -7,8 +7,8 @@ use Rattle.std.specs.Result.{is_ok}
 use Rattle.text.proofs.Choices.{if_yes, by_not}
 use Rattle.record.specs.Limits.{lamps_most, is_class_number}
 use Rattle.record.specs.Wanted.{Wanted}
-use Rattle.record.specs.Record.{started, blank}
-use Rattle.record.specs.Given.{Given, accepted, refused, gives}
+use Rattle.record.specs.Record.{start_device, blank}
+use Rattle.record.specs.Given.{Given, acceptance_of, refusal_with, gives}
 use Rattle.record.specs.SetUp.{is_set_up, set_up}
 use Rattle.record.specs.declared.types.Device.{Device}
 use Rattle.record.specs.declared.set_up_error.SetUpError.{SetUpError}
@@ -22,27 +22,28 @@ use Rattle.stored.specs.Form.{mark_byte}
 use Rattle.stored.specs.Reading.{FormSaid, form}
 use Rattle.stored.specs.Views.{class_said}
 use Rattle.stored.specs.declared.form.Rest.{Rest}
-use Rattle.stored.specs.Loading.{is_other_version, contents, loaded, is_marked, is_marks_of, are_marks, started_with}
+use Rattle.stored.specs.Loading.{is_other_version, contents, loaded_from, is_marked, is_marks_of, are_marks}
+use Rattle.stored.specs.Loading.{started_with}
 use Rattle.stored.proofs.Marks.{marks_back, are_marks-map, all_are_marks, map-replicate, started_with-replicate}
 
 -- by the version, and by what reading gives
 module _ (s : List ℕ) where
-  pub loaded_other : is_other_version s ≡ true → loaded s ≡ refused 20 blank
-  unfolding loaded
+  pub loaded_other : is_other_version s ≡ true → loaded_from s ≡ refusal_with 20 blank
+  unfolding loaded_from
   loaded_other v = grind (arith, v)
 
   module _ (v : is_other_version s ≡ false) where
-    pub loaded_cut : form s ≡ None → loaded s ≡ refused 21 blank
-    unfolding loaded
+    pub loaded_cut : form s ≡ None → loaded_from s ≡ refusal_with 21 blank
+    unfolding loaded_from
     loaded_cut e = grind (arith, v, e)
 
     module _ {f : FormSaid} {rest : List ℕ} (e : form s ≡ Some (f, rest)) where
-      pub loaded_over : (length rest == 0) ≡ false → loaded s ≡ refused 22 blank
-      unfolding loaded
+      pub loaded_over : (length rest == 0) ≡ false → loaded_from s ≡ refusal_with 22 blank
+      unfolding loaded_from
       loaded_over h = rw (v, e, h)
 
-      pub loaded_whole : (length rest == 0) ≡ true → loaded s ≡ contents f
-      unfolding loaded
+      pub loaded_whole : (length rest == 0) ≡ true → loaded_from s ≡ contents f
+      unfolding loaded_from
       loaded_whole h = grind (arith, v, e, h)
 
 pub ruleset loaded_early = (loaded_other, loaded_cut, loaded_over)
@@ -62,7 +63,7 @@ module _ (w : Wanted) where
 
   pub record Sets (r : Result (Unit {0}) SetUpError) (d : Device) : Type 0 where
     pub taken : is_ok r ≡ is_set_up w
-    pub made : OnOk r (d ≡ started w)
+    pub made : OnOk r (d ≡ start_device w)
 
   pub set_up_sets : (r : Result (Unit {0}) SetUpError) (d : Device) → gives r d ≡ set_up w → Sets r d
   set_up_sets r d h = grind (arith, set_up_in_range, set_up_accepted)
@@ -72,7 +73,7 @@ module _ (w : Wanted) where
   saying marks = record { settings = w; marks = marks }
 
   abbrev pub started_if : Bool → List Bool → Given Device
-  started_if t ms = if t then accepted (started_with w ms) else refused 23 blank
+  started_if t ms = if t then acceptance_of (started_with w ms) else refusal_with 23 blank
 
   module _ (ok : is_set_up w ≡ true) where
     abbrev n : ℕ
@@ -85,17 +86,17 @@ module _ (w : Wanted) where
     contents_of ms = contents_marked (map mark_byte ms) ∙ (λ j. started_if (are_marks-map n ms j) (marks_back ms j))
 
     -- as the code tests them on the device that was set up
-    pub contents_tested : {d : Device} → d ≡ started w → {m s : List ℕ} → m ≡ s → {t : Bool}
+    pub contents_tested : {d : Device} → d ≡ start_device w → {m s : List ℕ} → m ≡ s → {t : Bool}
         → t ≡ are_marks d.settings.lamp_count s → contents (saying m) ≡ started_if t (map is_marked s)
     contents_tested made {m} {s} same e = grind (arith, started_parts)
 
     -- in the version that has none, each of its lamps is enabled
-    pub contents_unmarked : contents (saying (replicate n 1)) ≡ accepted (started w)
+    pub contents_unmarked : contents (saying (replicate n 1)) ≡ acceptance_of (start_device w)
     contents_unmarked =
         ap (λ (s : List ℕ). contents (saying s)) (sym (map-replicate n))
         ∙ contents_of (replicate n true)
         ∙ if_yes _ _ (all_are_marks n (lamps_few w.lamps (each_in_range w ok Lamps)))
-        ∙ ap accepted (started_with-replicate w ok)
+        ∙ ap acceptance_of (started_with-replicate w ok)
 
 pub ruleset said_contents = (contents_unmarked, length-seconds_in)
 

@@ -10,13 +10,13 @@ use Rattle.std.proofs.Common.{take-append-drop}
 use Rattle.std.proofs.lemmas.Grind.{common_steps}
 use Rattle.std.proofs.lemmas.List.{take_all, take-append-le, drop-append-le}
 use Rattle.text.proofs.Choices.{if_no}
-use Rattle.record.specs.Given.{refused}
+use Rattle.record.specs.Given.{refusal_with}
 use Rattle.record.specs.Record.{blank}
 use Rattle.stored.specs.Form.{form_version}
-use Rattle.stored.specs.Reading.{Field, onward, ◌giving◌, given, byte, bytes, number, section_of, text, texts}
-use Rattle.stored.specs.Reading.{alone, texts_of_2, class_part, class_in, marks_of, FormSaid, form}
+use Rattle.stored.specs.Reading.{Field, field_and_then, ◌giving◌, given, byte, bytes, number, section_of, text, texts}
+use Rattle.stored.specs.Reading.{class_alone, texts_of_2, class_part, class_in, marks_of, FormSaid, form}
 use Rattle.stored.specs.Loading.{is_other_version}
-use Rattle.stored.specs.Loading.{loaded}
+use Rattle.stored.specs.Loading.{loaded_from}
 use Rattle.stored.proofs.Fields.{Bytes, rest_bytes}
 
 pub record ReadWithin {A : Type 0} (k : ℕ) (P : A → Type 0) (r : Field A) (s : List ℕ) : Type 0 where
@@ -51,8 +51,8 @@ within_then {f = f} k l a b = record {
       record {
         value = y.value;
         rest = y.rest;
-        read = ap (onward f) x.read ∙ y.read;
-        more = λ t. ap (onward f) (x.more t) ∙ y.more t;
+        read = ap (field_and_then f) x.read ∙ y.read;
+        more = λ t. ap (field_and_then f) (x.more t) ∙ y.more t;
         few = omega (arith, x.few, y.few);
         bytes = y.bytes;
         such = y.such;
@@ -131,8 +131,8 @@ within_class v n few =
     (λ a p. within_then 256 65280 within_text
     (λ b q. within_more (256 * n + 0) 65280 (omega arith) (λ x p. p)
     (within_then (256 * n) 0 (within_texts n) (λ c e. within_given 0 _ tt)))))
-    (within_given 65792 (alone k) tt)))
-    (within_given 65793 (alone 1) tt)
+    (within_given 65792 (class_alone k) tt)))
+    (within_given 65793 (class_alone 1) tt)
 
 pub within_form : Within 68866 Any form
 unfolding form
@@ -154,31 +154,31 @@ within_form =
 
 -- what has bytes left over is told so, whatever they are
 left_over_told : (s : List ℕ) (f : FormSaid) (x : ℕ) (xs : List ℕ) → form s ≡ Some (f, x ∷ xs)
-    → loaded s ≡ (if is_other_version s then refused 20 blank else refused 22 blank)
-unfolding loaded
+    → loaded_from s ≡ (if is_other_version s then refusal_with 20 blank else refusal_with 22 blank)
+unfolding loaded_from
 left_over_told s f x xs e = grind arith
 
 -- as many bytes as no form takes are loaded as they are with any more after them
-pub loaded-append : (s t : List ℕ) → Bytes s → 68867 ≤ length s → loaded (s ++ t) ≡ loaded s
-loaded-append [] t b long = absurd (omega arith)
-loaded-append (v ∷ s) t b long = by r.rest r.read (r.more t) (omega (arith, r.few))
+pub loaded_from-append : (s t : List ℕ) → Bytes s → 68867 ≤ length s → loaded_from (s ++ t) ≡ loaded_from s
+loaded_from-append [] t b long = absurd (omega arith)
+loaded_from-append (v ∷ s) t b long = by r.rest r.read (r.more t) (omega (arith, r.few))
   where
     r : ReadWithin 68866 Any form (v ∷ s)
     r = within_form.reads (v ∷ s) b (omega arith)
 
     by : (rest : List ℕ) → form (v ∷ s) ≡ Some (r.value, rest) → form (v ∷ (s ++ t)) ≡ Some (r.value, rest ++ t)
-        → 1 ≤ length rest → loaded (v ∷ (s ++ t)) ≡ loaded (v ∷ s)
+        → 1 ≤ length rest → loaded_from (v ∷ (s ++ t)) ≡ loaded_from (v ∷ s)
     by [] e more some = absurd (omega arith)
     by (x ∷ xs) e more some =
         left_over_told (v ∷ (s ++ t)) r.value x (xs ++ t) more
         ∙ sym (left_over_told (v ∷ s) r.value x xs e)
 
-pub loaded-take : (s : List ℕ) → Bytes (take 68867 s) → loaded (take 68867 s) ≡ loaded s
-loaded-take s b = by (nat_lt (length s) 68867) refl
+pub loaded_from-take : (s : List ℕ) → Bytes (take 68867 s) → loaded_from (take 68867 s) ≡ loaded_from s
+loaded_from-take s b = by (nat_lt (length s) 68867) refl
   where
-    by : (c : Bool) → nat_lt (length s) 68867 ≡ c → loaded (take 68867 s) ≡ loaded s
-    by true e = ap loaded (take_all 68867 s (omega (arith, ltb-true (length s) 68867 e)))
+    by : (c : Bool) → nat_lt (length s) 68867 ≡ c → loaded_from (take 68867 s) ≡ loaded_from s
+    by true e = ap loaded_from (take_all 68867 s (omega (arith, ltb-true (length s) 68867 e)))
     by false e =
-        sym (loaded-append (take 68867 s) (drop 68867 s) b
+        sym (loaded_from-append (take 68867 s) (drop 68867 s) b
         (omega (arith, length-take-le 68867 s (ltb-false (length s) 68867 e))))
-        ∙ ap loaded (take-append-drop 68867 s)
+        ∙ ap loaded_from (take-append-drop 68867 s)

@@ -8,13 +8,13 @@ use Rattle.std.proofs.Common.{ℕ, ◌*◌, ◌/◌, ◌<◌, ◌≡◌, Bool, t
 use Rattle.std.proofs.Common.{map, take, refl, sym, ap, ◌∙◌, arith, append-nil, length-take-le}
 use Rattle.text.proofs.Choices.{if_yes, if_no}
 use Rattle.record.specs.Wanted.{Wanted}
-use Rattle.record.specs.Given.{accepted, set_up_given}
+use Rattle.record.specs.Given.{acceptance_of, set_up_given}
 use Rattle.record.specs.SetUp.{is_set_up, set_up, is_setting_in_range}
 use Rattle.record.proofs.Calls.{set_up_accepted, set_up_shown}
 use Rattle.stored.specs.Form.{form_version, marked_version, old_version, form_with, form_of, marked_form_of}
 use Rattle.stored.specs.Form.{old_form_of, version_form, name_stored, stored_of, marks_stored, stored_form}
 use Rattle.stored.specs.Reading.{form}
-use Rattle.stored.specs.Loading.{is_other_version, is_marks_of, contents, started_with, loaded, mark_room}
+use Rattle.stored.specs.Loading.{is_other_version, is_marks_of, contents, started_with, loaded_from, mark_room}
 use Rattle.stored.proofs.Cases.{loaded_cut, loaded_over, loaded_whole, contents_of, contents_unmarked, saying}
 use Rattle.stored.proofs.Cases.{started_if}
 use Rattle.stored.proofs.Fields.{IsForm}
@@ -26,7 +26,7 @@ use Rattle.record.specs.Limits.{text_room, input_room, lamps_most, only_in_2}
 use Rattle.record.specs.Rules.{is_long_enough, is_inputs, is_lamps, are_names}
 use Rattle.record.specs.Facts.{IsSettings, IsOwn}
 use Rattle.record.specs.Updates.{with_own, with_marks}
-use Rattle.record.specs.Record.{in_room, name_of, names_kept, started}
+use Rattle.record.specs.Record.{in_room, name_of, names_kept, start_device}
 use Rattle.record.specs.Legal.{fills_name_room, is_legal}
 use Rattle.record.specs.declared.types.Device.{Device}
 use Rattle.record.specs.declared.types.Setting.{Setting}
@@ -54,50 +54,51 @@ module _ (v : ℕ) (known : is_other_version (v ∷ []) ≡ false) (w : Wanted) 
   written : IsForm form (says v w ok older ms) s
   written = form_written v w ok older ms
 
-  pub version_over : (x : ℕ) (xs : List ℕ) → (loaded (s ++ x ∷ xs)).number ≡ 22
+  pub version_over : (x : ℕ) (xs : List ℕ) → (loaded_from (s ++ x ∷ xs)).number ≡ 22
   unfolding form_with
   version_over x xs = grind (arith, loaded_over (s ++ x ∷ xs) known (written.again (x ∷ xs)))
 
-  pub version_cut : (k : ℕ) → k < length s → (loaded (take k s)).number ≡ 21
+  pub version_cut : (k : ℕ) → k < length s → (loaded_from (take k s)).number ≡ 21
   unfolding form_with
   version_cut k l = grind (arith, loaded_cut (take k s) (is_other_version-take k s known) (written.cut k l))
 
-  version_loads : loaded s ≡ contents (says v w ok older ms)
+  version_loads : loaded_from s ≡ contents (says v w ok older ms)
   unfolding form_with
   version_loads = loaded_whole s known (ap form (sym (append-nil s)) ∙ written.again []) refl
 
 -- with marks of the lamps
 module _ (v : ℕ) (known : is_other_version (v ∷ []) ≡ false) (marked : (v == old_version) ≡ false) (w : Wanted)
     (ok : is_set_up w ≡ true) (older : (v == form_version) ≡ false → w.class ≡ 1) (ms : List Bool) where
-  marked_loads : loaded (version_form v w ms) ≡ started_if w (is_marks_of (length w.lamps) ms) ms
+  marked_loads : loaded_from (version_form v w ms) ≡ started_if w (is_marks_of (length w.lamps) ms) ms
   marked_loads =
       version_loads v known w ok older ms
       ∙ ap (λ (s : List ℕ). contents (saying w s)) (if_no _ _ marked)
       ∙ contents_of w ok ms
 
-  marked_marks : (loaded (version_form v w ms)).number ≡ 0 → is_marks_of (length w.lamps) ms ≡ true
+  marked_marks : (loaded_from (version_form v w ms)).number ≡ 0 → is_marks_of (length w.lamps) ms ≡ true
   marked_marks e = grind (arith, marked_loads, e)
 
 module _ (w : Wanted) (ok : is_set_up w ≡ true) where
   -- the newest
   module _ (ms : List Bool) where
-    pub form_loads : is_marks_of (length w.lamps) ms ≡ true → loaded (form_of w ms) ≡ accepted (started_with w ms)
+    pub form_loads : is_marks_of (length w.lamps) ms ≡ true
+        → loaded_from (form_of w ms) ≡ acceptance_of (started_with w ms)
     form_loads h = marked_loads form_version refl refl w ok (λ e. absurd (cc)) ms ∙ if_yes _ _ h
 
-    pub form_marks : (loaded (form_of w ms)).number ≡ 0 → is_marks_of (length w.lamps) ms ≡ true
+    pub form_marks : (loaded_from (form_of w ms)).number ≡ 0 → is_marks_of (length w.lamps) ms ≡ true
     form_marks = marked_marks form_version refl refl w ok (λ e. absurd (cc)) ms
 
   -- the two before it
   module _ (one : w.class ≡ 1) where
     module _ (ms : List Bool) where
       pub marked_form_loads : is_marks_of (length w.lamps) ms ≡ true
-          → loaded (marked_form_of w ms) ≡ accepted (started_with w ms)
+          → loaded_from (marked_form_of w ms) ≡ acceptance_of (started_with w ms)
       marked_form_loads h = marked_loads marked_version refl refl w ok (λ e. one) ms ∙ if_yes _ _ h
 
-      pub marked_form_marks : (loaded (marked_form_of w ms)).number ≡ 0 → is_marks_of (length w.lamps) ms ≡ true
+      pub marked_form_marks : (loaded_from (marked_form_of w ms)).number ≡ 0 → is_marks_of (length w.lamps) ms ≡ true
       marked_form_marks = marked_marks marked_version refl refl w ok (λ e. one) ms
 
-    pub old_form_loads : loaded (old_form_of w) ≡ set_up_given (set_up w)
+    pub old_form_loads : loaded_from (old_form_of w) ≡ set_up_given (set_up w)
     old_form_loads =
         version_loads old_version refl w ok (λ e. one) [] ∙ contents_unmarked w ok
         ∙ sym (ap set_up_given (set_up_accepted w ok))
@@ -164,12 +165,13 @@ module _ (d : Device) (h : is_legal d ≡ true) where
   stored_marks =
       grind (arith, front_many _ _ own.marks told.lamps, lamps_many, mark_room-marks_stored, own.marks)
 
-  pub stored_loads : loaded (stored_form d) ≡ accepted (started_with (stored_of d) (marks_stored d))
+  pub stored_loads : loaded_from (stored_form d) ≡ acceptance_of (started_with (stored_of d) (marks_stored d))
   stored_loads = form_loads (stored_of d) stored_in_range (marks_stored d) stored_marks
 
   -- in the words of the record
-  pub stored_loads_as : loaded (stored_form d)
-      ≡ accepted (with_own (started (stored_of d)) (with_marks (started (stored_of d)).own d.own.enabled))
+  pub stored_loads_as : loaded_from (stored_form d)
+      ≡ acceptance_of
+      (with_own (start_device (stored_of d)) (with_marks (start_device (stored_of d)).own d.own.enabled))
   stored_loads_as = grind (arith, stored_loads, mark_room-marks_stored)
 
 module _ (w : Wanted) (ok : is_set_up w ≡ true) where
@@ -186,7 +188,7 @@ module _ (w : Wanted) (ok : is_set_up w ≡ true) where
   inputs_stored : take (2 * (length w.inputs / 2)) (in_room input_room w.inputs) ≡ w.inputs
   inputs_stored = rw (inputs_halved _ w.inputs (met Inputs)) (filled_take input_room w.inputs)
 
-  pub started_stored : stored_of (started w) ≡ w
+  pub started_stored : stored_of (start_device w) ≡ w
   started_stored = rw (started_parts w) (simp (filled_take, names_stored, inputs_stored))
 
   -- and the marks that a load gave it

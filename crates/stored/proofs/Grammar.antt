@@ -24,7 +24,8 @@ use Rattle.record.proofs.OutOfRange.{each_in_range}
 use Rattle.record.proofs.Started.{inputs_halved}
 use Rattle.stored.specs.Form.{form_version, old_version, text_section, seconds_bytes, mark_byte, marks_section}
 use Rattle.stored.specs.Form.{texts_bytes, texts_in_class_2, class_part_text, form_with, version_form}
-use Rattle.stored.specs.Reading.{given, byte, number, section_of, text, texts, seconds_in, ClassPart, alone, texts_of_2}
+use Rattle.stored.specs.Reading.{given, byte, number, section_of, text, texts, seconds_in, ClassPart, class_alone}
+use Rattle.stored.specs.Reading.{texts_of_2}
 use Rattle.stored.specs.Reading.{class_part, class_in, marks_of, FormSaid, form}
 use Rattle.stored.proofs.Fields.{if_form, section_counted, IsForm, given_form, form_then, form_as, byte_form}
 use Rattle.stored.proofs.Fields.{section_form, text_form, number_form, texts_form, Begins, begins_then, byte_begins}
@@ -67,7 +68,7 @@ module _ (w : Wanted) (ok : is_set_up w ≡ true) where
   class_said = record { class = w.class; serial = w.serial; version = w.version; names = w.names }
 
   -- no other class has anything more
-  is_alone : (w.class == 2) ≡ false → alone w.class ≡ class_said
+  is_alone : (w.class == 2) ≡ false → class_alone w.class ≡ class_said
   is_alone e =
       grind (
         arith,
@@ -92,7 +93,8 @@ module _ (w : Wanted) (ok : is_set_up w ≡ true) where
       (form_then (text_form w.version) _
       (form_as names _ (λ j. record class_said { class = sym (eqb-true w.class 2 two) j }))))
       (λ other.
-      subst (λ (c : ClassPart). IsForm (given (alone w.class)) c []) (is_alone other) (given_form (alone w.class))))
+      subst (λ (c : ClassPart). IsForm (given (class_alone w.class)) c []) (is_alone other)
+      (given_form (class_alone w.class))))
 
   class_form : (v : ℕ) → ((v == form_version) ≡ false → w.class ≡ 1)
       → IsForm (class_in v (input_count w)) class_said (rest_part v class_said)
@@ -154,7 +156,7 @@ unfolding class_part class_part_text texts_of_2 texts_bytes
 part_begins n {s} e = reading byte e (λ k s1 r1 e1. by k s1 (byte_begins r1) (k == 2) refl e1)
   where
     by : (k : ℕ) (s1 : List ℕ) {c : ClassPart} {rest : List ℕ} → Begins s (k ∷ []) s1 → (two : Bool) → (k == 2) ≡ two
-        → (if two then texts_of_2 n else given (alone k)) s1 ≡ Some (c, rest) → Begins s (part c) rest
+        → (if two then texts_of_2 n else given (class_alone k)) s1 ≡ Some (c, rest) → Begins s (part c) rest
     by k s1 p true h e =
         reading text e
         (λ serial s2 r2 e2. reading text e2

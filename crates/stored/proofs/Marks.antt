@@ -8,12 +8,12 @@ use Rattle.std.proofs.Common.{take-append-drop}
 use Rattle.std.proofs.lemmas.Grind.{common_steps}
 use Rattle.std.proofs.lemmas.List.{length-map, length-replicate, take-replicate}
 use Rattle.std.proofs.Math.Seq.{take-append_seam}
-use Rattle.text.specs.Rooms.{kept}
+use Rattle.text.specs.Rooms.{filled_room}
 use Rattle.record.specs.Limits.{lamps_most}
 use Rattle.record.specs.Wanted.{Wanted}
 use Rattle.record.specs.Rules.{is_marks}
 use Rattle.record.specs.Updates.{with_own, with_marks}
-use Rattle.record.specs.Record.{all_marks, started}
+use Rattle.record.specs.Record.{all_marks, start_device}
 use Rattle.record.specs.SetUp.{is_set_up}
 use Rattle.record.specs.declared.types.Setting.TheVariants.{Lamps}
 use Rattle.record.proofs.MarksTold.{marks_long, marks_past, front_many, all_marks_legal, marks_kept}
@@ -29,7 +29,7 @@ none_are : (ms : List Bool) → list_all not ms ≡ true → ms ≡ replicate (l
 none_are [] e = refl
 none_are (m ∷ ms) e = grind (arith, e, none_are ms)
 
-pub kept_in_room : (ms : List Bool) → kept false lamps_most ms ≡ mark_room ms
+pub kept_in_room : (ms : List Bool) → filled_room false lamps_most ms ≡ mark_room ms
 unfolding mark_room
 kept_in_room ms = refl
 
@@ -59,15 +59,15 @@ mark_room-take n ms legal few =
 module _ (n : ℕ) (few : n ≤ lamps_most) where
   all_room : mark_room (replicate n true) ≡ all_marks n
   unfolding mark_room
-  all_room = ap (kept false lamps_most) (sym (take-replicate n lamps_most true few)) ∙ marks_kept n few
+  all_room = ap (filled_room false lamps_most) (sym (take-replicate n lamps_most true few)) ∙ marks_kept n few
 
   pub all_are_marks : is_marks_of n (replicate n true) ≡ true
   all_are_marks = grind (arith, length-replicate, all_room, all_marks_legal)
 
 pub started_with-replicate : (w : Wanted) → is_set_up w ≡ true
-    → started_with w (replicate (length w.lamps) true) ≡ started w
+    → started_with w (replicate (length w.lamps) true) ≡ start_device w
 started_with-replicate w ok =
-    ap (λ (ms : List Bool). with_own (started w) (with_marks (started w).own ms))
+    ap (λ (ms : List Bool). with_own (start_device w) (with_marks (start_device w).own ms))
     (all_room _ (lamps_few w.lamps (each_in_range w ok Lamps)) ∙ sym (started_marks w))
 
 -- ---- in bytes

@@ -12,7 +12,7 @@ use Rattle.record.specs.declared.types.Device.{Device}
 use Rattle.record.specs.Given.{Given}
 use Rattle.stored.specs.Form.{text_section, marks_section, texts_in_class_2, class_part_text, form_with, form_version}
 use Rattle.stored.specs.Form.{old_version, version_form, stored_of, marks_stored, stored_form}
-use Rattle.stored.specs.Loading.{said_in, settings_in, mark_bytes_in, is_marked, marks_read, started_with, loaded}
+use Rattle.stored.specs.Loading.{said_in, settings_in, mark_bytes_in, is_marked, marks_read, started_with, loaded_from}
 use Rattle.stored.proofs.Marks.{AreMarks, marks_are, marks_again, marks_back, map-replicate}
 use Rattle.stored.proofs.Results.{IsAccepted, accepted_told, accepted_set_up}
 use Rattle.stored.proofs.FormsLoad.{started_stored, marks_stored-started_with}
@@ -20,9 +20,9 @@ use Rattle.stored.proofs.Fields.{Bytes}
 use Rattle.stored.proofs.Grammar.{ReadAs, formed, form_read}
 
 -- what a load gives, stored: the settings and the marks in the bytes
-module _ (s : List ℕ) (e : (loaded s).number ≡ 0) where
+module _ (s : List ℕ) (e : (loaded_from s).number ≡ 0) where
   abbrev d : Device
-  d = (loaded s).device
+  d = (loaded_from s).device
 
   told : IsAccepted s
   told = accepted_told s e
@@ -40,7 +40,7 @@ module _ (s : List ℕ) (e : (loaded s).number ≡ 0) where
   settings_stored = ap stored_of gave ∙ started_stored (settings_in s) told.contents
 
   marks_stored_lem : marks_stored d ≡ marks_read s
-  unfolding class_part_text form_with loaded
+  unfolding class_part_text form_with loaded_from
   marks_stored_lem = grind (arith, gave, marks_stored-started_with, length-map)
 
   -- the bytes are their version's form of what stands in them
@@ -62,7 +62,7 @@ module _ (s : List ℕ) (e : (loaded s).number ≡ 0) where
   stored_again b o = ap (λ (v : ℕ). version_form v (stored_of d) (marks_stored d)) (sym o) ∙ stored_as_it_was b
 
 -- each lamp of an old form is enabled
-pub old_enabled : (s : List ℕ) (e : (loaded s).number ≡ 0) → s at 0 ≡ old_version
+pub old_enabled : (s : List ℕ) (e : (loaded_from s).number ≡ 0) → s at 0 ≡ old_version
     → marks_stored (d s e) ≡ replicate (length (stored_of (d s e)).lamps) true
 old_enabled s e o =
     let n = length (settings_in s).lamps in
@@ -73,7 +73,8 @@ old_enabled s e o =
     ∙ ap (λ (w : Wanted). replicate (length w.lamps) true) (sym (settings_stored s e))
 
 -- bytes of one version that load as one record are one
-pub forms_apart : (s t : List ℕ) → Bytes s → Bytes t → (loaded s).number ≡ 0 → (loaded t).number ≡ 0 → s at 0 ≡ t at 0
-    → (loaded s).device ≡ (loaded t).device → s ≡ t
-unfolding class_part_text form_with loaded
+pub forms_apart : (s t : List ℕ) → Bytes s → Bytes t → (loaded_from s).number ≡ 0 → (loaded_from t).number ≡ 0
+    → s at 0 ≡ t at 0
+    → (loaded_from s).device ≡ (loaded_from t).device → s ≡ t
+unfolding class_part_text form_with loaded_from
 forms_apart s t b c e f version same = grind (arith, stored_as_it_was)

@@ -11,7 +11,7 @@ use Rattle.words.specs.Bytes.{◌at◌}
 use Rattle.record.specs.Wanted.{Wanted}
 use Rattle.record.specs.Rules.{is_marks}
 use Rattle.record.specs.Record.{blank}
-use Rattle.record.specs.Given.{accepted}
+use Rattle.record.specs.Given.{acceptance_of}
 use Rattle.record.specs.Legal.{is_legal}
 use Rattle.record.specs.SetUp.{is_set_up}
 use Rattle.record.specs.declared.types.Device.{Device}
@@ -22,8 +22,9 @@ use Rattle.stored.specs.Form.{form_version, stored_form, StoredAs, nothing_store
 use Rattle.stored.specs.Reading.{FormSaid, form}
 use Rattle.stored.specs.Told.{loading_told}
 use Rattle.stored.specs.declared.error.LoadError.{LoadError}
-use Rattle.stored.specs.Loading.{is_other_version, ends_early, leaves_more, said, said_in, settings_in, mark_bytes_in}
-use Rattle.stored.specs.Loading.{marks_read, mark_room, are_marks, started_with, load_rows, loaded}
+use Rattle.stored.specs.Loading.{is_other_version, ends_early, leaves_more, said_by_form, said_in, settings_in}
+use Rattle.stored.specs.Loading.{mark_bytes_in}
+use Rattle.stored.specs.Loading.{marks_read, mark_room, are_marks, started_with, load_rows, loaded_from}
 use Rattle.stored.proofs.Marks.{marks_are}
 use Rattle.stored.proofs.Grammar.{nothing, form_read}
 
@@ -33,7 +34,8 @@ pub is_legal-started_with : (w : Wanted) (ms : List Bool) → is_set_up w ≡ tr
 is_legal-started_with w ms ok h = grind (arith, started_legal, own_of_legal, is_legal-with_own, started_parts)
 
 -- what neither ends early nor leaves more
-read_whole : (o : Option (FormSaid × List ℕ)) → ends_early o ≡ false → leaves_more o ≡ false → o ≡ Some (said o, [])
+read_whole : (o : Option (FormSaid × List ℕ)) → ends_early o ≡ false → leaves_more o ≡ false
+    → o ≡ Some (said_by_form o, [])
 read_whole o h g = grind (arith, nothing)
 
 module _ (s : List ℕ) where
@@ -44,36 +46,37 @@ module _ (s : List ℕ) where
     pub marks : are_marks (length (settings_in s).lamps) (mark_bytes_in s) ≡ true
 
   -- 20, 21, 22, 23, in that order, or 0
-  pub loading_number : (loaded s).number ≡ first_of (load_rows s)
-  unfolding loaded
+  pub loading_number : (loaded_from s).number ≡ first_of (load_rows s)
+  unfolding loaded_from
   loading_number = grind arith
 
-  pub refused_load_blank : ((loaded s).number ≡ 0 → ⊥) → (loaded s).device ≡ blank
-  unfolding loaded
+  pub refused_load_blank : ((loaded_from s).number ≡ 0 → ⊥) → (loaded_from s).device ≡ blank
+  unfolding loaded_from
   refused_load_blank h = grind (arith, h)
 
-  pub accepted_told : (loaded s).number ≡ 0 → IsAccepted
-  unfolding loaded
+  pub accepted_told : (loaded_from s).number ≡ 0 → IsAccepted
+  unfolding loaded_from
   accepted_told e = grind (arith, read_whole)
 
-  pub accepted_set_up : (loaded s).number ≡ 0 → loaded s ≡ accepted (started_with (settings_in s) (marks_read s))
-  unfolding loaded
+  pub accepted_set_up : (loaded_from s).number ≡ 0
+      → loaded_from s ≡ acceptance_of (started_with (settings_in s) (marks_read s))
+  unfolding loaded_from
   accepted_set_up e = grind (arith, e)
 
-  pub accepted_legal : (loaded s).number ≡ 0 → is_legal (loaded s).device ≡ true
-  unfolding loaded
+  pub accepted_legal : (loaded_from s).number ≡ 0 → is_legal (loaded_from s).device ≡ true
+  unfolding loaded_from
   accepted_legal e = grind (arith, accepted_told, marks_are, accepted_set_up, is_legal-started_with)
 
   -- versions 1 and 2 are of Class 1 (RULES, Class 2)
-  pub older_is_class_1 : ((s at 0) == form_version) ≡ false → (loaded s).number ≡ 0 → (settings_in s).class ≡ 1
+  pub older_is_class_1 : ((s at 0) == form_version) ≡ false → (loaded_from s).number ≡ 0 → (settings_in s).class ≡ 1
   older_is_class_1 older e = (form_read s (accepted_told e).read).class older
 
 -- what loading tells of its result is all of it
 told_apart : (r s : Result Device LoadError) → loading_told r ≡ loading_told s → r ≡ s
 told_apart r s h = grind arith
 
-pub one_outcome : (bs : List ℕ) (r s : Result Device LoadError) → loading_told r ≡ loaded bs
-    → loading_told s ≡ loaded bs → r ≡ s
+pub one_outcome : (bs : List ℕ) (r s : Result Device LoadError) → loading_told r ≡ loaded_from bs
+    → loading_told s ≡ loaded_from bs → r ≡ s
 one_outcome bs r s e f = told_apart r s (e ∙ sym f)
 
 -- ---- what storing gives

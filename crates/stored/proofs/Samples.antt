@@ -10,11 +10,11 @@ use Rattle.text.specs.Words.{◌from◌to◌}
 use Rattle.numbers.specs.Computing.{computing as number-computing}
 use Rattle.record.specs.Limits.{lamp_limit}
 use Rattle.record.specs.Wanted.{Wanted, wanted_of, wanted_of_2, with_password}
-use Rattle.record.specs.Record.{zeros, started}
-use Rattle.record.specs.Given.{accepted}
+use Rattle.record.specs.Record.{zeros, start_device}
+use Rattle.record.specs.Given.{acceptance_of}
 use Rattle.record.specs.Computing.{computing as record-computing}
 use Rattle.stored.specs.Form.{form_version, form_with, form_of, marked_form_of, old_form_of, form_most}
-use Rattle.stored.specs.Loading.{started_with, loaded}
+use Rattle.stored.specs.Loading.{started_with, loaded_from}
 use Rattle.stored.specs.Computing.{computing}
 
 -- bytes by their hexadecimal digits, two each
@@ -59,9 +59,9 @@ pub printed_stored : form_of cutting_room only_first ≡ printed
 unfolding computing number-computing
 printed_stored = refl
 
-pub printed-loaded : loaded printed ≡ accepted (started_with cutting_room only_first)
+pub printed_loads : loaded_from printed ≡ acceptance_of (started_with cutting_room only_first)
 unfolding computing number-computing record-computing
-printed-loaded = refl
+printed_loads = refl
 
 -- in Class 2: the serial number, the version and three names, the last of them empty
 abbrev class_room : Wanted
@@ -80,7 +80,7 @@ pub class_printed_lem : form_of class_room only_first ≡ class_printed
 unfolding computing number-computing
 class_printed_lem = refl
 
-pub class_printed_loaded : loaded class_printed ≡ accepted (started_with class_room only_first)
+pub class_printed_loaded : loaded_from class_printed ≡ acceptance_of (started_with class_room only_first)
 unfolding computing number-computing record-computing
 class_printed_loaded = refl
 
@@ -92,7 +92,7 @@ pub marked_printed_lem : marked_form_of cutting_room only_first ≡ marked_print
 unfolding computing number-computing
 marked_printed_lem = refl
 
-pub marked_printed_loaded : loaded marked_printed ≡ accepted (started_with cutting_room only_first)
+pub marked_printed_loaded : loaded_from marked_printed ≡ acceptance_of (started_with cutting_room only_first)
 unfolding computing number-computing record-computing
 marked_printed_loaded = refl
 
@@ -104,12 +104,12 @@ pub old_printed_lem : old_form_of cutting_room ≡ old_printed
 unfolding computing number-computing
 old_printed_lem = refl
 
-pub old_printed_loaded : loaded old_printed ≡ accepted (started cutting_room)
+pub old_printed_loaded : loaded_from old_printed ≡ acceptance_of (start_device cutting_room)
 unfolding computing number-computing record-computing
 old_printed_loaded = refl
 
 abbrev number_on : List ℕ → ℕ
-number_on s = (loaded s).number
+number_on s = (loaded_from s).number
 
 -- a password that is not allowed; one lamp too many, all its bytes there
 abbrev spaced : List ℕ
@@ -166,6 +166,6 @@ widest =
 abbrev widest_form : List ℕ
 widest_form = form_of widest (replicate 8 true)
 
-pub most_reached : ((loaded widest_form).number ≡ 0) × (length widest_form ≡ form_most)
+pub most_reached : ((loaded_from widest_form).number ≡ 0) × (length widest_form ≡ form_most)
 unfolding computing number-computing record-computing
 most_reached = (refl, refl)

@@ -14,20 +14,20 @@
 --   is_legal_said f           what is said can be set up, and the marks are those of its lamps
 --   contents f                what loading gives by what is said, where that is all that stands there
 --   load_rows s               when a load is refused, and with which number
---   loaded s                  refused with the blank record, or the set-up of the settings in s with the marks in s
+--   loaded_from s             refused with the blank record, or the set-up of the settings in s with the marks in s
 -- Assumes nothing.
 use Rattle.std.specs.Prelude.{ℕ, Bool, true, false, not, ◌&&◌, List, [], ◌∷◌}
 use Rattle.std.specs.List.{list_all}
 use Rattle.std.specs.Prelude.{map, length}
 use Rattle.std.specs.Prelude.{Option, Some, None, if◌then◌else◌, ◌==◌}
-use Rattle.text.specs.Rooms.{kept}
+use Rattle.text.specs.Rooms.{filled_room}
 use Rattle.text.specs.Rows.{Row, ◌when◌, by_rows}
 use Rattle.record.specs.Limits.{lamps_most}
 use Rattle.record.specs.Wanted.{Wanted, wanted_of}
 use Rattle.record.specs.Rules.{at_most, is_marks}
 use Rattle.record.specs.Updates.{with_own, with_marks}
-use Rattle.record.specs.Record.{started, blank}
-use Rattle.record.specs.Given.{Given, accepted, refused}
+use Rattle.record.specs.Record.{start_device, blank}
+use Rattle.record.specs.Given.{Given, acceptance_of, refusal_with}
 use Rattle.record.specs.SetUp.{is_set_up}
 use Rattle.record.specs.declared.types.Device.{Device}
 use Rattle.stored.specs.Form.{form_version, marked_version, old_version}
@@ -52,12 +52,12 @@ abbrev pub is_left_over : List ℕ → Bool
 is_left_over s = leaves_more (form s)
 
 -- nothing is said by what is cut short
-abbrev pub said : Option (FormSaid × List ℕ) → FormSaid
-said None = record { settings = wanted_of [] [] [] [] [] [] [] 0 0; marks = [] }
-said (Some f) = f.0
+abbrev pub said_by_form : Option (FormSaid × List ℕ) → FormSaid
+said_by_form None = record { settings = wanted_of [] [] [] [] [] [] [] 0 0; marks = [] }
+said_by_form (Some f) = f.0
 
 abbrev pub said_in : List ℕ → FormSaid
-said_in s = said (form s)
+said_in s = said_by_form (form s)
 
 abbrev pub settings_in : List ℕ → Wanted
 settings_in s = (said_in s).settings
@@ -75,7 +75,7 @@ abbrev pub marks_read : List ℕ → List Bool
 marks_read s = map is_marked (mark_bytes_in s)
 
 unfoldable pub mark_room : List Bool → List Bool
-mark_room ms = kept false lamps_most ms
+mark_room ms = filled_room false lamps_most ms
 
 abbrev pub is_marks_of : ℕ → List Bool → Bool
 is_marks_of n ms = length ms == n && is_marks n (mark_room ms)
@@ -84,19 +84,20 @@ abbrev pub are_marks : ℕ → List ℕ → Bool
 are_marks n bytes = list_all is_mark_byte bytes && is_marks_of n (map is_marked bytes)
 
 abbrev pub started_with : Wanted → List Bool → Device
-started_with w ms = with_own (started w) (with_marks (started w).own (mark_room ms))
+started_with w ms = with_own (start_device w) (with_marks (start_device w).own (mark_room ms))
 
 abbrev pub is_legal_said : FormSaid → Bool
 is_legal_said f = is_set_up f.settings && are_marks (length f.settings.lamps) f.marks
 
 abbrev pub contents : FormSaid → Given Device
 contents f =
-    if is_legal_said f then accepted (started_with f.settings (map is_marked f.marks)) else refused 23 blank
+    if is_legal_said f then acceptance_of (started_with f.settings (map is_marked f.marks)) else refusal_with 23 blank
 
 abbrev pub load_rows : List ℕ → List Row
 load_rows s =
     (20 when is_other_version s) ∷ (21 when is_cut_short s) ∷ (22 when is_left_over s)
     ∷ (23 when not (is_legal_said (said_in s))) ∷ []
 
-unfoldable pub loaded : List ℕ → Given Device
-loaded s = by_rows (load_rows s) (λ n. refused n blank) (accepted (started_with (settings_in s) (marks_read s)))
+unfoldable pub loaded_from : List ℕ → Given Device
+loaded_from s =
+    by_rows (load_rows s) (λ n. refusal_with n blank) (acceptance_of (started_with (settings_in s) (marks_read s)))

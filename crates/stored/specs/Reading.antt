@@ -23,13 +23,13 @@ use Rattle.stored.specs.Form.{form_version, old_version}
 abbrev pub Field : Type 0 → Type 0
 Field A = List ℕ → Option (A × List ℕ)
 
-abbrev pub onward : {A B : Type 0} → (A → Field B) → Option (A × List ℕ) → Option (B × List ℕ)
-onward f None = None
-onward f (Some x) = f x.0 x.1
+abbrev pub field_and_then : {A B : Type 0} → (A → Field B) → Option (A × List ℕ) → Option (B × List ℕ)
+field_and_then f None = None
+field_and_then f (Some x) = f x.0 x.1
 
 infixl 10 ◌giving◌
 abbrev pub ◌giving◌ : {A B : Type 0} → Field A → (A → Field B) → Field B
-(r giving f) s = onward f (r s)
+(r giving f) s = field_and_then f (r s)
 
 abbrev pub given : {A : Type 0} → A → Field A
 given x s = Some (x, s)
@@ -71,8 +71,8 @@ pub record ClassPart : Type 0 where
   pub version : List ℕ
   pub names : List (List ℕ)
 
-abbrev pub alone : ℕ → ClassPart
-alone k = record { class = k; serial = []; version = []; names = [] }
+abbrev pub class_alone : ℕ → ClassPart
+class_alone k = record { class = k; serial = []; version = []; names = [] }
 
 unfoldable pub texts_of_2 : ℕ → Field ClassPart
 texts_of_2 n =
@@ -84,10 +84,10 @@ texts_of_2 n =
 unfoldable pub class_part : ℕ → Field ClassPart
 class_part n =
     byte giving λ k.
-    if k == 2 then texts_of_2 n else given (alone k)
+    if k == 2 then texts_of_2 n else given (class_alone k)
 
 unfoldable pub class_in : ℕ → ℕ → Field ClassPart
-class_in v n = if v == form_version then class_part n else given (alone 1)
+class_in v n = if v == form_version then class_part n else given (class_alone 1)
 
 unfoldable pub marks_of : ℕ → ℕ → Field (List ℕ)
 marks_of v n = if v == old_version then given (replicate n 1) else text

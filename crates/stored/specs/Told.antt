@@ -7,7 +7,7 @@
 -- Assumes nothing.
 use Rattle.std.specs.Prelude.{ℕ, length, Result, Ok, Err}
 use Rattle.record.specs.Record.{blank}
-use Rattle.record.specs.Given.{Given, accepted, refused}
+use Rattle.record.specs.Given.{Given, acceptance_of, refusal_with}
 use Rattle.record.specs.Refusals.{refusal_number}
 use Rattle.record.specs.declared.types.Device.{Device}
 use Rattle.record.specs.declared.refusal.Refusal.{Refusal}
@@ -33,5 +33,5 @@ load_error_number LeftOver = 22
 load_error_number NotLegal = 23
 
 abbrev pub loading_told : Result Device LoadError → Given Device
-loading_told (Ok d) = accepted d
-loading_told (Err e) = refused (load_error_number e) blank
+loading_told (Ok d) = acceptance_of d
+loading_told (Err e) = refusal_with (load_error_number e) blank

@@ -12,7 +12,7 @@ use Rattle.setup.specs.Lent.{class_number, serial_of, version_of, names_of}
 use Rattle.setup.specs.declared.wanted.Class.{Class}
 use Rattle.stored.specs.declared.form.Rest.{Rest}
 use Rattle.stored.specs.declared.form.Form.{Form}
-use Rattle.stored.specs.Reading.{ClassPart, alone, FormSaid, seconds_in}
+use Rattle.stored.specs.Reading.{ClassPart, class_alone, FormSaid, seconds_in}
 
 abbrev pub marks_said : ℕ → Option (Bor (List ℕ)) → List ℕ
 marks_said n None = replicate n 1
@@ -22,7 +22,7 @@ abbrev pub class_said : ℕ → Rest → ClassPart
 class_said n r =
     if r.class == 2
     then record { class = 2; serial = r.serial.now; version = r.version.now; names = counted_in n r.names.now }
-    else alone r.class
+    else class_alone r.class
 
 abbrev pub class_lent : Class → ClassPart
 class_lent c = record { class = class_number c; serial = serial_of c; version = version_of c; names = names_of c }

@@ -3,13 +3,13 @@
 ghost use Rattle.std.specs.Prelude.{◌≡◌, ◌/◌, ◌≤◌, true, map, length, OnOk, OnErr};
 ghost use Rattle.std.specs.Result.{is_ok};
 ghost use Rattle.record.specs.Limits.{lamps_most};
-ghost use Rattle.record.specs.Record.{in_room, started, blank};
+ghost use Rattle.record.specs.Record.{in_room, start_device, blank};
 ghost use Rattle.record.specs.Updates.{with_own, with_marks};
 ghost use Rattle.record.specs.Facts.{IsLegal};
 ghost use Rattle.record.specs.SetUp.{is_set_up};
 ghost use Rattle.record.specs.Given.{gives};
 ghost use Rattle.stored.specs.Reading.{seconds_in};
-ghost use Rattle.stored.specs.Loading.{is_other_version, is_marked, mark_room, are_marks, contents, loaded};
+ghost use Rattle.stored.specs.Loading.{is_other_version, is_marked, mark_room, are_marks, contents, loaded_from};
 ghost use Rattle.stored.specs.Told.{loading_told};
 ghost use Rattle.stored.specs.Views.{said_of};
 
@@ -83,7 +83,7 @@ impl<'a> Form<'a> {
     #[tactic(auto, using(crate::proofs::Cases::not_set_up))]
     fn set_up_in(&self, device: &mut Device) -> Result<(), SetUpError>
         ensures taken { is_ok result ≡ is_set_up (said_of self.now).settings }
-        ensures made { OnOk result (device.new ≡ started (said_of self.now).settings) }
+        ensures made { OnOk result (device.new ≡ start_device (said_of self.now).settings) }
     {
         let Some(class) = self.rest.class(self.inputs.len() / 2) else {
             return Err(SetUpError::OutOfRange(Setting::Inputs));
@@ -131,7 +131,7 @@ impl<'a> Form<'a> {
 // Where it is refused, what the record is then is not said.
 #[tactic(auto, using(crate::proofs::Cases::loaded_early))]
 fn read_in(device: &mut Device, bytes: &[u8]) -> Result<(), LoadError>
-    ensures { loading_told (gives result device.new) ≡ loaded bytes.now }
+    ensures { loading_told (gives result device.new) ≡ loaded_from bytes.now }
 {
     if is_other_version(bytes) {
         return Err(LoadError::OtherVersion);
@@ -148,7 +148,7 @@ fn read_in(device: &mut Device, bytes: &[u8]) -> Result<(), LoadError>
 /// is tested first, then what is cut short, then what is left over, then the contents; where it is refused, the record
 /// is the blank one (RULES, Stored form).
 pub fn load_in(device: &mut Device, bytes: &[u8]) -> Result<(), LoadError>
-    ensures made { loading_told (gives result device.new) ≡ loaded bytes.now }
+    ensures made { loading_told (gives result device.new) ≡ loaded_from bytes.now }
     ensures refused { OnErr result (device.new ≡ blank) }
 {
     let Err(error) = read_in(device, bytes) else {
@@ -160,7 +160,7 @@ pub fn load_in(device: &mut Device, bytes: &[u8]) -> Result<(), LoadError>
 
 /// The same, of a record of its own.
 pub fn load(bytes: &[u8]) -> Result<Device, LoadError>
-    ensures { loading_told result ≡ loaded bytes.now }
+    ensures { loading_told result ≡ loaded_from bytes.now }
 {
     let mut device = fresh::blank();
     load_in(&mut device, bytes)?;

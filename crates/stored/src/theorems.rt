@@ -4,15 +4,15 @@ ghost use Rattle.std.specs.Prelude.{◌≡◌, ◌<◌, ◌≤◌, ◌∷◌, �
 ghost use Rattle.std.specs.List.{list_all};
 ghost use Rattle.words.specs.Bytes.{◌at◌};
 ghost use Rattle.record.specs.Rules.{at_most};
-ghost use Rattle.record.specs.Record.{started};
+ghost use Rattle.record.specs.Record.{start_device};
 ghost use Rattle.record.specs.Updates.{with_own, with_marks};
 ghost use Rattle.record.specs.Wanted.{Wanted};
 ghost use Rattle.record.specs.SetUp.{is_set_up};
-ghost use Rattle.record.specs.Given.{Given, accepted};
+ghost use Rattle.record.specs.Given.{Given, acceptance_of};
 ghost use Rattle.text.specs.Words.{over};
 ghost use Rattle.stored.specs.Form.{form_of, marked_form_of, old_form_of, stored_form, form_most, stored_by};
 ghost use Rattle.stored.specs.Form.{old_version, version_form, stored_of, marks_stored};
-ghost use Rattle.stored.specs.Loading.{loaded};
+ghost use Rattle.stored.specs.Loading.{loaded_from};
 ghost use Rattle.record.specs.declared.types.Device.{Device};
 ghost use Rattle.record.specs.Legal.{is_legal};
 ghost use Rattle.stored.specs.declared.error.LoadError.{LoadError};
@@ -21,36 +21,37 @@ ghost use Rattle.stored.specs.Told.{StoreTold, told_stored, loading_told};
 /// A form of any version that is cut anywhere is 21, and one with more after it 22.
 pub fn a_form_is_whole()
     ensures cut_short { (w : Wanted) → is_set_up w ≡ true → (ms : List Bool) (k : ℕ) → k < length (form_of w ms)
-        → (loaded (take k (form_of w ms))).number ≡ 21 }
+        → (loaded_from (take k (form_of w ms))).number ≡ 21 }
     ensures cut_short_marked { (w : Wanted) → is_set_up w ≡ true → w.class ≡ 1 → (ms : List Bool) (k : ℕ)
-        → k < length (marked_form_of w ms) → (loaded (take k (marked_form_of w ms))).number ≡ 21 }
+        → k < length (marked_form_of w ms) → (loaded_from (take k (marked_form_of w ms))).number ≡ 21 }
     ensures cut_short_old { (w : Wanted) → is_set_up w ≡ true → w.class ≡ 1 → (k : ℕ) → k < length (old_form_of w)
-        → (loaded (take k (old_form_of w))).number ≡ 21 }
+        → (loaded_from (take k (old_form_of w))).number ≡ 21 }
     ensures left_over { (w : Wanted) → is_set_up w ≡ true → (ms : List Bool) (x : ℕ) (xs : List ℕ)
-        → (loaded (form_of w ms ++ x ∷ xs)).number ≡ 22 }
+        → (loaded_from (form_of w ms ++ x ∷ xs)).number ≡ 22 }
     ensures left_over_marked { (w : Wanted) → is_set_up w ≡ true → w.class ≡ 1 → (ms : List Bool) (x : ℕ) (xs : List ℕ)
-        → (loaded (marked_form_of w ms ++ x ∷ xs)).number ≡ 22 }
+        → (loaded_from (marked_form_of w ms ++ x ∷ xs)).number ≡ 22 }
     ensures left_over_old { (w : Wanted) → is_set_up w ≡ true → w.class ≡ 1 → (x : ℕ) (xs : List ℕ)
-        → (loaded (old_form_of w ++ x ∷ xs)).number ≡ 22 }
+        → (loaded_from (old_form_of w ++ x ∷ xs)).number ≡ 22 }
 {}
 
 /// What a legal record stores loads as a fresh set-up of its settings, each lamp with its seconds and its mark.
 #[tactic(auto, using(crate::proofs::FormsLoad::stored_loads_as))]
 pub fn what_is_stored_loads()
-    ensures { (d : Device) → is_legal d ≡ true → loaded (stored_form d)
-        ≡ accepted (with_own (started (stored_of d)) (with_marks (started (stored_of d)).own d.own.enabled)) }
+    ensures { (d : Device) → is_legal d ≡ true → loaded_from (stored_form d)
+        ≡ acceptance_of
+        (with_own (start_device (stored_of d)) (with_marks (start_device (stored_of d)).own d.own.enabled)) }
 {}
 
 /// Bytes that load are their version's form of what they loaded, each lamp enabled in the oldest, and no others of that
 /// version load as the same record.
 pub fn a_form_is_one()
-    ensures stored_again { (s : List ℕ) → list_all (at_most 255) s ≡ true → (loaded s).number ≡ 0
-        → version_form (s at 0) (stored_of (loaded s).device) (marks_stored (loaded s).device) ≡ s }
-    ensures old_enabled { (s : List ℕ) → (loaded s).number ≡ 0 → s at 0 ≡ old_version
-        → marks_stored (loaded s).device ≡ replicate (length (stored_of (loaded s).device).lamps) true }
+    ensures stored_again { (s : List ℕ) → list_all (at_most 255) s ≡ true → (loaded_from s).number ≡ 0
+        → version_form (s at 0) (stored_of (loaded_from s).device) (marks_stored (loaded_from s).device) ≡ s }
+    ensures old_enabled { (s : List ℕ) → (loaded_from s).number ≡ 0 → s at 0 ≡ old_version
+        → marks_stored (loaded_from s).device ≡ replicate (length (stored_of (loaded_from s).device).lamps) true }
     ensures apart { (s t : List ℕ) → list_all (at_most 255) s ≡ true → list_all (at_most 255) t ≡ true
-        → (loaded s).number ≡ 0 → (loaded t).number ≡ 0 → s at 0 ≡ t at 0
-        → (loaded s).device ≡ (loaded t).device → s ≡ t }
+        → (loaded_from s).number ≡ 0 → (loaded_from t).number ≡ 0 → s at 0 ≡ t at 0
+        → (loaded_from s).device ≡ (loaded_from t).device → s ≡ t }
 {}
 
 /// Memory of this size is never too short for the form of a legal record.
@@ -66,7 +67,7 @@ pub fn one_result()
         → let w = stored_by d (length out) in
         (r ≡ told_stored w) × (m ≡ over w.bytes out)
         → (s ≡ told_stored w) × (n ≡ over w.bytes out) → (r ≡ s) × (m ≡ n) }
-    ensures number_and_record { (bs : List ℕ) (r s : Given Device) → r ≡ loaded bs → s ≡ loaded bs → r ≡ s }
+    ensures number_and_record { (bs : List ℕ) (r s : Given Device) → r ≡ loaded_from bs → s ≡ loaded_from bs → r ≡ s }
     ensures outcome { (bs : List ℕ) (r s : Result Device LoadError)
-        → loading_told r ≡ loaded bs → loading_told s ≡ loaded bs → r ≡ s }
+        → loading_told r ≡ loaded_from bs → loading_told s ≡ loaded_from bs → r ≡ s }
 {}

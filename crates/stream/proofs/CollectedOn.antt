@@ -5,13 +5,13 @@ use Rattle.std.proofs.Common.{ℕ, ◌≤◌, ◌<◌, ◌≡◌, refl, ap, ◌�
 use mathlib.Core.List.{foldl-append}
 use Rattle.record.specs.Limits.{line_room}
 use Rattle.record.specs.declared.types.Line.{Line}
-use Rattle.stream.specs.Collecting.{line_of, empty_line, overlong_line, collected, collected_all}
+use Rattle.stream.specs.Collecting.{line_of, empty_line, overlong_line, line_after, collected_all}
 use Rattle.stream.proofs.AllAtOnce.{all_past}
 use Rattle.stream.proofs.LinesCollected.{empty_is_none, collected_all-line_of}
 
 pub collected_all-append : (most : ℕ) (l : Line) (xs ys : List ℕ)
     → collected_all most l (xs ++ ys) ≡ collected_all most (collected_all most l xs) ys
-collected_all-append most l xs ys = foldl-append (collected most) l xs ys
+collected_all-append most l xs ys = foldl-append (line_after most) l xs ys
 
 module _ (xs : List ℕ) where
   from_none : collected_all line_room empty_line xs ≡ collected_all line_room (line_of []) xs

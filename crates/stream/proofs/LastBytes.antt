@@ -12,7 +12,7 @@ use Rattle.record.specs.Legal.{is_collecting, held_most}
 use Rattle.record.specs.declared.types.Line.{Line}
 use Rattle.record.proofs.ConnectionTold.{held_most_room, marked_none}
 use Rattle.stream.specs.Machine.{UpTo, up_to}
-use Rattle.stream.specs.Collecting.{line_text, collected, gathered}
+use Rattle.stream.specs.Collecting.{line_text, line_after, gathered_from}
 use Rattle.stream.proofs.UpToTheEnd.{up_to_by}
 use Rattle.stream.proofs.AllAtOnce.{collected_by}
 use Rattle.stream.proofs.LegalLines.{LegalLine, collected_legal}
@@ -51,7 +51,7 @@ overlong_unheld : (phase : ℕ) (l : Line) → LegalLine phase l → l.overlong 
 overlong_unheld phase l p e = grind (arith, marked_none)
 
 one_more_ends : (phase : ℕ) (l : Line) (b : ℕ) → LegalLine phase l
-    → Ends (line_text l ++ (b ∷ [])) (line_text (collected (held_most phase) l b))
+    → Ends (line_text l ++ (b ∷ [])) (line_text (line_after (held_most phase) l b))
 one_more_ends phase l b p =
     let most = held_most_room phase in
     collected_by _ (held_most phase) l b (λ k. Ends (line_text l ++ (b ∷ [])) (line_text k))
@@ -65,25 +65,25 @@ one_more_ends phase l b p =
 
 -- what is gathered ends what was held and what is taken before CR
 pub gathered_ends : (phase : ℕ) (l : Line) (bs : List ℕ) → is_collecting phase ≡ true → LegalLine phase l
-    → let g = gathered (held_most phase) l bs in
+    → let g = gathered_from (held_most phase) l bs in
     Ends (line_text l ++ take g.before bs) (line_text g.line)
-unfolding gathered up_to
+unfolding gathered_from up_to
 gathered_ends phase l [] c p = record { before = []; split = append-nil (line_text l) }
 gathered_ends phase l (b ∷ bs) c p =
     if_by (λ (g : UpTo Line). Ends (line_text l ++ take g.before (b ∷ bs)) (line_text g.line)) (b is "\r")
     (λ cr. record { before = []; split = append-nil (line_text l) }) (λ n.
-    let k = collected (held_most phase) l b in
-    let taken = take (gathered (held_most phase) k bs).before bs in
+    let k = line_after (held_most phase) l b in
+    let taken = take (gathered_from (held_most phase) k bs).before bs in
     rw (← append_assoc (line_text l) (b ∷ []) taken)
     (ends_trans (ends_with taken (one_more_ends phase l b p))
     (gathered_ends phase k bs c (collected_legal phase l b c (eqb-false b (code "\r") n) p))))
 
 -- with CR, one byte more is taken
-pub taken_with_cr : (most : ℕ) (l : Line) (bs : List ℕ) → let g = gathered most l bs in
+pub taken_with_cr : (most : ℕ) (l : Line) (bs : List ℕ) → let g = gathered_from most l bs in
     g.ended ≡ true → take (g.before + 1) bs ≡ take g.before bs ++ (code "\r" ∷ [])
-unfolding gathered
+unfolding gathered_from
 taken_with_cr most l bs =
-    up_to_by (code "\r") (collected most) l bs
+    up_to_by (code "\r") (line_after most) l bs
     (λ s g. g.ended ≡ true → take (g.before + 1) s ≡ take g.before s ++ (code "\r" ∷ []))
     (λ p e. absurd (false≢true e))
     (λ xs more p e. take-append-add xs (code "\r" ∷ more) 1

@@ -16,7 +16,7 @@ use Rattle.record.specs.declared.types.Line.{Line}
 use Rattle.record.proofs.Kept.{nothing_kept, one_more_kept}
 use Rattle.record.proofs.ConnectionTold.{held_most_room, unmarked_held, marked_held}
 use Rattle.record.specs.Facts.{Fills}
-use Rattle.stream.specs.Collecting.{empty_line, overlong_line, collected, gathered}
+use Rattle.stream.specs.Collecting.{empty_line, overlong_line, line_after, gathered_from}
 use Rattle.stream.proofs.UpToTheEnd.{up_to_keeps}
 use Rattle.stream.proofs.AllAtOnce.{collected_by}
 
@@ -37,7 +37,7 @@ no_cr_more : (s : List ℕ) (b : ℕ) → no_cr s ≡ true → (b ≡ code "\r" 
 no_cr_more s b e n = grind (arith, no_cr_of, list_all-append, no_cr_each, both, ne_eqb)
 
 pub collected_legal : (phase : ℕ) (l : Line) (b : ℕ) → is_collecting phase ≡ true → (b ≡ code "\r" → ⊥)
-    → LegalLine phase l → LegalLine phase (collected (held_most phase) l b)
+    → LegalLine phase l → LegalLine phase (line_after (held_most phase) l b)
 unfolding overlong_line
 collected_legal phase l b e n p =
     collected_by _ (held_most phase) l b (LegalLine phase) (λ marked. p) (λ u full. overlong_legal phase e) (λ u room.
@@ -50,10 +50,10 @@ collected_legal phase l b e n p =
 
 -- and so does gathering
 pub gathered_legal : (phase : ℕ) (l : Line) (bs : List ℕ) → is_collecting phase ≡ true → LegalLine phase l
-    → LegalLine phase (gathered (held_most phase) l bs).line
-unfolding gathered
+    → LegalLine phase (gathered_from (held_most phase) l bs).line
+unfolding gathered_from
 gathered_legal phase l bs e p =
-    up_to_keeps (code "\r") (collected (held_most phase)) (LegalLine phase)
+    up_to_keeps (code "\r") (line_after (held_most phase)) (LegalLine phase)
     (λ k b n. collected_legal phase k b e n) l bs p
 
 -- between lines (RULES, Connection: no collected bytes and no overlong mark) a legal line is the empty one

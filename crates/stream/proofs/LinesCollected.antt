@@ -10,7 +10,8 @@ use Rattle.record.specs.Limits.{line_room}
 use Rattle.record.specs.declared.types.Line.{Line}
 use Rattle.record.proofs.Kept.{room_empty, room_more}
 use Rattle.stream.specs.declared.Gathered.{Gathered}
-use Rattle.stream.specs.Collecting.{line_of, empty_line, overlong_line, collected, collected_all, gathered_of, gathered}
+use Rattle.stream.specs.Collecting.{line_of, empty_line, overlong_line, line_after, collected_all, gathered_of}
+use Rattle.stream.specs.Collecting.{gathered_from}
 use Rattle.stream.proofs.UpToTheEnd.{up_to-append}
 use Rattle.stream.proofs.AllAtOnce.{one_fits, all_past}
 
@@ -19,34 +20,34 @@ unfolding empty_line
 empty_is_none = grind (arith, room_empty)
 
 module _ (most : ℕ) where
-  pub collected-line_of : (xs : List ℕ) (b : ℕ) → length xs < most → most ≤ line_room
-      → collected most (line_of xs) b ≡ line_of (xs ++ (b ∷ []))
-  collected-line_of xs b h g = grind (arith, length-append, one_fits, room_more)
+  pub line_after-line_of : (xs : List ℕ) (b : ℕ) → length xs < most → most ≤ line_room
+      → line_after most (line_of xs) b ≡ line_of (xs ++ (b ∷ []))
+  line_after-line_of xs b h g = grind (arith, length-append, one_fits, room_more)
 
   pub collected_all-line_of : (done xs : List ℕ) → most ≤ line_room → length done + length xs ≤ most
       → collected_all most (line_of done) xs ≡ line_of (done ++ xs)
   collected_all-line_of done [] g h = ap line_of (sym (append-nil done))
   collected_all-line_of done (x ∷ xs) g h =
-      ap (λ (l : Line). collected_all most l xs) (collected-line_of done x (omega arith) g)
+      ap (λ (l : Line). collected_all most l xs) (line_after-line_of done x (omega arith) g)
       ∙ collected_all-line_of (done ++ (x ∷ [])) xs g (omega (arith, length-append done (x ∷ [])))
       ∙ ap line_of (append_assoc done (x ∷ []) xs)
 
   -- a line and its CR
-  pub gathered-append : (l : Line) (xs more : List ℕ) → list_all not_cr xs ≡ true
-      → gathered most l (xs ++ (code "\r" ∷ more))
+  pub gathered_from-append : (l : Line) (xs more : List ℕ) → list_all not_cr xs ≡ true
+      → gathered_from most l (xs ++ (code "\r" ∷ more))
       ≡ record { line = collected_all most l xs; before = length xs; ended = true }
-  unfolding gathered
-  gathered-append l xs more p = ap gathered_of (up_to-append (code "\r") (collected most) l xs more p)
+  unfolding gathered_from
+  gathered_from-append l xs more p = ap gathered_of (up_to-append (code "\r") (line_after most) l xs more p)
 
   module _ (done xs rest : List ℕ) where
     abbrev with : Line → Gathered
     with l = record { line = l; before = length xs; ended = true }
 
     pub line_gathered : most ≤ line_room → length done + length xs ≤ most → list_all not_cr xs ≡ true
-        → gathered most (line_of done) (xs ++ (code "\r" ∷ rest)) ≡ with (line_of (done ++ xs))
-    line_gathered g h p = gathered-append (line_of done) xs rest p ∙ ap with (collected_all-line_of done xs g h)
+        → gathered_from most (line_of done) (xs ++ (code "\r" ∷ rest)) ≡ with (line_of (done ++ xs))
+    line_gathered g h p = gathered_from-append (line_of done) xs rest p ∙ ap with (collected_all-line_of done xs g h)
 
     pub overlong_gathered : most ≤ line_room → length done ≤ most → most < length done + length xs
         → list_all not_cr xs ≡ true
-        → gathered most (line_of done) (xs ++ (code "\r" ∷ rest)) ≡ with overlong_line
-    overlong_gathered g h l p = grind (arith, gathered-append, all_past)
+        → gathered_from most (line_of done) (xs ++ (code "\r" ∷ rest)) ≡ with overlong_line
+    overlong_gathered g h l p = grind (arith, gathered_from-append, all_past)

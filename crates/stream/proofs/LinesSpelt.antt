@@ -4,8 +4,8 @@ use Rattle.std.proofs.Common.{ℕ, ◌≡◌, refl, false, true, List, [], ◌�
 use Rattle.record.specs.Limits.{line_room}
 use Rattle.record.specs.Record.{zeros}
 use Rattle.record.specs.declared.types.Line.{Line}
-use Rattle.stream.specs.Collecting.{empty_line, overlong_line, gathered}
-use Rattle.stream.specs.Machine.{Out, unanswered, reply_then, up_to, one_step, run_over}
+use Rattle.stream.specs.Collecting.{empty_line, overlong_line, gathered_from}
+use Rattle.stream.specs.Machine.{Out, without_reply, reply_then, up_to, one_step, run_over}
 
 pub empty_spelt : empty_line ≡ record { overlong = false; held = 0; bytes = zeros line_room }
 unfolding empty_line
@@ -19,12 +19,12 @@ pub overlong_marked : overlong_line.overlong ≡ true
 unfolding overlong_line
 overlong_marked = refl
 
-pub gathered_none : (most : ℕ) (l : Line) → gathered most l [] ≡ record { line = l; before = 0; ended = false }
-unfolding gathered up_to
+pub gathered_none : (most : ℕ) (l : Line) → gathered_from most l [] ≡ record { line = l; before = 0; ended = false }
+unfolding gathered_from up_to
 gathered_none most l = refl
 
 module _ (end : ℕ) (D : Type 0) (collect : D → ℕ → D) (ends : D → Out D) (d : D) where
-  pub run_none : run_over end D collect ends d [] ≡ unanswered d
+  pub run_none : run_over end D collect ends d [] ≡ without_reply d
   unfolding run_over
   run_none = refl
 

@@ -7,8 +7,8 @@ use mathlib.Core.List.{foldl}
 use Prim.Native.Char.{code}
 use Rattle.record.specs.declared.types.Line.{Line}
 use Rattle.stream.specs.declared.Gathered.{Gathered}
-use Rattle.stream.specs.Collecting.{collected, gathered}
-use Rattle.stream.specs.Machine.{Out, Took, up_to, unanswered, took_bytes, call_of, one_call}
+use Rattle.stream.specs.Collecting.{line_after, gathered_from}
+use Rattle.stream.specs.Machine.{Out, Took, up_to, without_reply, took_bytes, call_of, one_call}
 use Rattle.stream.proofs.UpToTheEnd.{not_end, up_to_by, up_to_kept_in}
 
 -- `keep` puts a line into the state, `end` is what its end does to it
@@ -23,7 +23,7 @@ module _ {L D : Type 0} (end : ℕ) (collect : L → ℕ → L) (collects : D �
 -- a call, by where the first line ends
 module _ (end : ℕ) (D : Type 0) (collect : D → ℕ → D) (ends : D → Out D) where
   pub call_by : (d : D) (bs : List ℕ) (P : List ℕ → Took D → Type 0)
-      → (list_all (not_end end) bs ≡ true → P bs (took_bytes (length bs) (unanswered (foldl collect d bs))))
+      → (list_all (not_end end) bs ≡ true → P bs (took_bytes (length bs) (without_reply (foldl collect d bs))))
       → ((xs more : List ℕ) → list_all (not_end end) xs ≡ true
       → P (xs ++ (end ∷ more)) (took_bytes (length xs + 1) (ends (foldl collect d xs))))
       → P bs (one_call end D collect ends d bs)
@@ -35,9 +35,9 @@ abbrev pub finished : {D : Type 0} → (Line → D) → (Line → Out D) → Gat
 finished keep ending g = call_of keep ending (record { line = g.line; before = g.before; ended = g.ended })
 
 module _ (D : Type 0) (collects : D → ℕ → D) (ends : D → Out D) (most : ℕ) (keep : Line → D) (ending : Line → Out D)
-    (is-collect : (l : Line) (b : ℕ) → collects (keep l) b ≡ keep (collected most l b))
+    (is-collect : (l : Line) (b : ℕ) → collects (keep l) b ≡ keep (line_after most l b))
     (is-end : (l : Line) → ends (keep l) ≡ ending l) where
   pub call_finishes : (l : Line) (bs : List ℕ)
-      → one_call (code "\r") D collects ends (keep l) bs ≡ finished keep ending (gathered most l bs)
-  unfolding gathered
-  call_finishes = call_gathers (code "\r") (collected most) collects ends keep ending is-collect is-end
+      → one_call (code "\r") D collects ends (keep l) bs ≡ finished keep ending (gathered_from most l bs)
+  unfolding gathered_from
+  call_finishes = call_gathers (code "\r") (line_after most) collects ends keep ending is-collect is-end

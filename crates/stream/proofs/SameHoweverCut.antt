@@ -10,8 +10,9 @@ use Rattle.std.proofs.lemmas.Bool.{eqb-false}
 use Rattle.std.proofs.Math.Seq.{take-length, take-append-add}
 use mathlib.Core.List.{foldl}
 use Rattle.text.proofs.Choices.{if_yes, if_by, both_right}
-use Rattle.stream.specs.Machine.{Out, Took, unanswered, reply_then, took_bytes, one_step, run_over, one_call, handed}
-use Rattle.stream.specs.Machine.{handed_part, handed_parts, uncut}
+use Rattle.stream.specs.Machine.{Out, Took, without_reply, reply_then, took_bytes, one_step, run_over, one_call}
+use Rattle.stream.specs.Machine.{handed_rest}
+use Rattle.stream.specs.Machine.{handed_part, handed_parts, stream_of}
 use Rattle.stream.proofs.UpToTheEnd.{not_end}
 use Rattle.stream.proofs.OneCallGathers.{call_by}
 
@@ -51,45 +52,45 @@ module _ (end : ℕ) (D : Type 0) (collect : D → ℕ → D) (ends : D → Out 
 
     module _ (takes : (d : D) (bs : List ℕ) → IsReady d bs → Taking d bs) where
       -- a call, and then what it did not take
-      reply_then-handed : (n : ℕ) (d : D) (bs : List ℕ) (k : Taking d bs)
+      reply_then-handed_rest : (n : ℕ) (d : D) (bs : List ℕ) (k : Taking d bs)
           → let o = ran d (take k.taken bs) in
           let rest = drop k.taken bs in
-          handed f n (g o.state) rest ≡ out_through g (ran o.state rest)
-          → reply_then o.reply (handed f n (g o.state) rest) ≡ out_through g (ran d bs)
-      reply_then-handed n d bs k on =
+          handed_rest f n (g o.state) rest ≡ out_through g (ran o.state rest)
+          → reply_then o.reply (handed_rest f n (g o.state) rest) ≡ out_through g (ran d bs)
+      reply_then-handed_rest n d bs k on =
           ap (reply_then (ran d (take k.taken bs)).reply) on
           ∙ ap (out_through g)
           (sym (run_append d (take k.taken bs) (drop k.taken bs)) ∙ ap (ran d) (take-append-drop k.taken bs))
 
       handed_runs : (n : ℕ) (d : D) (bs : List ℕ) → IsReady d bs → length bs ≤ n
-          → handed f n (g d) bs ≡ out_through g (ran d bs)
-      unfolding handed run_over
+          → handed_rest f n (g d) bs ≡ out_through g (ran d bs)
+      unfolding handed_rest run_over
       handed_runs zero d [] r h = refl
       handed_runs zero d (b ∷ bs) r h = absurd (omega arith)
       handed_runs (suc n) d [] r h = refl
       handed_runs (suc n) d (b ∷ bs) r h =
           let k = takes d (b ∷ bs) r in
           let less : length (drop k.taken (b ∷ bs)) ≤ n = simp length-drop (omega (arith, k.some (omega arith))) in
-          rw k.runs (reply_then-handed n d (b ∷ bs) k (handed_runs n _ (drop k.taken (b ∷ bs)) k.ready less))
+          rw k.runs (reply_then-handed_rest n d (b ∷ bs) k (handed_runs n _ (drop k.taken (b ∷ bs)) k.ready less))
 
       part_runs : (d : D) (p : List ℕ) → IsReady d p → handed_part f (g d) p ≡ out_through g (ran d p)
-      part_runs d p r = grind (arith, length-drop, reply_then-handed, handed_runs)
+      part_runs d p r = grind (arith, length-drop, reply_then-handed_rest, handed_runs)
 
       -- Ahead: what is known of the parts that are still to come
       module _ (Ahead : D → List (List ℕ) → Type 0)
           (first : (d : D) (p : List ℕ) (ps : List (List ℕ)) → Ahead d (p ∷ ps) → IsReady d p)
           (next : (d : D) (p : List ℕ) (ps : List (List ℕ)) → Ahead d (p ∷ ps) → Ahead (ran d p).state ps) where
         pub parts_run : (d : D) (ps : List (List ℕ)) → Ahead d ps
-            → handed_parts f (g d) ps ≡ out_through g (ran d (uncut ps))
-        unfolding handed_parts uncut run_over
+            → handed_parts f (g d) ps ≡ out_through g (ran d (stream_of ps))
+        unfolding handed_parts stream_of run_over
         parts_run d [] a = refl
         parts_run d (p ∷ ps) a =
             ap (λ (o : Out E). reply_then o.reply (handed_parts f o.state ps)) (part_runs d p (first d p ps a))
             ∙ ap (reply_then (ran d p).reply) (parts_run (ran d p).state ps (next d p ps a))
-            ∙ ap (out_through g) (sym (run_append d p (uncut ps)))
+            ∙ ap (out_through g) (sym (run_append d p (stream_of ps)))
 
   -- bytes that end no line are collected, and one call runs over what it takes
-  run_plain : (d : D) (xs : List ℕ) → list_all (not_end end) xs ≡ true → ran d xs ≡ unanswered (foldl collect d xs)
+  run_plain : (d : D) (xs : List ℕ) → list_all (not_end end) xs ≡ true → ran d xs ≡ without_reply (foldl collect d xs)
   unfolding run_over
   run_plain d [] p = refl
   run_plain d (x ∷ xs) p =
@@ -135,7 +136,8 @@ module _ (end : ℕ) (D : Type 0) (collect : D → ℕ → D) (ends : D → Out 
 
     module _ {E : Type 0} (g : D → E) (f : E → List ℕ → Took E)
         (is_call : (d : D) (bs : List ℕ) → Live d → f (g d) bs ≡ took_through g (called d bs)) where
-      pub calls_run : (d : D) (ps : List (List ℕ)) → Live d → handed_parts f (g d) ps ≡ out_through g (ran d (uncut ps))
+      pub calls_run : (d : D) (ps : List (List ℕ)) → Live d
+          → handed_parts f (g d) ps ≡ out_through g (ran d (stream_of ps))
       calls_run =
           parts_run g f (λ d bs. Live d)
           (λ d bs r. record {
@@ -146,6 +148,6 @@ module _ (end : ℕ) (D : Type 0) (collect : D → ℕ → D) (ends : D → Out 
           })
           (λ d ps. Live d) (λ d p ps r. r) (λ d p ps r. live_run d p r)
 
-      pub same_however_cut : (d : D) (ps qs : List (List ℕ)) → Live d → uncut ps ≡ uncut qs
+      pub same_however_cut : (d : D) (ps qs : List (List ℕ)) → Live d → stream_of ps ≡ stream_of qs
           → handed_parts f (g d) ps ≡ handed_parts f (g d) qs
       same_however_cut d ps qs r e = grind (arith, calls_run)

@@ -4,9 +4,9 @@
 --   empty_line, overlong_line  the line with nothing collected; with the mark alone
 --   collected_in left most l b   the line after one byte more; past `most` bytes it only keeps the mark, and `left`
 --                              says what is left in its room
---   collected most l b         the same, where nothing is left in it
+--   line_after most l b        the same, where nothing is left in it
 --   collected_all most l bs    the line after these bytes, one after the other
---   gathered most l bs         the line after the bytes of bs before the first CR, how many these are, and whether it
+--   gathered_from most l bs    the line after the bytes of bs before the first CR, how many these are, and whether it
 --                              came
 -- Assumes nothing.
 use Rattle.std.specs.Prelude.{ℕ, ◌+◌, true, false, length, take, set, if◌then◌else◌, nat_le, List}
@@ -36,14 +36,14 @@ collected_in left most l b =
     else if nat_le most l.held then record { overlong = true; held = 0; bytes = left l.bytes }
     else record { overlong = false; held = l.held + 1; bytes = set l.bytes l.held b }
 
-abbrev pub collected : ℕ → Line → ℕ → Line
-collected most l b = collected_in (λ (m : List ℕ). zeros line_room) most l b
+abbrev pub line_after : ℕ → Line → ℕ → Line
+line_after most l b = collected_in (λ (m : List ℕ). zeros line_room) most l b
 
 abbrev pub collected_all : ℕ → Line → List ℕ → Line
-collected_all most l bs = foldl (collected most) l bs
+collected_all most l bs = foldl (line_after most) l bs
 
 abbrev pub gathered_of : UpTo Line → Gathered
 gathered_of g = record { line = g.line; before = g.before; ended = g.ended }
 
-unfoldable pub gathered : ℕ → Line → List ℕ → Gathered
-gathered most l bs = gathered_of (up_to (code "\r") (collected most) l bs)
+unfoldable pub gathered_from : ℕ → Line → List ℕ → Gathered
+gathered_from most l bs = gathered_of (up_to (code "\r") (line_after most) l bs)

@@ -5,7 +5,7 @@ ghost use Rattle.std.specs.Prelude.{◌≡◌, ◌≤◌, length};
 ghost use Rattle.record.specs.Limits.{line_room};
 ghost use Rattle.record.specs.Legal.{held_most};
 ghost use Rattle.record.specs.Views.{phase_number};
-ghost use Rattle.stream.specs.Collecting.{collected_all, gathered};
+ghost use Rattle.stream.specs.Collecting.{collected_all, gathered_from};
 ghost use Rattle.stream.specs.Places.{index_of};
 
 use record::types::{LINE_ROOM, Line};
@@ -69,9 +69,9 @@ pub fn find(s: &[u8], b: u8) -> usize
 
 // The bytes up to the first CR, collected as the phase allows.
 pub fn gather(phase: Phase, l: &mut Line, bytes: &[u8]) -> Passed
-    ensures line { l.new ≡ (gathered (held_most (phase_number phase)) l.old bytes.now).line }
-    ensures before { result.before ≡ (gathered (held_most (phase_number phase)) l.old bytes.now).before }
-    ensures ended { result.ended ≡ (gathered (held_most (phase_number phase)) l.old bytes.now).ended }
+    ensures line { l.new ≡ (gathered_from (held_most (phase_number phase)) l.old bytes.now).line }
+    ensures before { result.before ≡ (gathered_from (held_most (phase_number phase)) l.old bytes.now).before }
+    ensures ended { result.ended ≡ (gathered_from (held_most (phase_number phase)) l.old bytes.now).ended }
 {
     let before = find(bytes, b'\r');
     collect(phase.held_most(), l, &bytes[0..before]);

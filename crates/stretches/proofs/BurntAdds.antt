@@ -11,7 +11,7 @@ use Rattle.clock.specs.Second.{marks_in}
 use Rattle.clock.proofs.ChangedWhere.{where_at, length-changed_where}
 use Rattle.ours.specs.Board.{ours}
 use Rattle.demands.specs.CountsSeconds.{Beginning, start_marks, begun_by, IsAccepted, history_of}
-use Rattle.demands.specs.History.{burning}
+use Rattle.demands.specs.History.{burning_seconds}
 use Rattle.watch.specs.Marking.{FloorEvent, done_by, seconds_by}
 use Rattle.watch.specs.Watching.{Watching, watching_from, is_burning_in, gained_by, watched_on, burnt_by}
 use Rattle.watch.proofs.LineLeaves.{done_settings}
@@ -78,7 +78,8 @@ module _ (b : Beginning) (w : Wanted) (h : IsAccepted ours b w) (k : ℕ) (insid
   begun = (begun_by ours b w).device
 
   pub burnt_told : k < begun.settings.lamp_count → k < lamps_most
-      → burnt_of k (watching_from begun) es ≡ burning w (start_marks b w) k (history_of ours b w (calls_of begun es))
+      → burnt_of k (watching_from begun) es
+      ≡ burning_seconds w (start_marks b w) k (history_of ours b w (calls_of begun es))
   burnt_told counted few =
       let none : ◌≡◌ {A = ℕ} (slice_index_or (replicate lamps_most 0) k 0) 0 = get_or-replicate lamps_most k 0 0 few in
       let long = length-replicate {A = ℕ} lamps_most 0 in

@@ -5,9 +5,10 @@ use Rattle.std.proofs.Common.{List, ◌++◌, arith, slice_index_or, replicate, 
 use Rattle.std.specs.Prelude.{if◌then◌else◌}
 use Rattle.record.specs.Wanted.{Wanted}
 use Rattle.demands.specs.History.{Event, switched, a_second}
-use Rattle.demands.specs.History.{Stage, next, stage_is_burning, reached, marks_after}
+use Rattle.demands.specs.History.{Stage, next_stage, stage_is_burning, stage_from, marks_after}
 use Rattle.stretches.specs.Stretches.{Stretch, stretch_if, is_lit_then, seconds_lit_from}
-use Rattle.stretches.proofs.Joined.{joined, since_none, joined-append, ends_here, cooling_dim, stage_is_burning-reached}
+use Rattle.stretches.proofs.Joined.{joined, since_none, joined-append, ends_here, cooling_dim}
+use Rattle.stretches.proofs.Joined.{stage_is_burning-stage_from}
 use Rattle.stretches.proofs.Joined.{seconds_lit_from-append}
 use Rattle.stretches.proofs.EventsSeen.{Seen, nothing, time, power, mark}
 
@@ -38,7 +39,7 @@ module _ (w : Wanted) (k : ℕ) where
   none g ms f t ys = unchanged g g ms f t (seconds_lit_from w g ms k ys) refl
 
   by_power : (g : Stage) (wanted : Bool) (ms : List Bool) (f t : ℕ) (ys : List Event) → f ≤ t
-      → let h = next w g (switched wanted) in
+      → let h = next_stage w g (switched wanted) in
       turned g h ms f t (seconds_lit_from w h ms k ys) ≡ joined (is_lit_then g ms k) f t (seconds_lit_from w h ms k ys)
   by_power g wanted ms f t ys h = grind (arith, le-ltb, since_none, one_is, ends_here, cooling_dim, none)
 
@@ -47,12 +48,12 @@ module _ (w : Wanted) (k : ℕ) where
   marks_stay (suc n) ms = marks_stay n ms
 
   pub by_seen : (g : Stage) (ms : List Bool) (n f t : ℕ) (xs ys : List Event) → f ≤ t → Seen g n xs
-      → let h = reached w g xs in
+      → let h = stage_from w g xs in
       let ns = marks_after ms xs in
       turned g h ns f (t + n) (seconds_lit_from w h ns k ys)
       ≡ joined (is_lit_then g ms k) f t (seconds_lit_from w g ms k (xs ++ ys))
   by_seen g ms n f t xs ys le (nothing e) = grind arith
   by_seen g ms n f t xs ys le time =
-      grind (arith, stage_is_burning-reached, marks_stay, unchanged, joined-append, joined, seconds_lit_from-append)
+      grind (arith, stage_is_burning-stage_from, marks_stay, unchanged, joined-append, joined, seconds_lit_from-append)
   by_seen g ms n f t xs ys le (power wanted e) = grind (arith, by_power)
   by_seen g ms n f t xs ys le (mark lamp to off e) = grind arith

@@ -18,7 +18,7 @@ use Rattle.record.specs.Given.{Given}
 use Rattle.record.specs.declared.types.Device.{Device}
 use Rattle.record.proofs.Calls.{mark_set_by}
 use Rattle.clock.proofs.Cases.{passed_accepted}
-use Rattle.device.specs.Calls.{Result, reply_room, received, opened_by}
+use Rattle.device.specs.Calls.{Result, reply_room, received_at, opened_by}
 use Rattle.floorlog.specs.Events.{opens, receives, passes, closes, no_such}
 use Rattle.floorlog.specs.Doing.{log_place}
 use Rattle.floorlog.proofs.LogOpenings.{log_opened_again, log_opened_closed}
@@ -96,7 +96,7 @@ module _ (w : Wanted) (g : Stage) (ms : List Bool) (n : ℕ → ℕ) (stream : S
             (done_opening d r ∙ ap (λ (q : Result Device). q.device) (log_opened_again d r legal e)) refl
     event_seen (logged (receives bs)) =
         one_call (logged (receives bs)) (receivesAt log_place bs room_lent) refl
-        (ap (λ (n : ℕ). (received d log_place bs n).device) lent_long ∙ sym (done_receiving d bs))
+        (ap (λ (n : ℕ). (received_at d log_place bs n).device) lent_long ∙ sym (done_receiving d bs))
         (if_all (Seen g 0) _ (one_or_none (Seen g 0) _ _ (nothing refl) (λ wanted. power wanted refl)) (nothing refl))
     event_seen (logged (passes k)) =
         one_call (logged (passes k)) (passesBy k) refl (sym (done_passing d k))

@@ -4,7 +4,7 @@ use Rattle.std.proofs.Common.{ℕ, suc, ◌+◌, ◌-◌, ◌≤◌, ◌≡◌, 
 use Rattle.std.proofs.Common.{arith}
 use Rattle.std.specs.Prelude.{if◌then◌else◌}
 use Rattle.record.specs.Wanted.{Wanted}
-use Rattle.demands.specs.History.{marks_next, Event, Stage, next}
+use Rattle.demands.specs.History.{marks_next, Event, Stage, next_stage}
 use Rattle.demands.specs.History.{burning_from}
 use Rattle.demands.specs.CountsSeconds.{count_set}
 use Rattle.stretches.specs.Stretches.{Stretch, stretches_from, stretches_of, lengths_of, seconds_lit_from}
@@ -26,4 +26,4 @@ lengths_lit ls = lengths_of-stretches_from ls false 0 0 (omega arith) ∙ omega 
 pub lit_burns : (w : Wanted) (g : Stage) (ms : List Bool) (k : ℕ) (es : List Event)
     → count_set (seconds_lit_from w g ms k es) ≡ burning_from w g ms k es
 lit_burns w g ms k [] = refl
-lit_burns w g ms k (e ∷ es) = grind (arith, lit_burns w (next w g e) (marks_next ms e) k es)
+lit_burns w g ms k (e ∷ es) = grind (arith, lit_burns w (next_stage w g e) (marks_next ms e) k es)

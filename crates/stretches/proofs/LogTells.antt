@@ -12,7 +12,7 @@ use Rattle.stored.proofs.Results.{accepted_legal}
 use Rattle.ours.specs.Board.{ours}
 use Rattle.demands.specs.History.{Event, Streams}
 use Rattle.demands.specs.History.{history}
-use Rattle.demands.specs.History.{Stage, stage_is_burning, reached, marks_after}
+use Rattle.demands.specs.History.{Stage, stage_is_burning, stage_from, marks_after}
 use Rattle.demands.specs.CountsSeconds.{Beginning, start_marks, begun_by}
 use Rattle.demands.specs.CountsSeconds.{IsAccepted}
 use Rattle.demands.specs.CountsSeconds.{history_of}
@@ -45,8 +45,8 @@ module _ (w : Wanted) (k : ℕ) (inside : k < length w.lamps) where
       stretch_if (is_burning_in s.device && not (is_burning_in t.device) && is_marked_in t.device k
       && nat_lt t.from t.time)
       t.from t.time
-      ++ joined (is_lit_then (reached w g xs) (marks_after ms xs) k) t.from t.time
-      (seconds_lit_from w (reached w g xs) (marks_after ms xs) k ys)
+      ++ joined (is_lit_then (stage_from w g xs) (marks_after ms xs) k) t.from t.time
+      (seconds_lit_from w (stage_from w g xs) (marks_after ms xs) k ys)
       ≡ joined (is_lit_then g ms k) s.from s.time (seconds_lit_from w g ms k (xs ++ ys))
   event_told s e {g} {ms} xs ys before past sort le = grind (arith, burning_known, joined, by_seen)
 

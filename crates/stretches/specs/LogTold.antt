@@ -21,7 +21,7 @@ use Rattle.ours.specs.Board.{ours}
 use Rattle.demands.specs.Calls.{Call, opens as opens_at, receives as receivesAt, passes as passesBy}
 use Rattle.demands.specs.Calls.{closes as closes_at, enables}
 use Rattle.demands.specs.CountsSeconds.{Beginning, IsAccepted, start_marks, begun_by, history_of}
-use Rattle.demands.specs.History.{Event, burning, lamp_with}
+use Rattle.demands.specs.History.{Event, burning_seconds, lamp_with}
 use Rattle.watch.specs.Marking.{FloorEvent, logged, marked, done_by}
 use Rattle.watch.specs.Watching.{Watching, watching_from}
 use Rattle.watch.specs.Telling.{floor_events, Telling, tellings, after_log, burnt_after}
@@ -69,11 +69,11 @@ pub record LogWatched (b : Beginning) (w : Wanted) (log : List ℕ) : Type 0 whe
   -- the seconds that it burnt
   pub burnt : (k : ℕ) → k < length w.lamps
       → burnt_of k (watching_from (begun_by ours b w).device) (floor_events log)
-      ≡ burning w (start_marks b w) k (log_history b w log)
+      ≡ burning_seconds w (start_marks b w) k (log_history b w log)
   -- and what it has now
   pub lamps : (k : ℕ) → k < length w.lamps
       → slice_index_or (after_log (watching_from (begun_by ours b w).device) (floor_events log)).device.own.lamps k 0
-      ≡ lamp_with (burning w (start_marks b w) k (log_history b w log)) (slice_index_or w.lamps k 0)
+      ≡ lamp_with (burning_seconds w (start_marks b w) k (log_history b w log)) (slice_index_or w.lamps k 0)
 
 abbrev pub LogsWatched : Type 0
 LogsWatched = (b : Beginning) (w : Wanted) → IsAccepted ours b w → (log : List ℕ) → LogWatched b w log

@@ -15,11 +15,12 @@ use Rattle.std.specs.Prelude.{ℕ, suc, ◌+◌, ◌-◌, ◌≤◌, ◌<◌, �
 use Rattle.std.specs.Prelude.{List, [], ◌∷◌, ◌++◌}
 use Rattle.std.specs.Prelude.{if◌then◌else◌, nat_le, nat_lt, ◌==◌, slice_index_or}
 use Rattle.record.specs.Wanted.{Wanted}
-use Rattle.demands.specs.History.{Event, switched, a_second, mark_switched, Stage, steady, next, marks_next, burns}
-use Rattle.demands.specs.History.{burning}
+use Rattle.demands.specs.History.{Event, switched, a_second, mark_switched, Stage, steady, next_stage, marks_next}
+use Rattle.demands.specs.History.{burnt_in}
+use Rattle.demands.specs.History.{burning_seconds}
 
 abbrev pub is_lit_then : Stage → List Bool → ℕ → Bool
-is_lit_then g ms k = burns g ms k a_second == 1
+is_lit_then g ms k = burnt_in g ms k a_second == 1
 
 abbrev pub second_lit : Stage → List Bool → ℕ → Event → List Bool
 second_lit g ms k a_second = is_lit_then g ms k ∷ []
@@ -28,7 +29,7 @@ second_lit g ms k (mark_switched lamp mark) = []
 
 abbrev pub seconds_lit_from : Wanted → Stage → List Bool → ℕ → List Event → List Bool
 seconds_lit_from w g ms k [] = []
-seconds_lit_from w g ms k (e ∷ es) = second_lit g ms k e ++ seconds_lit_from w (next w g e) (marks_next ms e) k es
+seconds_lit_from w g ms k (e ∷ es) = second_lit g ms k e ++ seconds_lit_from w (next_stage w g e) (marks_next ms e) k es
 
 abbrev pub seconds_lit : Wanted → List Bool → ℕ → List Event → List Bool
 seconds_lit w ms k es = seconds_lit_from w (steady false) ms k es
@@ -67,4 +68,4 @@ pub record StretchesTell (w : Wanted) (ms : List Bool) (k : ℕ) (es : List Even
   -- in order, apart, none empty
   pub apart : InOrder 0 ss
   -- what the lamp burnt by demand 3
-  pub adds_up : lengths_of ss ≡ burning w ms k es
+  pub adds_up : lengths_of ss ≡ burning_seconds w ms k es

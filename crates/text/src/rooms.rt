@@ -2,7 +2,7 @@
 // (RULES, The legal record, "Unused room").
 ghost use Rattle.std.specs.Prelude.{◌≡◌, ◌==◌, ◌≤◌, Bool, not, length, option_map};
 ghost use Rattle.std.specs.List.{list_all};
-ghost use Rattle.text.specs.Rooms.{used, kept};
+ghost use Rattle.text.specs.Rooms.{used_part, filled_room};
 
 /// What stands at a place that is not used: zero, of whatever type.
 pub trait Blank {
@@ -51,7 +51,7 @@ pub fn are_blank<T: Blank>(places: &[T]) -> bool
 /// What is used of a room, `n` items of it: none where it has no such room, or where what is unused is not blank.
 #[tactic(auto, using(crate::proofs::RoomsTold::used_by_tests))]
 pub fn used<T: Blank, const N: usize>(room: &[T; N], n: usize) -> Option<&[T]>
-    ensures { option_map (λ s. s.now) result ≡ used T.blank N room.now n }
+    ensures { option_map (λ s. s.now) result ≡ used_part T.blank N room.now n }
 {
     if N < n {
         return None;
@@ -68,7 +68,7 @@ pub fn used<T: Blank, const N: usize>(room: &[T; N], n: usize) -> Option<&[T]>
 #[tactic(auto, using(crate::proofs::RoomsTold::rest_kept))]
 pub fn kept<T: Copy, const N: usize>(items: &[T], blank: T) -> [T; N]
     requires { length items.now ≤ N }
-    ensures { result ≡ kept blank N items.now }
+    ensures { result ≡ filled_room blank N items.now }
 {
     let mut room = [blank; N];
     room[..items.len()].copy_from_slice(items);

@@ -4,11 +4,11 @@ use Rattle.std.proofs.Common.{ℕ, ◌≡◌, refl, ap, Bool, List}
 use Rattle.record.specs.Given.{left_by}
 use Rattle.record.specs.HostCalls.{mark_set}
 use Rattle.record.specs.declared.types.Device.{Device}
-use Rattle.clock.specs.Passing.{passed}
-use Rattle.device.specs.Calls.{Result, reply_room, received, closed_by}
+use Rattle.clock.specs.Passing.{time_passed}
+use Rattle.device.specs.Calls.{Result, reply_room, received_at, closed_by}
 use Rattle.floorlog.specs.Events.{opens, receives, passes, closes, no_such}
 use Rattle.floorlog.specs.Doing.{log_place, opened_in_log}
-use Rattle.floorlog.proofs.DidSpelt.{did_opening, did-receives, did_passing, did_closing, did_nothing}
+use Rattle.floorlog.proofs.DidSpelt.{did_opening, event_result-receives, did_passing, did_closing, did_nothing}
 use Rattle.watch.specs.Marking.{logged, marked, done_by}
 
 module _ (d : Device) where
@@ -16,11 +16,11 @@ module _ (d : Device) where
   unfolding done_by
   done_opening r = ap (λ (q : Result Device). q.device) (did_opening d r)
 
-  pub done_receiving : (bs : List ℕ) → done_by d (logged (receives bs)) ≡ (received d log_place bs reply_room).device
+  pub done_receiving : (bs : List ℕ) → done_by d (logged (receives bs)) ≡ (received_at d log_place bs reply_room).device
   unfolding done_by
-  done_receiving bs = ap (λ (q : Result Device). q.device) (did-receives d bs)
+  done_receiving bs = ap (λ (q : Result Device). q.device) (event_result-receives d bs)
 
-  pub done_passing : (n : ℕ) → done_by d (logged (passes n)) ≡ (left_by d (passed d n))
+  pub done_passing : (n : ℕ) → done_by d (logged (passes n)) ≡ (left_by d (time_passed d n))
   unfolding done_by
   done_passing n = ap (λ (q : Result Device). q.device) (did_passing d n)
 

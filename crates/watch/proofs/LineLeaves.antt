@@ -11,7 +11,7 @@ use Rattle.clock.specs.Passing.{seconds_most}
 use Rattle.floorlog.specs.Doing.{log_place}
 use Rattle.floorlog.specs.Told.{Drives}
 use Rattle.floorlog.proofs.Driven.{none_pass, itself_kept, did_drives}
-use Rattle.floorlog.proofs.EventsLeave.{did-settings, did_legality}
+use Rattle.floorlog.proofs.EventsLeave.{event_result-settings, did_legality}
 use Rattle.floorlog.proofs.EventSeconds.{event_seconds}
 use Rattle.watch.specs.Marking.{FloorEvent, logged, marked, done_by, seconds_by}
 use Rattle.watch.specs.Marking.{floor_event}
@@ -19,7 +19,7 @@ use Rattle.watch.specs.Marking.{floor_event}
 module _ (d : Device) where
   pub done_settings : (e : FloorEvent) → (done_by d e).settings ≡ d.settings
   unfolding done_by
-  done_settings (logged e) = did-settings d e
+  done_settings (logged e) = event_result-settings d e
   done_settings (marked lamp mark) =
       mark_set_by d (λ (r : Given Device). r.device.settings ≡ d.settings) lamp mark (λ n z. refl) (λ h i l p. refl)
 

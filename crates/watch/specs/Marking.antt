@@ -16,7 +16,7 @@ use Rattle.record.specs.Given.{left_by}
 use Rattle.record.specs.HostCalls.{mark_set}
 use Rattle.record.specs.declared.types.Device.{Device}
 use Rattle.floorlog.specs.Events.{LogEvent, event}
-use Rattle.floorlog.specs.Doing.{did}
+use Rattle.floorlog.specs.Doing.{event_result}
 use Rattle.floorlog.specs.Told.{seconds_of}
 use Rattle.watch.specs.declared.marking.MarkSaid.{MarkSaid}
 use Rattle.watch.specs.declared.marking.MarkSaid.TheVariants.{Sets, NoMark}
@@ -41,7 +41,7 @@ unfoldable pub floor_event : List ℕ → FloorEvent
 floor_event l = event_by (mark_said l) (event l)
 
 unfoldable pub done_by : Device → FloorEvent → Device
-done_by d (logged e) = (did d e).device
+done_by d (logged e) = (event_result d e).device
 done_by d (marked lamp mark) = (left_by d (mark_set d lamp mark))
 
 abbrev pub seconds_by : FloorEvent → ℕ

@@ -6,7 +6,7 @@ use Rattle.std.proofs.Common.{ℕ, ◌≡◌, ◌≤◌, true, List, length, ref
 use Rattle.std.specs.Prelude.{Option, Some, None, not, ◌&&◌}
 use Prim.Native.Char.{code}
 use Rattle.text.proofs.Choices.{both_right}
-use Rattle.words.specs.Codec.{whole}
+use Rattle.words.specs.Codec.{whole_value}
 use Rattle.words.specs.Combinations.{whole_says}
 use Rattle.words.specs.Laws.{refusal_codec}
 use Rattle.words.specs.Refusing.{refusal_text, refusal_read}
@@ -20,26 +20,26 @@ refusal_long s r = grind arith
 none_by : {A : Type 0} (o : Option A) → ((x : A) → o ≡ Some x → ⊥) → o ≡ None
 none_by o h = grind arith
 
-pub refusal_is : (p : List ℕ) (r : Refusal) → whole refusal_read p ≡ Some r → p ≡ refusal_text r
+pub refusal_is : (p : List ℕ) (r : Refusal) → whole_value refusal_read p ≡ Some r → p ≡ refusal_text r
 refusal_is p r e = ((whole_says refusal_codec).sound p r e).1
 
-pub whole-refusal_text : (r : Refusal) → whole refusal_read (refusal_text r) ≡ Some r
-whole-refusal_text r = (whole_says refusal_codec).back r (refusal_text r) (refl, refl)
+pub whole_value-refusal_text : (r : Refusal) → whole_value refusal_read (refusal_text r) ≡ Some r
+whole_value-refusal_text r = (whole_says refusal_codec).back r (refusal_text r) (refl, refl)
 
-pub not_four : (p : List ℕ) → (length p ≡ 4 → ⊥) → whole refusal_read p ≡ None
-not_four p h = none_by (whole refusal_read p) (λ r e. h (ap length (refusal_is p r e)))
+pub not_four : (p : List ℕ) → (length p ≡ 4 → ⊥) → whole_value refusal_read p ≡ None
+not_four p h = none_by (whole_value refusal_read p) (λ r e. h (ap length (refusal_is p r e)))
 
-pub digit_first : (p : List ℕ) → slice_index_or p 0 0 ≤ code "9" → whole refusal_read p ≡ None
+pub digit_first : (p : List ℕ) → slice_index_or p 0 0 ≤ code "9" → whole_value refusal_read p ≡ None
 digit_first p h = grind arith
 
 is_refusal-refusal_text : (r : Refusal) → is_refusal (refusal_text r) ≡ true
 unfolding is_refusal
 is_refusal-refusal_text r = grind arith
 
-pub text_no_refusal : (n : ℕ) (s : List ℕ) → is_text n s ≡ true → whole refusal_read s ≡ None
+pub text_no_refusal : (n : ℕ) (s : List ℕ) → is_text n s ≡ true → whole_value refusal_read s ≡ None
 unfolding is_text
 text_no_refusal n s h =
-    none_by (whole refusal_read s) (λ r e.
+    none_by (whole_value refusal_read s) (λ r e.
     let no = both_right (nat_le (length s) n && list_all is_text_byte s) (not (is_refusal s)) h in
     let yes : is_refusal s ≡ true = ap is_refusal (refusal_is s r e) ∙ is_refusal-refusal_text r in
     cc (sym no ∙ ap not yes))

@@ -4,7 +4,7 @@
 -- Assumes nothing.
 use Rattle.std.specs.Prelude.{ℕ, ◌+◌, List, [], ◌∷◌, Option}
 use Prim.Native.Char.{code}
-use Rattle.words.specs.Codec.{named, letter}
+use Rattle.words.specs.Codec.{first_named, letter}
 use Rattle.words.specs.declared.class.ClassNumber.{ClassNumber}
 use Rattle.words.specs.declared.class.ClassNumber.TheVariants.{One, Two}
 
@@ -22,7 +22,7 @@ abbrev pub class_text : ClassNumber → List ℕ
 class_text k = class_code k ∷ []
 
 abbrev pub class_named : ℕ → Option ClassNumber
-class_named b = named class_code classes b
+class_named b = first_named class_code classes b
 
 abbrev pub class_read : List ℕ → Option (ClassNumber × List ℕ)
 class_read s = letter class_named s

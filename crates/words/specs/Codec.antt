@@ -1,19 +1,19 @@
 -- Values on a line, read from the front of bytes: a value, and the bytes after it (RULES, Commands and Controller).
 --   f >>= g            g of what f gives, where it gives something
---   named code xs b    the first of xs whose code is the byte b
+--   first_named code xs b  the first of xs whose code is the byte b
 --   letter f           a value of one byte
---   behind t s         what follows the bytes t, where s begins with them
---   spelled text xs    the first of xs by whose text the bytes begin
---   past c read        the byte c, and then a value
+--   strip_prefix t s   what follows the bytes t, where s begins with them
+--   first_spelled text xs  the first of xs by whose text the bytes begin
+--   preceded_by c read  the byte c, and then a value
 --   pair_of mk f g     two values, one after the other, as one
---   counted n f        n values, one after the other
---   whole read s       the value that all of s says
+--   values_in n f      n values, one after the other
+--   whole_value read s  the value that all of s says
 --   Ends s             where a word may end: no byte follows, or a space
 --   Plain legal text x t    t says the legal x as our own side says it, and in no other way
 --   Codec E legal text writes read     a legal value's own text says it, and no other value is said; what says a
 --                      value is read as it, where E holds of what follows; what is read says the value
 --   WholeCodec legal text writes read  the same of all of a parameter
---   taken r            what a reader of the code returned, apart from where the rest lies
+--   taken_value r      what a reader of the code returned, apart from where the rest lies
 -- Assumes nothing.
 use Rattle.std.specs.Prelude.{ℕ, zero, suc, ◌≡◌, Bool, true, List, [], ◌∷◌, ◌++◌, if◌then◌else◌}
 use Rattle.std.specs.Prelude.{Option, Some, None, ◌==◌}
@@ -27,26 +27,26 @@ abbrev pub ◌>>=◌ : {A B : Type 0} → Option A → (A → Option B) → Opti
 None >>= f = None
 (Some x) >>= f = f x
 
-abbrev pub named : {A : Type 0} → (A → ℕ) → List A → ℕ → Option A
-named of [] b = None
-named of (x ∷ xs) b = if b == (of x) then Some x else named of xs b
+abbrev pub first_named : {A : Type 0} → (A → ℕ) → List A → ℕ → Option A
+first_named of [] b = None
+first_named of (x ∷ xs) b = if b == (of x) then Some x else first_named of xs b
 
 abbrev pub letter : {A : Type 0} → (ℕ → Option A) → List ℕ → Option (A × List ℕ)
 letter f [] = None
 letter f (b ∷ s) = f b >>= λ x. Some (x, s)
 
-abbrev pub behind : List ℕ → List ℕ → Option (List ℕ)
-behind [] s = Some s
-behind (c ∷ t) [] = None
-behind (c ∷ t) (b ∷ s) = if b == c then behind t s else None
+abbrev pub strip_prefix : List ℕ → List ℕ → Option (List ℕ)
+strip_prefix [] s = Some s
+strip_prefix (c ∷ t) [] = None
+strip_prefix (c ∷ t) (b ∷ s) = if b == c then strip_prefix t s else None
 
-abbrev pub spelled : {A : Type 0} → (A → List ℕ) → List A → List ℕ → Option (A × List ℕ)
-spelled text [] s = None
-spelled text (x ∷ xs) s = option_or (behind (text x) s >>= λ rest. Some (x, rest)) (spelled text xs s)
+abbrev pub first_spelled : {A : Type 0} → (A → List ℕ) → List A → List ℕ → Option (A × List ℕ)
+first_spelled text [] s = None
+first_spelled text (x ∷ xs) s = option_or (strip_prefix (text x) s >>= λ rest. Some (x, rest)) (first_spelled text xs s)
 
-abbrev pub past : {A : Type 0} → Char → (List ℕ → Option (A × List ℕ)) → List ℕ → Option (A × List ℕ)
-past c read [] = None
-past c read (b ∷ s) = if b is c then read s else None
+abbrev pub preceded_by : {A : Type 0} → Char → (List ℕ → Option (A × List ℕ)) → List ℕ → Option (A × List ℕ)
+preceded_by c read [] = None
+preceded_by c read (b ∷ s) = if b is c then read s else None
 
 abbrev pub pair_of : {A B C : Type 0} → (A → B → C) → (List ℕ → Option (A × List ℕ))
     → (List ℕ → Option (B × List ℕ))
@@ -54,16 +54,16 @@ abbrev pub pair_of : {A B C : Type 0} → (A → B → C) → (List ℕ → Opti
     → Option (C × List ℕ)
 pair_of mk f g s = f s >>= λ x. g x.1 >>= λ y. Some (mk x.0 y.0, y.1)
 
-abbrev pub counted : {A : Type 0} → ℕ → (List ℕ → Option (A × List ℕ)) → List ℕ → Option (List A × List ℕ)
-counted zero f s = Some ([], s)
-counted (suc n) f s = f s >>= λ x. counted n f x.1 >>= λ xs. Some (x.0 ∷ xs.0, xs.1)
+abbrev pub values_in : {A : Type 0} → ℕ → (List ℕ → Option (A × List ℕ)) → List ℕ → Option (List A × List ℕ)
+values_in zero f s = Some ([], s)
+values_in (suc n) f s = f s >>= λ x. values_in n f x.1 >>= λ xs. Some (x.0 ∷ xs.0, xs.1)
 
-abbrev pub ended : {A : Type 0} → A → List ℕ → Option A
-ended x [] = Some x
-ended x (b ∷ s) = None
+abbrev pub value_at_end : {A : Type 0} → A → List ℕ → Option A
+value_at_end x [] = Some x
+value_at_end x (b ∷ s) = None
 
-abbrev pub whole : {A : Type 0} → (List ℕ → Option (A × List ℕ)) → List ℕ → Option A
-whole read s = read s >>= λ r. ended r.0 r.1
+abbrev pub whole_value : {A : Type 0} → (List ℕ → Option (A × List ℕ)) → List ℕ → Option A
+whole_value read s = read s >>= λ r. value_at_end r.0 r.1
 
 abbrev pub Ends : List ℕ → Type 0
 Ends [] = Unit {0}
@@ -96,6 +96,6 @@ pub record WholeCodec
   pub back : (x : A) (s : List ℕ) → writes x s → read s ≡ Some x
   pub sound : (s : List ℕ) (x : A) → read s ≡ Some x → writes x s
 
-abbrev pub taken : {A : Type 0} → Option (A × Bor (List ℕ)) → Option (A × List ℕ)
-taken None = None
-taken (Some x) = Some (x.0, x.1.now)
+abbrev pub taken_value : {A : Type 0} → Option (A × Bor (List ℕ)) → Option (A × List ℕ)
+taken_value None = None
+taken_value (Some x) = Some (x.0, x.1.now)

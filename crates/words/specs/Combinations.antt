@@ -13,9 +13,10 @@ use Rattle.std.proofs.lemmas.Option.{same_Some, some_pair_parts}
 use Prim.Native.Char.{Char, code}
 use Rattle.text.specs.Words.{◌is◌}
 use Rattle.text.proofs.Choices.{if_yes, both, both_left, both_right}
-use Rattle.words.specs.Codec.{Codec, WholeCodec, Plain, Ends, named, letter, behind, spelled, past, pair_of}
-use Rattle.words.specs.Codec.{counted, whole, ended, ◌>>=◌}
-use Rattle.words.specs.Joined.{list_text, JoinedBy, following, list_read, is_list, WritesList}
+use Rattle.words.specs.Codec.{Codec, WholeCodec, Plain, Ends, first_named, letter, strip_prefix, first_spelled}
+use Rattle.words.specs.Codec.{preceded_by, pair_of}
+use Rattle.words.specs.Codec.{values_in, whole_value, value_at_end, ◌>>=◌}
+use Rattle.words.specs.Joined.{list_text, JoinedBy, list_behind, list_read, is_list, WritesList}
 
 pub bind_some : {A B : Type 0} (o : Option A) (f : A → Option B) {y : B} → (o >>= f) ≡ Some y
     → (x : A) × (o ≡ Some x) × (f x ≡ Some y)
@@ -59,10 +60,10 @@ module _
 
     -- n of them
     abbrev counted_next : ℕ → Option (A × List ℕ) → Option (List A × List ℕ)
-    counted_next n o = o >>= λ r. counted n (letter f) r.1 >>= λ q. Some (r.0 ∷ q.0, q.1)
+    counted_next n o = o >>= λ r. values_in n (letter f) r.1 >>= λ q. Some (r.0 ∷ q.0, q.1)
 
     counted_back : (xs : List A) (rest : List ℕ) → list_all legal xs ≡ true
-        → counted (length xs) (letter f) (map of xs ++ rest) ≡ Some (xs, rest)
+        → values_in (length xs) (letter f) (map of xs ++ rest) ≡ Some (xs, rest)
     counted_back [] rest h = refl
     counted_back (x ∷ xs) rest h =
         ap (λ o. counted_next (length xs) (o >>= λ y. Some (y, map of xs ++ rest)))
@@ -70,14 +71,14 @@ module _
         ∙ ap (λ o. o >>= λ q. Some (x ∷ q.0, q.1)) (counted_back xs rest (both_right (legal x) (list_all legal xs) h))
 
     counted_sound : (n : ℕ) (s : List ℕ) (xs : List A) (rest : List ℕ)
-        → counted n (letter f) s ≡ Some (xs, rest)
+        → values_in n (letter f) s ≡ Some (xs, rest)
         → (length xs ≡ n) × (list_all legal xs ≡ true) × (s ≡ map of xs ++ rest)
     counted_sound zero s xs rest e =
         let q = some_pair_parts [] xs s rest e in
         (sym (ap length q.0), sym (ap (list_all legal) q.0), q.1 ∙ ap (λ xs. map of xs ++ rest) q.0)
     counted_sound (suc n) s xs rest e =
-        let (r, p, m) = bind_some (letter f s) (λ r. counted n (letter f) r.1 >>= λ q. Some (r.0 ∷ q.0, q.1)) e in
-        let (q, l, k) = bind_some (counted n (letter f) r.1) (λ q. Some (r.0 ∷ q.0, q.1)) m in
+        let (r, p, m) = bind_some (letter f s) (λ r. values_in n (letter f) r.1 >>= λ q. Some (r.0 ∷ q.0, q.1)) e in
+        let (q, l, k) = bind_some (values_in n (letter f) r.1) (λ q. Some (r.0 ∷ q.0, q.1)) m in
         let (t, w, g) = letter_sound s r.0 r.1 p in
         let i = counted_sound n r.1 q.0 q.1 l in
         let j = some_pair_parts (r.0 ∷ q.0) xs q.1 rest k in (
@@ -91,13 +92,13 @@ module _
 
     pub counted_codec : {E : List ℕ → Type 0} (n : ℕ)
         → Codec E (λ xs. length xs == n && list_all legal xs) (map of)
-        (Plain (λ xs. length xs == n && list_all legal xs) (map of)) (counted n (letter f))
+        (Plain (λ xs. length xs == n && list_all legal xs) (map of)) (values_in n (letter f))
     counted_codec n = record {
       own = λ xs h. (h, refl);
       told = λ xs t w. w.0;
       back = λ xs t rest w h.
-          ap (λ t. counted n (letter f) (t ++ rest)) w.1
-          ∙ ap (λ k. counted k (letter f) (map of xs ++ rest))
+          ap (λ t. values_in n (letter f) (t ++ rest)) w.1
+          ∙ ap (λ k. values_in k (letter f) (map of xs ++ rest))
           (sym (eqb-true (length xs) n (both_left (length xs == n) (list_all legal xs) w.0)))
           ∙ counted_back xs rest (both_right (length xs == n) (list_all legal xs) w.0);
       sound = λ s xs rest e.
@@ -106,16 +107,16 @@ module _
     }
 
 -- what a byte names has that byte
-named_is : {A : Type 0} (of : A → ℕ) (xs : List A) (b : ℕ) (x : A) → named of xs b ≡ Some x → b ≡ of x
+named_is : {A : Type 0} (of : A → ℕ) (xs : List A) (b : ℕ) (x : A) → first_named of xs b ≡ Some x → b ≡ of x
 named_is of [] b x e = cc
 named_is of (y ∷ ys) b x e = grind (arith, nat_tests, named_is of ys b x)
 
 -- a finite type, each value by a byte of its own
 pub named_codec : {A : Type 0} {E : List ℕ → Type 0} (of : A → ℕ) (xs : List A)
-    → ((x : A) → named of xs (of x) ≡ Some x)
-    → Codec E (λ _. true) (λ x. of x ∷ []) (Plain (λ _. true) (λ x. of x ∷ [])) (letter (named of xs))
+    → ((x : A) → first_named of xs (of x) ≡ Some x)
+    → Codec E (λ _. true) (λ x. of x ∷ []) (Plain (λ _. true) (λ x. of x ∷ [])) (letter (first_named of xs))
 named_codec of xs each =
-    letter_codec (λ _. true) of (named of xs) (λ x h. each x) (λ b x e. (refl, named_is of xs b x e))
+    letter_codec (λ _. true) of (first_named of xs) (λ x h. each x) (λ b x e. (refl, named_is of xs b x e))
 
 -- two values, one after the other, are one
 module _
@@ -163,13 +164,13 @@ module _
     behind_it x = code c ∷ text x
 
     past_back : (x : A) (t rest : List ℕ) → Plain legal behind_it x t → E rest
-        → past c read (t ++ rest) ≡ Some (x, rest)
+        → preceded_by c read (t ++ rest) ≡ Some (x, rest)
     past_back x t rest w h =
-        ap (λ s. past c read (s ++ rest)) w.1
+        ap (λ s. preceded_by c read (s ++ rest)) w.1
         ∙ if_yes (read (text x ++ rest)) None (eq-eqb (code c) (code c) refl)
         ∙ it.back x (text x) rest (w.0, refl) h
 
-    past_sound : (s : List ℕ) (x : A) (rest : List ℕ) → past c read s ≡ Some (x, rest)
+    past_sound : (s : List ℕ) (x : A) (rest : List ℕ) → preceded_by c read s ≡ Some (x, rest)
         → (t : List ℕ) × Plain legal behind_it x t × (s ≡ t ++ rest)
     past_sound [] x rest e = cc
     past_sound (b ∷ s) x rest e =
@@ -177,14 +178,14 @@ module _
         let (t, w, f) = it.sound s x rest o in
         (code c ∷ text x, (w.0, refl), cc (eqb-true b (code c) y))
 
-    pub past_codec : Codec E legal behind_it (Plain legal behind_it) (past c read)
+    pub past_codec : Codec E legal behind_it (Plain legal behind_it) (preceded_by c read)
     past_codec = record { own = λ x h. (h, refl); told = λ x t w. w.0; back = past_back; sound = past_sound }
 
-behind_is : (t s : List ℕ) {rest : List ℕ} → behind t s ≡ Some rest → s ≡ t ++ rest
+behind_is : (t s : List ℕ) {rest : List ℕ} → strip_prefix t s ≡ Some rest → s ≡ t ++ rest
 behind_is [] s e = same_Some _ _ e
 behind_is (c ∷ t) [] e = cc
 behind_is (c ∷ t) (b ∷ s) e =
-    let (h, f) = cond_is (b == c) (behind t s) e in
+    let (h, f) = cond_is (b == c) (strip_prefix t s) e in
     ap (λ b. b ∷ s) (eqb-true b c h) ∙ ap (λ s. c ∷ s) (behind_is t s f)
 
 or_else : {A : Type 0} (o p : Option A) {x : A} → option_or o p ≡ Some x → (o ≡ Some x) ⊎ (p ≡ Some x)
@@ -193,25 +194,25 @@ or_else (Some y) p e = inl e
 
 -- a finite type, each value by a text of its own
 module _ {A : Type 0} (text : A → List ℕ) where
-  spelled_sound : (xs : List A) (s : List ℕ) (x : A) (rest : List ℕ) → spelled text xs s ≡ Some (x, rest)
+  spelled_sound : (xs : List A) (s : List ℕ) (x : A) (rest : List ℕ) → first_spelled text xs s ≡ Some (x, rest)
       → s ≡ text x ++ rest
   spelled_sound [] s x rest e = cc
   spelled_sound (y ∷ ys) s x rest e =
-      elim (or_else (behind (text y) s >>= λ rest. Some (y, rest)) (spelled text ys s) e) [
+      elim (or_else (strip_prefix (text y) s >>= λ rest. Some (y, rest)) (first_spelled text ys s) e) [
         | inl f ↦
-            let (r, h, k) = bind_some (behind (text y) s) (λ rest. Some (y, rest)) f in
+            let (r, h, k) = bind_some (strip_prefix (text y) s) (λ rest. Some (y, rest)) f in
             let q = some_pair_parts y x r rest k in
             behind_is (text y) s h ∙ ap (λ r. text y ++ r) q.1 ∙ ap (λ y. text y ++ rest) q.0
         | inr f ↦ spelled_sound ys s x rest f
       ]
 
   pub spelled_codec : {E : List ℕ → Type 0} (xs : List A)
-      → ((x : A) (rest : List ℕ) → spelled text xs (text x ++ rest) ≡ Some (x, rest))
-      → Codec E (λ _. true) text (Plain (λ _. true) text) (spelled text xs)
+      → ((x : A) (rest : List ℕ) → first_spelled text xs (text x ++ rest) ≡ Some (x, rest))
+      → Codec E (λ _. true) text (Plain (λ _. true) text) (first_spelled text xs)
   spelled_codec xs each = record {
     own = λ x h. (refl, refl);
     told = λ x t w. refl;
-    back = λ x t rest w h. ap (λ t. spelled text xs (t ++ rest)) w.1 ∙ each x rest;
+    back = λ x t rest w h. ap (λ t. first_spelled text xs (t ++ rest)) w.1 ∙ each x rest;
     sound = λ s x rest e. (text x, (refl, refl), spelled_sound xs s x rest e);
   }
 
@@ -224,23 +225,24 @@ module _
     {read : List ℕ → Option (A × List ℕ)}
     (it : Codec Ends legal text writes read)
   where
-    whole_back : (x : A) (s : List ℕ) → writes x s → whole read s ≡ Some x
+    whole_back : (x : A) (s : List ℕ) → writes x s → whole_value read s ≡ Some x
     whole_back x s w =
-        ap (λ t. whole read t) (sym (append-nil s)) ∙ ap (λ r. r >>= λ p. ended p.0 p.1) (it.back x s [] w tt)
+        ap (λ t. whole_value read t) (sym (append-nil s))
+        ∙ ap (λ r. r >>= λ p. value_at_end p.0 p.1) (it.back x s [] w tt)
 
-    ended_is : (x y : A) (s : List ℕ) → ended x s ≡ Some y → (s ≡ []) × (x ≡ y)
+    ended_is : (x y : A) (s : List ℕ) → value_at_end x s ≡ Some y → (s ≡ []) × (x ≡ y)
     ended_is x y [] e = (refl, cc)
     ended_is x y (b ∷ s) e = cc
 
-    whole_sound : (s : List ℕ) (x : A) → whole read s ≡ Some x → writes x s
+    whole_sound : (s : List ℕ) (x : A) → whole_value read s ≡ Some x → writes x s
     whole_sound s x e =
-        let (r, p, q) = bind_some (read s) (λ r. ended r.0 r.1) e in
+        let (r, p, q) = bind_some (read s) (λ r. value_at_end r.0 r.1) e in
         let (z, k) = ended_is r.0 x r.1 q in
         let (t, w, f) = it.sound s r.0 r.1 p in
         let g : t ≡ s = sym (f ∙ ap (λ r. t ++ r) z ∙ append-nil t) in
         subst (λ x. writes x s) k (subst (λ s. writes r.0 s) g w)
 
-    pub whole_says : WholeCodec legal text writes (whole read)
+    pub whole_says : WholeCodec legal text writes (whole_value read)
     whole_says = record { own = it.own; told = it.told; back = whole_back; sound = whole_sound }
 
     list_back : (n : ℕ) (xs : List A) (s : List ℕ) → length xs ≤ n → JoinedBy writes xs s → list_read read n s ≡ Some xs
@@ -248,10 +250,10 @@ module _
     list_back zero (x ∷ xs) s h w = absurd (omega arith)
     list_back (suc n) (x ∷ []) s h w =
         ap (λ t. list_read read (suc n) t) (sym (append-nil s))
-        ∙ ap (λ r. r >>= λ p. following p.0 (list_read read n) p.1) (it.back x s [] w tt)
+        ∙ ap (λ r. r >>= λ p. list_behind p.0 (list_read read n) p.1) (it.back x s [] w tt)
     list_back (suc n) (x ∷ y ∷ xs) s h (t, rest, w, more, e) =
         ap (λ t. list_read read (suc n) t) e
-        ∙ ap (λ r. r >>= λ p. following p.0 (list_read read n) p.1) (it.back x t (code " " ∷ rest) w refl)
+        ∙ ap (λ r. r >>= λ p. list_behind p.0 (list_read read n) p.1) (it.back x t (code " " ∷ rest) w refl)
         ∙ ap (λ o. o >>= λ ys. Some (x ∷ ys)) (list_back n (y ∷ xs) rest (omega arith) more)
 
     longer : (x : A) (n : ℕ) (xs : List A) (t rest s : List ℕ) → writes x t → s ≡ t ++ code " " ∷ rest
@@ -262,7 +264,7 @@ module _
 
     list_next : (n : ℕ) → ((s : List ℕ) (xs : List A) → list_read read n s ≡ Some xs → WritesList writes n xs s)
         → (s : List ℕ) (xs : List A) (x : A) (t u : List ℕ) → writes x t → s ≡ t ++ u
-        → following x (list_read read n) u ≡ Some xs
+        → list_behind x (list_read read n) u ≡ Some xs
         → WritesList writes (suc n) xs s
     list_next n ih s xs x t [] w f q =
         subst (λ xs. WritesList writes (suc n) xs s) (same_Some (x ∷ []) xs q)
@@ -276,7 +278,7 @@ module _
     list_sound : (n : ℕ) (s : List ℕ) (xs : List A) → list_read read n s ≡ Some xs → WritesList writes n xs s
     list_sound zero s xs e = cc
     list_sound (suc n) s xs e =
-        let (r, p, q) = bind_some (read s) (λ r. following r.0 (list_read read n) r.1) e in
+        let (r, p, q) = bind_some (read s) (λ r. list_behind r.0 (list_read read n) r.1) e in
         let (t, w, f) = it.sound s r.0 r.1 p in
         list_next n (list_sound n) s xs r.0 t r.1 w f q
 

@@ -8,7 +8,7 @@ use Rattle.std.specs.List.{list_all}
 use Rattle.std.specs.Prelude.{ℕ, ◌-◌, Bool, ◌&&◌, List, map, length, Option, Some, None, if◌then◌else◌, nat_le, ◌==◌}
 use Prim.Native.Char.{code}
 use Rattle.text.specs.Words.{◌from◌to◌}
-use Rattle.words.specs.Codec.{letter, counted}
+use Rattle.words.specs.Codec.{letter, values_in}
 use Rattle.words.specs.Inputs.{number_digit}
 
 abbrev pub is_error_digit : ℕ → Bool
@@ -24,4 +24,4 @@ abbrev pub errors_text : List ℕ → List ℕ
 errors_text ds = map number_digit ds
 
 abbrev pub errors_read : List ℕ → Option (List ℕ × List ℕ)
-errors_read s = counted 6 (letter error_named) s
+errors_read s = values_in 6 (letter error_named) s

@@ -12,7 +12,7 @@
 use Rattle.std.specs.Prelude.{ℕ, ◌+◌, ◌%◌, Bool, ◌&&◌, List, [], ◌∷◌, if◌then◌else◌, Option, Some, None, nat_le, ◌==◌}
 use Prim.Native.Char.{code}
 use Rattle.text.specs.Words.{◌is◌, ◌from◌to◌}
-use Rattle.words.specs.Codec.{whole, ◌>>=◌}
+use Rattle.words.specs.Codec.{whole_value, ◌>>=◌}
 use Rattle.words.specs.Sources.{is_number_character, number_for, number_character}
 use Rattle.words.specs.declared.input.Source.{Source}
 use Rattle.words.specs.declared.input.Source.TheVariants.{Rgb, Video, Digital, Storage, Network, Internal}
@@ -59,4 +59,4 @@ input_read (a ∷ b ∷ s) = read_input a b >>= λ i. Some (i, s)
 input_read s = None
 
 unfoldable pub input_of : List ℕ → Option Input
-input_of w = whole input_read w
+input_of w = whole_value input_read w

@@ -23,13 +23,13 @@ JoinedBy W (x ∷ []) s = W x s
 JoinedBy W (x ∷ y ∷ xs) s =
     (t : List ℕ) × (rest : List ℕ) × W x t × JoinedBy W (y ∷ xs) rest × (s ≡ t ++ code " " ∷ rest)
 
-abbrev pub following : {A : Type 0} → A → (List ℕ → Option (List A)) → List ℕ → Option (List A)
-following x more [] = Some (x ∷ [])
-following x more (b ∷ s) = if b is " " then (more s >>= λ xs. Some (x ∷ xs)) else None
+abbrev pub list_behind : {A : Type 0} → A → (List ℕ → Option (List A)) → List ℕ → Option (List A)
+list_behind x more [] = Some (x ∷ [])
+list_behind x more (b ∷ s) = if b is " " then (more s >>= λ xs. Some (x ∷ xs)) else None
 
 abbrev pub list_read : {A : Type 0} → (List ℕ → Option (A × List ℕ)) → ℕ → List ℕ → Option (List A)
 list_read read zero s = None
-list_read read (suc n) s = read s >>= λ r. following r.0 (list_read read n) r.1
+list_read read (suc n) s = read s >>= λ r. list_behind r.0 (list_read read n) r.1
 
 abbrev pub is_list : {A : Type 0} → (A → Bool) → ℕ → List A → Bool
 is_list legal n xs = nat_le 1 (length xs) && nat_le (length xs) n && list_all legal xs

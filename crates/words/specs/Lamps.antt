@@ -9,7 +9,7 @@
 use Rattle.std.specs.Prelude.{ℕ, ◌≡◌, Bool, List, [], ◌∷◌, ◌++◌, Option}
 use Prim.Native.Char.{code}
 use Rattle.numbers.specs.Decimal.{digits, WritesNumber}
-use Rattle.words.specs.Codec.{pair_of, past}
+use Rattle.words.specs.Codec.{pair_of, preceded_by}
 use Rattle.words.specs.Numerals.{is_numeral, number_read}
 use Rattle.words.specs.Powers.{switch_code, switch_read}
 use Rattle.words.specs.declared.lamp.LampHours.{LampHours}
@@ -29,4 +29,4 @@ abbrev pub lamp_hours : ℕ → Bool → LampHours
 lamp_hours hours lit = record { hours = hours; lit = lit }
 
 abbrev pub lamp_read : List ℕ → Option (LampHours × List ℕ)
-lamp_read s = pair_of lamp_hours number_read (past " " switch_read) s
+lamp_read s = pair_of lamp_hours number_read (preceded_by " " switch_read) s

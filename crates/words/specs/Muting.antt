@@ -3,7 +3,7 @@
 --   mutes_read s     the mutes at the front of s
 -- Assumes nothing.
 use Rattle.std.specs.Prelude.{ℕ, Bool, true, false, List, [], ◌∷◌, Option, codes}
-use Rattle.words.specs.Codec.{spelled}
+use Rattle.words.specs.Codec.{first_spelled}
 use Rattle.words.specs.declared.mutes.Mutes.{Mutes}
 
 abbrev pub halves_text : Bool → Bool → List ℕ
@@ -22,4 +22,4 @@ abbrev pub all_mutes : List Mutes
 all_mutes = mutes_of true false ∷ mutes_of false true ∷ mutes_of true true ∷ mutes_of false false ∷ []
 
 abbrev pub mutes_read : List ℕ → Option (Mutes × List ℕ)
-mutes_read s = spelled mutes_text all_mutes s
+mutes_read s = first_spelled mutes_text all_mutes s

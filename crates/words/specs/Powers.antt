@@ -6,7 +6,7 @@
 -- Assumes nothing.
 use Rattle.std.specs.Prelude.{ℕ, Bool, true, false, List, [], ◌∷◌, Option}
 use Prim.Native.Char.{code}
-use Rattle.words.specs.Codec.{named, letter}
+use Rattle.words.specs.Codec.{first_named, letter}
 use Rattle.words.specs.declared.power.Power.{Power}
 use Rattle.words.specs.declared.power.Power.TheVariants.{Off, On, Cooling, WarmUp}
 
@@ -20,7 +20,7 @@ abbrev pub powers : List Power
 powers = Off ∷ On ∷ Cooling ∷ WarmUp ∷ []
 
 abbrev pub power_named : ℕ → Option Power
-power_named b = named power_code powers b
+power_named b = first_named power_code powers b
 
 abbrev pub power_text : Power → List ℕ
 power_text p = power_code p ∷ []
@@ -33,7 +33,7 @@ switch_code false = code "0"
 switch_code true = code "1"
 
 abbrev pub switch_named : ℕ → Option Bool
-switch_named b = named switch_code (false ∷ true ∷ []) b
+switch_named b = first_named switch_code (false ∷ true ∷ []) b
 
 abbrev pub switch_text : Bool → List ℕ
 switch_text on = switch_code on ∷ []

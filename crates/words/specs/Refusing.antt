@@ -5,7 +5,7 @@
 -- Assumes nothing.
 use Rattle.std.specs.Prelude.{ℕ, List, [], ◌∷◌, Option}
 use Prim.Native.Char.{code}
-use Rattle.words.specs.Codec.{named, letter, past}
+use Rattle.words.specs.Codec.{first_named, letter, preceded_by}
 use Rattle.words.specs.Inputs.{number_digit}
 use Rattle.words.specs.declared.refusal.Refusal.{Refusal}
 use Rattle.words.specs.declared.refusal.Refusal.TheVariants.{Undefined, OutOfParameter, Unavailable, Failure}
@@ -23,10 +23,10 @@ abbrev pub refusals : List Refusal
 refusals = Undefined ∷ OutOfParameter ∷ Unavailable ∷ Failure ∷ []
 
 abbrev pub refusal_named : ℕ → Option Refusal
-refusal_named b = named refusal_code refusals b
+refusal_named b = first_named refusal_code refusals b
 
 abbrev pub refusal_text : Refusal → List ℕ
 refusal_text r = code "E" ∷ code "R" ∷ code "R" ∷ refusal_code r ∷ []
 
 abbrev pub refusal_read : List ℕ → Option (Refusal × List ℕ)
-refusal_read s = past "E" (past "R" (past "R" (letter refusal_named))) s
+refusal_read s = preceded_by "E" (preceded_by "R" (preceded_by "R" (letter refusal_named))) s

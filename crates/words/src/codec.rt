@@ -1,7 +1,7 @@
 // Values on a line: each is put at the line's end, and taken from the front of bytes (RULES, Commands and Controller).
 ghost use Rattle.std.specs.Prelude.{◌≡◌, ℕ, ◌+◌, ◌≤◌, Bool, List, ◌++◌, length, Option};
 ghost use Rattle.arrayvec.specs.ArrayVec.{array_vec_len};
-ghost use Rattle.words.specs.Codec.{Codec, Ends, taken, whole};
+ghost use Rattle.words.specs.Codec.{Codec, Ends, taken_value, whole_value};
 
 use arrayvec::ArrayVec;
 
@@ -32,7 +32,7 @@ pub trait Wire: Copy {
 
     /// The value at the front of `s`, and what follows it.
     fn take(s: &[u8]) -> Option<(Self, &[u8])>
-        ensures { taken result ≡ read s.now };
+        ensures { taken_value result ≡ read s.now };
 
     /// What says a value is read as it, and what is read said it.
     ghost codec: { Codec Ends legal text writes read };
@@ -40,7 +40,7 @@ pub trait Wire: Copy {
 
 /// The value that all of `s` says.
 pub fn parse<T: Wire>(s: &[u8]) -> Option<T>
-    ensures { result ≡ whole T.read s.now }
+    ensures { result ≡ whole_value T.read s.now }
 {
     match T::take(s) {
         Some((x, [])) => Some(x),

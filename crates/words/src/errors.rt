@@ -1,6 +1,6 @@
 // The six digits of the errors (RULES, Commands; PJLink 1.04, 4.7).
 ghost use Rattle.std.specs.Prelude.{◌≡◌};
-ghost use Rattle.words.specs.Codec.{Plain, letter, taken};
+ghost use Rattle.words.specs.Codec.{Plain, letter, taken_value};
 ghost use Rattle.words.specs.ErrorDigits.{error_named, is_errors, errors_text, errors_read};
 ghost use Rattle.words.specs.Laws.{errors_codec};
 
@@ -20,7 +20,7 @@ fn error_named(b: u8) -> Option<u8>
 }
 
 fn error_at(s: &[u8]) -> Option<(u8, &[u8])>
-    ensures { taken result ≡ letter error_named s.now }
+    ensures { taken_value result ≡ letter error_named s.now }
 {
     let [b, rest @ ..] = s else {
         return None;

@@ -17,7 +17,7 @@ use Rattle.record.proofs.Spelt.{closed_spelt}
 use Rattle.stream.specs.Collecting.{empty_line}
 use Rattle.clock.specs.After.{parts_after}
 use Rattle.clock.specs.Second.{times, connection_second}
-use Rattle.clock.specs.Passing.{passed}
+use Rattle.clock.specs.Passing.{time_passed}
 use Rattle.clock.proofs.Cases.{passed_accepted}
 use Rattle.clock.proofs.ConnectionsAge.{connection_then, grows_older}
 use Rattle.clock.proofs.InOneGo.{parts_pass, place_passes}
@@ -69,11 +69,11 @@ module _ (i p : ℕ) (w : Workroom) (j : IsJoined i p w) where
   abbrev connection : Connection
   connection = connection_at device p
 
-  time_keeps : (n : ℕ) → is_shut (connection_at (left_by device (passed device n)) p) ≡ false
+  time_keeps : (n : ℕ) → is_shut (connection_at (left_by device (time_passed device n)) p) ≡ false
       → ShownAs i p w (shown_of entry) (own_at device.settings device.own (waits n))
       (happened ours_panel i p w (waits n))
   time_keeps n live =
-      let then : (left_by device (passed device n)) ≡ parts_after n device
+      let then : (left_by device (time_passed device n)) ≡ parts_after n device
       = ap (left_by device) (passed_accepted device n j.acquainted.device) ∙ parts_pass n device in
       let here : connection_at (parts_after n device) p ≡ times connection_second n connection
       = ap (λ (d : Device). connection_at d p) (sym (parts_pass n device)) ∙ place_passes n device p in
@@ -133,7 +133,7 @@ module _ (i p : ℕ) where
   phase w = (our_connection p w).phase
 
   connection_at-left_by : (w : Workroom) (n : ℕ) → phase w ≡ opened
-      → connection_at (left_by w.device (passed w.device n)) p ≡ our_connection p w
+      → connection_at (left_by w.device (time_passed w.device n)) p ≡ our_connection p w
   connection_at-left_by w n stands = (passed_leaves w.device n).connection p (ap is_timed stands)
 
   open_kept_up : (w : Workroom) (h : RoomMove) → phase w ≡ opened → IsOther i p w h → IsKeptUp i p w h

@@ -22,10 +22,10 @@ use Rattle.record.specs.declared.types.Device.{Device}
 use Rattle.record.proofs.ConnectionsTold.{placed_here}
 use Rattle.record.proofs.LegalTold.{legal_settings, legal_own, legal_places}
 use Rattle.stream.proofs.LinesSpelt.{empty_spelt}
-use Rattle.meaning.specs.Meaning.{meant, done}
+use Rattle.meaning.specs.Meaning.{answer_for, after_request}
 use Rattle.meaning.proofs.CanBeSaid.{meant_fits, meant_can_be_said}
-use Rattle.device.specs.Receiving.{set_up_password, turned}
-use Rattle.device.specs.Calls.{Result, reply_room, received}
+use Rattle.device.specs.Receiving.{set_up_password, phase_start}
+use Rattle.device.specs.Calls.{Result, reply_room, received_at}
 use Rattle.device.proofs.CommandsReceived.{reply_to, command_result, command_received, command_received_secured}
 use Rattle.device.proofs.CommandsReceived.{swallowed_at, higher_received, higher_received_secured}
 use Rattle.device.proofs.Legal.{receiving_legal}
@@ -39,7 +39,7 @@ use Rattle.panel.specs.Entries.{Talk, talk_of, shown_of, password_in, ungreeted,
 use Rattle.panel.specs.Showing.{showing}
 use Rattle.panel.specs.Stepping.{answered_entry, sent_entry, heard_line, is_unready, line_sent}
 use Rattle.panel.specs.StepTable.{IsUnderWay, answers}
-use Rattle.panel.specs.PanelCalls.{PanelAs, entry_at, sent_at, commanded, stepped_at}
+use Rattle.panel.specs.PanelCalls.{PanelAs, entry_at, sent_at, command_at, stepped_at}
 use Rattle.panel.specs.declared.types.Entry.{Entry}
 use Rattle.panel.specs.declared.types.Panel.{Panel}
 use Rattle.panel.proofs.Cases.{Commands, commanded_by, commanded_done}
@@ -52,7 +52,7 @@ use Rattle.workroom.specs.ShowsWhatWasMeant.{Fit, both_open, both_secured, our_e
 use Rattle.workroom.specs.ShowsWhatWasMeant.{UnansweredAs}
 use Rattle.workroom.specs.PanelDemand.{IsServed}
 use Rattle.workroom.proofs.Cuts.{handed_in_cuts}
-use Rattle.workroom.proofs.EntriesStep.{entry_legal_there, entry_at-commanded, sent_served, entry_at-stepped_at}
+use Rattle.workroom.proofs.EntriesStep.{entry_legal_there, entry_at-command_at, sent_served, entry_at-stepped_at}
 use Rattle.workroom.proofs.EntriesStep.{heard_served, delivered-cons}
 use Rattle.workroom.proofs.Standing.{shown_as_it_stands, joined_served, device_as_it_was, panel_as_it_was}
 
@@ -88,7 +88,7 @@ module _ (i p : ℕ) (w : Workroom) (j : IsJoined i p w) where
     writable = command_writable k c is
 
     abbrev told : Said
-    told = meant device.settings device.own (Ok c)
+    told = answer_for device.settings device.own (Ok c)
 
     abbrev sent : List ℕ
     sent = line_sent entry (coded_command k) command_room
@@ -100,7 +100,7 @@ module _ (i p : ℕ) (w : Workroom) (j : IsJoined i p w) where
 
     -- how the device takes a line
     abbrev Answers : (ℕ → Result Device) → List ℕ → Type 0
-    Answers r l = received device p l reply_room ≡ r (length l)
+    Answers r l = received_at device p l reply_room ≡ r (length l)
 
     unmarked : connection.line.overlong ≡ false
     unmarked = ap (λ (l : Line). l.overlong) (j.between ∙ empty_spelt)
@@ -141,7 +141,7 @@ module _ (i p : ℕ) (w : Workroom) (j : IsJoined i p w) where
         j.fit
 
     abbrev sending : PanelAs
-    sending = commanded w.panel i k command_room
+    sending = command_at w.panel i k command_room
 
     done_sending : sending ≡ sent_at w.panel i k command_room
     done_sending = commanded_done w.panel i k command_room can_command
@@ -158,16 +158,16 @@ module _ (i p : ℕ) (w : Workroom) (j : IsJoined i p w) where
     sent_there = sent_served w.panel i (joined_served j) k command_room
 
     entry_sent : entry_at sending.panel i ≡ sent_entry entry k
-    entry_sent = entry_at-commanded w.panel i (joined_served j) k command_room can_command
+    entry_sent = entry_at-command_at w.panel i (joined_served j) k command_room can_command
 
     under_way : IsUnderWay (sent_entry entry k) c
     under_way = record { greeted = fit_greeted j.fit; waits = refl; asked = is }
 
     -- the device afterwards, with the own part o
     abbrev left : Own → Device
-    left o = with_place device o p (turned connection opened)
+    left o = with_place device o p (phase_start connection opened)
 
-    left_open : (o : Own) → connection_at (left o) p ≡ turned connection opened
+    left_open : (o : Own) → connection_at (left o) p ≡ phase_start connection opened
     left_open o = placed_here device (legal_places device j.acquainted.device) p j.place o _
 
     module _ (there back : List ℕ) where
@@ -198,7 +198,7 @@ module _ (i p : ℕ) (w : Workroom) (j : IsJoined i p w) where
         after = (stepped_at sending.panel i (reply_to c told)).panel
 
         abbrev own : Own
-        own = done device.settings device.own (Ok c)
+        own = after_request device.settings device.own (Ok c)
 
         asked_so : asking ≡ room_of after (left own)
         asked_so =

@@ -21,7 +21,7 @@ use Rattle.record.proofs.Spelt.{closed_spelt}
 use Rattle.stream.specs.Collecting.{empty_line}
 use Rattle.device.specs.Receiving.{begun_in, set_up_password}
 use Rattle.device.specs.Calls.{Result, reply_room, place_taken, closed_by}
-use Rattle.device.proofs.Cases.{opened_greeted, opened_lowest, greeted_by_lem, closed_by_lem, closed-made}
+use Rattle.device.proofs.Cases.{opened_greeted, opened_lowest, greeted_by_lem, closed_by_lem, closed_at_place}
 use Rattle.device.proofs.Legal.{greeted_legal, closing_legal}
 use Rattle.device.proofs.Untouched.{closing_keeps_settings, closing_keeps_own}
 use Rattle.record.proofs.LowestShut.{below_lowest}
@@ -156,7 +156,7 @@ module _ (i p : ℕ) (w : Workroom) (known : IsAcquainted i w) (place : p < plac
           closed_by_lem before p (λ r. is_shut (connection_at r.device p) ≡ true) (λ n other. e)
           (λ legal there live. ap is_shut (closes ∙ closed_spelt))
       by false e =
-          ap (λ (r : Result Device). is_shut (connection_at r.device p)) (closed-made before p known.device place e)
+          ap (λ (r : Result Device). is_shut (connection_at r.device p)) (closed_at_place before p known.device place e)
           ∙ ap is_shut (closes ∙ closed_spelt)
 
   pub parted_apart : PartedAs i w (parted ours_panel i p w)

@@ -4,7 +4,7 @@ use Rattle.std.proofs.Common.{ℕ, ◌≡◌, ap, ◌∙◌, true, List, ◌∷�
 use Rattle.codes.specs.declared.command.Coded.{Coded}
 use Rattle.panel.specs.Stepping.{lost_entry, sent_entry, heard_line}
 use Rattle.panel.specs.LegalPanels.{is_panel, is_entry}
-use Rattle.panel.specs.PanelCalls.{PanelAs, entry_at, with_entry, commanded, stepped_at, lost_at}
+use Rattle.panel.specs.PanelCalls.{PanelAs, entry_at, with_entry, command_at, stepped_at, lost_at}
 use Rattle.panel.specs.declared.types.Entry.{Entry}
 use Rattle.panel.specs.declared.types.Panel.{Panel}
 use Rattle.panel.proofs.PanelsTold.{panel_told, entry_at_legal}
@@ -14,7 +14,7 @@ use Rattle.panel.proofs.Cases.{Commands, commanded_done, stepped_done, lost_done
 use Rattle.workroom.specs.AnyPanel.{ours_panel}
 use Rattle.workroom.specs.Workroom.{delivered}
 use Rattle.workroom.specs.PanelDemand.{IsServed}
-use Rattle.workroom.proofs.Cuts.{uncut-cut_at}
+use Rattle.workroom.proofs.Cuts.{stream_of-cut_at}
 
 module _ (p : Panel) (i : ℕ) (served : IsServed p i) where
   placed : (e : Entry) → entry_at (with_entry p i e) i ≡ e
@@ -26,11 +26,11 @@ module _ (p : Panel) (i : ℕ) (served : IsServed p i) where
   pub still_served : (q : Panel) → is_panel q ≡ true → q.count ≡ p.count → IsServed q i
   still_served q legal same = record { legal = legal; there = let here = served.there in omega arith }
 
-  pub entry_at-commanded : (k : Coded) (room : ℕ) → Commands p i k room
-      → entry_at (commanded p i k room).panel i ≡ sent_entry (entry_at p i) k
-  entry_at-commanded k room can = ap (λ (r : PanelAs). entry_at r.panel i) (commanded_done p i k room can) ∙ placed _
+  pub entry_at-command_at : (k : Coded) (room : ℕ) → Commands p i k room
+      → entry_at (command_at p i k room).panel i ≡ sent_entry (entry_at p i) k
+  entry_at-command_at k room can = ap (λ (r : PanelAs). entry_at r.panel i) (commanded_done p i k room can) ∙ placed _
 
-  pub sent_served : (k : Coded) (room : ℕ) → IsServed (commanded p i k room).panel i
+  pub sent_served : (k : Coded) (room : ℕ) → IsServed (command_at p i k room).panel i
   sent_served k room = grind (arith, still_served, commanded_stays_legal, command_touches_its_entry)
 
   pub entry_at-stepped_at : (l : List ℕ) → entry_at (stepped_at p i l).panel i ≡ heard_line (entry_at p i) l
@@ -48,4 +48,4 @@ module _ (p : Panel) (i : ℕ) (served : IsServed p i) where
 -- a line is delivered whole, in whatever cuts it came
 pub delivered-cons : (i : ℕ) (p : Panel) (back : List ℕ) (b : ℕ) (bs : List ℕ)
     → delivered ours_panel i p back (b ∷ bs) ≡ (stepped_at p i (b ∷ bs)).panel
-delivered-cons i p back b bs = ap (λ (l : List ℕ). (stepped_at p i l).panel) (uncut-cut_at back (b ∷ bs))
+delivered-cons i p back b bs = ap (λ (l : List ℕ). (stepped_at p i l).panel) (stream_of-cut_at back (b ∷ bs))

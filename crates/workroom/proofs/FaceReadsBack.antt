@@ -14,9 +14,9 @@ use Rattle.record.specs.Legal.{is_legal}
 use Rattle.record.specs.Places.{connection_at, lowest_shut}
 use Rattle.record.specs.declared.types.Device.{Device}
 use Rattle.stream.specs.Collecting.{empty_line}
-use Rattle.meaning.specs.Meaning.{meant}
+use Rattle.meaning.specs.Meaning.{answer_for}
 use Rattle.device.specs.Receiving.{set_up_password}
-use Rattle.device.specs.Calls.{Result, reply_room, received, opened_by, place_taken}
+use Rattle.device.specs.Calls.{Result, reply_room, received_at, opened_by, place_taken}
 use Rattle.controller.specs.Writing.{WrittenAs, command_room}
 use Rattle.controller.specs.Greetings.{read_greeting}
 use Rattle.demands.specs.Greeted.{greeted_on}
@@ -32,7 +32,7 @@ pub record Told (d : Device) (p : ℕ) (m : Option Command) (c : Command) (w : W
     : Type 0 where
   pub written : w.number ≡ 0
   pub taken : TakenAndRead d p c w.bytes r
-  pub read : read_by m r.reply ≡ said_flat (meant d.settings d.own (Ok c))
+  pub read : read_by m r.reply ≡ said_flat (answer_for d.settings d.own (Ok c))
 
 module _ (d : Device) (p : ℕ) (there : p < places_count) (legal : is_legal d ≡ true)
     (between : (connection_at d p).line ≡ empty_line)
@@ -41,11 +41,11 @@ module _ (d : Device) (p : ℕ) (there : p < places_count) (legal : is_legal d �
     (room : ℕ) (enough : reply_room ≤ room) (memory : ℕ) (lent : command_room ≤ memory) where
   -- of the command itself, and so of its code
   abbrev ToldBy : (Option Command → WrittenAs) → Option Command → Type 0
-  ToldBy write m = Told d p m c (write m) (received d p (write m).bytes room)
+  ToldBy write m = Told d p m c (write m) (received_at d p (write m).bytes room)
 
   told : (write : Option Command → WrittenAs)
       → ((write (Some c)).number ≡ 0) × TakenAndRead d p c (write (Some c)).bytes
-      (received d p (write (Some c)).bytes room)
+      (received_at d p (write (Some c)).bytes room)
       → ToldBy write (coded_command k)
   told write through = grind arith
 

@@ -7,7 +7,7 @@ use Rattle.std.proofs.Common.{ℕ, refl, [], ◌∷◌, arith, replicate, codes}
 use Rattle.pjlink.specs.declared.command.Command.TheVariants.{Query}
 use Rattle.pjlink.specs.declared.body.Body.TheVariants.{Powr, Lamp}
 use Rattle.record.specs.Limits.{opened}
-use Rattle.record.specs.Record.{started}
+use Rattle.record.specs.Record.{start_device}
 use Rattle.record.specs.Wanted.{wanted_of}
 use Rattle.record.specs.Places.{with_place}
 use Rattle.record.specs.declared.types.Device.{Device}
@@ -58,7 +58,7 @@ unfolding computing
 lamps_asked = record { greeted = λ none. omega arith; waits = refl; asked = refl }
 
 abbrev opening : Device
-opening = started (wanted_of [] [] [] [] [] (codes "11") (0 ∷ []) 20 60)
+opening = start_device (wanted_of [] [] [] [] [] (codes "11") (0 ∷ []) 20 60)
 
 abbrev pub workroom : Workroom
 workroom = room_of (resting 0) (with_place opening opening.own 0 (begun_in opened 0))

@@ -8,7 +8,7 @@
 -- Assumes nothing.
 use Rattle.std.specs.Prelude.{ℕ, List}
 use Rattle.codes.specs.declared.command.Coded.{Coded}
-use Rattle.panel.specs.PanelCalls.{PanelAs, added_to, commanded, stepped_at, lost_at}
+use Rattle.panel.specs.PanelCalls.{PanelAs, added_to, command_at, stepped_at, lost_at}
 use Rattle.panel.specs.declared.types.Panel.{Panel}
 
 pub record AnyPanel : Type 0 where
@@ -22,7 +22,7 @@ ours_hearing f = record {
   -- Panel::add
   add = added_to;
   -- Panel::send
-  command = commanded;
+  command = command_at;
   hear = f;
   -- Panel::lose
   lose = lost_at;

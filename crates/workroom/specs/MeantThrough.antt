@@ -15,7 +15,7 @@ use Rattle.pjlink.specs.Said.{Said, nothing}
 use Rattle.record.specs.declared.types.Settings.{Settings}
 use Rattle.record.specs.declared.types.Own.{Own}
 use Rattle.clock.specs.Second.{times, own_second}
-use Rattle.meaning.specs.Meaning.{meant, done}
+use Rattle.meaning.specs.Meaning.{answer_for, after_request}
 use Rattle.codes.specs.Commands.{coded_command}
 use Rattle.panel.specs.Entries.{Shown}
 use Rattle.panel.specs.Showing.{showing}
@@ -24,11 +24,11 @@ use Rattle.workroom.specs.Workroom.{RoomMove, asks, waits, meanwhile}
 module _ (s : Settings) where
   -- a code that stands for no command is refused by the panel
   abbrev pub said_to : Own → Option Command → Said
-  said_to o (Some c) = meant s o (Ok c)
+  said_to o (Some c) = answer_for s o (Ok c)
   said_to o None = nothing
 
   abbrev pub done_for : Own → Option Command → Own
-  done_for o (Some c) = done s o (Ok c)
+  done_for o (Some c) = after_request s o (Ok c)
   done_for o None = o
 
   abbrev pub IsWithin : Option Command → Type 0

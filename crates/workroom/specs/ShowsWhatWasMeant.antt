@@ -36,10 +36,10 @@ use Rattle.record.specs.HostCalls.{fault_set, errors_set, mark_set}
 use Rattle.record.specs.declared.types.Own.{Own}
 use Rattle.record.specs.declared.types.Connection.{Connection}
 use Rattle.record.specs.declared.types.Device.{Device}
-use Rattle.clock.specs.Passing.{passed}
+use Rattle.clock.specs.Passing.{time_passed}
 use Rattle.stream.specs.Collecting.{empty_line}
 use Rattle.device.specs.Receiving.{set_up_password}
-use Rattle.device.specs.Calls.{reply_room, received, opened_by, place_taken, closed_by}
+use Rattle.device.specs.Calls.{reply_room, received_at, opened_by, place_taken, closed_by}
 use Rattle.codes.specs.Commands.{coded_command}
 use Rattle.codes.specs.declared.command.Coded.{Coded}
 use Rattle.panel.specs.Entries.{Talk, Shown, talk_of, shown_of, password_in, ungreeted, leads_next, nothing_shown}
@@ -119,7 +119,7 @@ module _ (i p : ℕ) where
   IsOther w (meanwhile d) = Aside p w.device d
 
   abbrev pub IsKeptUp : Workroom → RoomMove → Type 0
-  IsKeptUp w (waits n) = is_shut (connection_at (left_by w.device (passed w.device n)) p) ≡ false
+  IsKeptUp w (waits n) = is_shut (connection_at (left_by w.device (time_passed w.device n)) p) ≡ false
   IsKeptUp w h = IsOther w h
 
   -- each, where it comes
@@ -143,7 +143,7 @@ module _ (i p : ℕ) where
 -- what the other controllers of a device do at their places, and the host, is aside of a connection at place p (RULES,
 -- Places)
 pub record OthersAside (p : ℕ) (d : Device) : Type 0 where
-  pub receiving : (q : ℕ) (bs : List ℕ) (room : ℕ) → (p ≡ q → ⊥) → Aside p d (received d q bs room).device
+  pub receiving : (q : ℕ) (bs : List ℕ) (room : ℕ) → (p ≡ q → ⊥) → Aside p d (received_at d q bs room).device
   pub closing : (q : ℕ) → (p ≡ q → ⊥) → Aside p d (closed_by d q).device
   pub opening : (random room : ℕ) → is_shut (connection_at d p) ≡ false → Aside p d (opened_by d random room).device
   pub fault : (mark : Bool) → Aside p d (left_by d (fault_set d mark))

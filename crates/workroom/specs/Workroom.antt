@@ -1,7 +1,7 @@
 -- A panel, one of whose projectors is a device of ours, to which it is connected at one of the device's four places
 -- (RULES, Places), and what happens in the workroom: any of this, in any order.
 --   cut_at ns l         the bytes l in parts: the first n bytes, for the first n of ns, and so on; the rest is the last
---                       part. `uncut` joins them again, and no cutting is left out (proofs/Cuts)
+--                       part. `stream_of` joins them again, and no cutting is left out (proofs/Cuts)
 --   Workroom            the panel, and the device
 --   asks k there back   the panel sends the command k: its line comes there in the cuts `there`, each part handed on
 --                       until it is taken; the reply comes back in the cuts `back`. Of a refused command nothing is
@@ -20,9 +20,9 @@
 use Rattle.std.specs.Prelude.{ℕ, List, [], ◌∷◌, take, drop, if◌then◌else◌, ◌==◌}
 use Rattle.record.specs.Given.{left_by}
 use Rattle.record.specs.declared.types.Device.{Device}
-use Rattle.clock.specs.Passing.{passed}
-use Rattle.stream.specs.Machine.{Out, Took, handed_parts, uncut}
-use Rattle.device.specs.Calls.{Result, reply_room, received, opened_by, closed_by}
+use Rattle.clock.specs.Passing.{time_passed}
+use Rattle.stream.specs.Machine.{Out, Took, handed_parts, stream_of}
+use Rattle.device.specs.Calls.{Result, reply_room, received_at, opened_by, closed_by}
 use Rattle.controller.specs.Writing.{command_room}
 use Rattle.codes.specs.declared.command.Coded.{Coded}
 use Rattle.panel.specs.PanelCalls.{PanelAs}
@@ -52,12 +52,12 @@ abbrev pub took_as : Result Device → Took Device
 took_as r = record { taken = r.taken; state = r.device; reply = r.reply }
 
 abbrev pub handed_there : Device → ℕ → List ℕ → List ℕ → Out Device
-handed_there d p there line = handed_parts (λ x bs. took_as (received x p bs reply_room)) d (cut_at there line)
+handed_there d p there line = handed_parts (λ x bs. took_as (received_at x p bs reply_room)) d (cut_at there line)
 
 module _ (P : AnyPanel) (i : ℕ) where
   abbrev pub delivered : Panel → List ℕ → List ℕ → Panel
   delivered p back [] = p
-  delivered p back (b ∷ bs) = (P.hear p i (uncut (cut_at back (b ∷ bs)))).panel
+  delivered p back (b ∷ bs) = (P.hear p i (stream_of (cut_at back (b ∷ bs)))).panel
 
   -- what comes back of a reply, to the panel that sent
   abbrev pub answered_back : Panel → List ℕ → Out Device → Workroom
@@ -77,7 +77,7 @@ module _ (P : AnyPanel) (i : ℕ) where
 
     abbrev pub happened : Workroom → RoomMove → Workroom
     happened w (asks k there back) = asked_as (P.command w.panel i k command_room) w.device there back
-    happened w (waits n) = room_of w.panel (left_by w.device (passed w.device n))
+    happened w (waits n) = room_of w.panel (left_by w.device (time_passed w.device n))
     happened w (asks_another j k) = room_of (P.command w.panel j k command_room).panel w.device
     happened w (hears_another j l) = room_of (P.hear w.panel j l).panel w.device
     happened w (meanwhile d) = room_of w.panel d

@@ -10,7 +10,7 @@ use Rattle.pjlink.specs.Said.{Said}
 use Rattle.controller.specs.Reading.{ReadAs, Outcome, means_it, erra_said, not_a_line, other_command, read_reply}
 use Rattle.codes.specs.Commands.{coded_command}
 use Rattle.panel.specs.Entries.{talk_of, shown_of, entry_of, rested_on}
-use Rattle.panel.specs.Stepping.{strayed, with_talk, lost_entry, heard_as, heard_by, heard_line, is_unready}
+use Rattle.panel.specs.Stepping.{with_stray, with_talk, lost_entry, heard_as, heard_by, heard_line, is_unready}
 use Rattle.panel.specs.PanelCalls.{panel_made, entry_at, with_entry}
 use Rattle.panel.specs.declared.types.Entry.{Entry}
 use Rattle.workroom.specs.AnyPanel.{AnyPanel, ours_hearing}
@@ -20,7 +20,7 @@ stepping_by f = ours_hearing (λ p i l. panel_made (with_entry p i (f (entry_at 
 
 abbrev replied_as : (Entry → List ℕ → ReadAs → Entry) → Entry → List ℕ → Option Command → Entry
 replied_as f e l (Some c) = f e l (read_reply c l)
-replied_as f e l None = strayed e
+replied_as f e l None = with_stray e
 
 abbrev hearing_as : (Entry → List ℕ → ReadAs → Entry) → AnyPanel
 hearing_as f =
@@ -36,7 +36,7 @@ takes_foreign = hearing_as (λ e l r. taken_foreign e l r.outcome r.said)
 
 -- ends the command on a malformed line
 abbrev ended_malformed : Entry → Outcome → Said → Entry
-ended_malformed e not_a_line m = strayed (with_talk e (rested_on (talk_of e)))
+ended_malformed e not_a_line m = with_stray (with_talk e (rested_on (talk_of e)))
 ended_malformed e o m = heard_as e o m
 
 abbrev pub ends_on_malformed : AnyPanel
@@ -51,14 +51,14 @@ abbrev pub keeps_after_erra : AnyPanel
 keeps_after_erra = hearing_as (λ e l r. erra_kept e r.outcome r.said)
 
 -- its count of strays wraps, where nothing is under way
-abbrev wrapped : ℕ → ℕ
-wrapped n = if n == 65535 then 0 else n + 1
+abbrev wrapped_count : ℕ → ℕ
+wrapped_count n = if n == 65535 then 0 else n + 1
 
-abbrev wrapping : Entry → Entry
-wrapping e = entry_of e.password (talk_of e) (shown_of e) (wrapped e.strays)
+abbrev with_wrapped_count : Entry → Entry
+with_wrapped_count e = entry_of e.password (talk_of e) (shown_of e) (wrapped_count e.strays)
 
 abbrev pub stray_count_wraps : AnyPanel
-stray_count_wraps = stepping_by (λ e l. if not (is_unready e) then wrapping e else heard_line e l)
+stray_count_wraps = stepping_by (λ e l. if not (is_unready e) then with_wrapped_count e else heard_line e l)
 
 -- a late reply is shown: whatever was asked last, a power reading is
 abbrev pub shows_late : AnyPanel
@@ -69,9 +69,9 @@ abbrev pub counts_nothing : AnyPanel
 counts_nothing = stepping_by (λ e l. if not (is_unready e) then e else heard_line e l)
 
 -- accepts a reply, and shows nothing of it
-abbrev unshown : Entry → Outcome → Said → Entry
-unshown e means_it m = with_talk e (rested_on (talk_of e))
-unshown e o m = heard_as e o m
+abbrev unshown_reply : Entry → Outcome → Said → Entry
+unshown_reply e means_it m = with_talk e (rested_on (talk_of e))
+unshown_reply e o m = heard_as e o m
 
 abbrev pub shows_no_reply : AnyPanel
-shows_no_reply = hearing_as (λ e l r. unshown e r.outcome r.said)
+shows_no_reply = hearing_as (λ e l r. unshown_reply e r.outcome r.said)

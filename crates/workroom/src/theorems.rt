@@ -10,11 +10,11 @@ ghost use Rattle.codes.specs.declared.command.Coded.{Coded};
 ghost use Rattle.pjlink.specs.declared.command.Command.{Command};
 ghost use Rattle.codes.specs.Commands.{coded_command};
 ghost use Rattle.pjlink.specs.Commands.{command_class};
-ghost use Rattle.device.specs.Calls.{reply_room, received, opened_by, place_taken};
+ghost use Rattle.device.specs.Calls.{reply_room, received_at, opened_by, place_taken};
 ghost use Rattle.controller.specs.Writing.{command_room};
 ghost use Rattle.codes.specs.ByCode.{written_by, read_by};
 ghost use Rattle.codes.specs.Readings.{said_flat, flat_greeting};
-ghost use Rattle.meaning.specs.Meaning.{meant};
+ghost use Rattle.meaning.specs.Meaning.{answer_for};
 ghost use Rattle.device.specs.Receiving.{set_up_password};
 ghost use Rattle.controller.specs.Greetings.{read_greeting};
 ghost use Rattle.demands.specs.Greeted.{greeted_on};
@@ -33,18 +33,18 @@ pub fn the_face_reads_back()
         → (room : ℕ) → reply_room ≤ room → (memory : ℕ) → command_room ≤ memory
         → (connection_at d p).phase ≡ opened → (random : ℕ) (password : List ℕ)
         → let w = written_by (coded_command k) false random password memory in
-        let r = received d p w.bytes room in
+        let r = received_at d p w.bytes room in
         (w.number ≡ 0) × (r.taken ≡ length w.bytes)
-        × (read_by (coded_command k) r.reply ≡ said_flat (meant d.settings d.own (Ok c))) }
+        × (read_by (coded_command k) r.reply ≡ said_flat (answer_for d.settings d.own (Ok c))) }
     ensures read_back_secured { (d : Device) (p : ℕ) → p < places_count → is_legal d ≡ true
         → (connection_at d p).line ≡ empty_line → (k : Coded) (c : Command) → coded_command k ≡ Some c
         → command_class c ≤ d.settings.class_number
         → (room : ℕ) → reply_room ≤ room → (memory : ℕ) → command_room ≤ memory
         → (connection_at d p).phase ≡ awaiting
         → let w = written_by (coded_command k) true (connection_at d p).random (set_up_password d.settings) memory in
-        let r = received d p w.bytes room in
+        let r = received_at d p w.bytes room in
         (w.number ≡ 0) × (r.taken ≡ length w.bytes)
-        × (read_by (coded_command k) r.reply ≡ said_flat (meant d.settings d.own (Ok c))) }
+        × (read_by (coded_command k) r.reply ≡ said_flat (answer_for d.settings d.own (Ok c))) }
     ensures greeting { (d : Device) (random room : ℕ) → is_legal d ≡ true → lowest_shut d.connections < places_count
         → reply_room ≤ room → random < 2 ^ 32 → let o = opened_by d random room in
         flat_greeting (read_greeting o.reply)

@@ -59,7 +59,7 @@ fn shift(i: u32) -> u32
 }
 
 // Operation i, [abcd k s i], with its constant t.
-#[tactic(auto, unfolding(crate::specs::Rounds::operated, crate::specs::Rounds::operation))]
+#[tactic(auto, unfolding(crate::specs::Rounds::operated_with, crate::specs::Rounds::operation))]
 fn operate(m: &[u8], i: u32, t: u32, q: Buffer) -> Buffer
     requires whole_block { length m.now ≡ 64 }
     requires in_table { i < 64 }

@@ -1,5 +1,5 @@
 use Rattle.std.proofs.Common.{Ok, Err, sym, ap, ◌∙◌, arith}
-use Rattle.record.specs.Given.{refused}
+use Rattle.record.specs.Given.{refusal_with}
 use Rattle.record.specs.Record.{blank}
 use Rattle.formfile.specs.declared.NotBegun.TheVariants.{Refused}
 use Rattle.formfile.proofs.FormBegun.{begun_by_front}
@@ -13,4 +13,4 @@ returns-in-Ok-clause-by_form c form e =
 pub returns-in-Err-clause-by_form : goal.returns-in-Err-clause-by_form
 returns-in-Err-clause-by_form c form e =
     begun_by_front c.args.bytes.now form (Err (Refused c.number.result)) (λ i h. omega (arith, c.type_inv.bytes i))
-    (sym c.in-Err.ensures ∙ ap (λ n. refused n blank) (sym c.number.ensures)) e
+    (sym c.in-Err.ensures ∙ ap (λ n. refusal_with n blank) (sym c.number.ensures)) e

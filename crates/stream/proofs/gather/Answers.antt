@@ -7,7 +7,7 @@ use Rattle.record.specs.Views.{phase_number}
 use Rattle.record.proofs.ConnectionTold.{held_most_room}
 use Rattle.record.specs.declared.types.Line.{Line}
 use Rattle.stream.specs.declared.Gathered.{Gathered}
-use Rattle.stream.specs.Collecting.{collected, collected_all, gathered_of, gathered}
+use Rattle.stream.specs.Collecting.{line_after, collected_all, gathered_of, gathered_from}
 use Rattle.stream.specs.Places.{index_of}
 use Rattle.stream.proofs.AllAtOnce.{all_at_once}
 use Rattle.stream.proofs.gather.Goals as goal
@@ -15,13 +15,13 @@ use Rattle.stream.proofs.gather.Goals as goal
 pub collect-requires : goal.collect-requires
 collect-requires c = rw c.held_most.ensures (held_most_room (phase_number c.args.phase))
 
-all : (bs : List ℕ) (l : Line) (most : ℕ) → gathered most l bs ≡ record {
+all : (bs : List ℕ) (l : Line) (most : ℕ) → gathered_from most l bs ≡ record {
   line = collected_all most l (take (index_of (code "\r") bs) bs);
   before = index_of (code "\r") bs;
   ended = nat_lt (index_of (code "\r") bs) (length bs);
 }
-unfolding gathered
-all bs l most = ap gathered_of (all_at_once (code "\r") (collected most) l bs)
+unfolding gathered_from
+all bs l most = ap gathered_of (all_at_once (code "\r") (line_after most) l bs)
 
 pub returns-clause-line : goal.returns-clause-line
 returns-clause-line c =

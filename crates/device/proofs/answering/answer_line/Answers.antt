@@ -14,10 +14,10 @@ use Rattle.record.specs.Views.{class_seen}
 use Rattle.record.specs.declared.types.Own.{Own}
 use Rattle.record.specs.declared.types.Settings.{Settings}
 use Rattle.record.proofs.FactsTold.{settings_is}
-use Rattle.meaning.specs.Meaning.{meant, done}
+use Rattle.meaning.specs.Meaning.{answer_for, after_request}
 use Rattle.meaning.proofs.ClassKnown.{class_as_number-class_seen}
 use Rattle.text.proofs.Choices.{if_yes, if_no}
-use Rattle.device.specs.Answering.{line_asks, swallowed, replied, line_answer}
+use Rattle.device.specs.Answering.{line_asks, line_swallowed, command_answer, line_answer}
 use Rattle.device.proofs.answering.answer_line.Goals as goal
 
 module _
@@ -31,24 +31,24 @@ module _
     at_class : {t : Bool} → is_command_form (class_as_number k) l ≡ t → is_command_form s.class_number l ≡ t
     at_class f = grind (arith, class_as_number-class_seen, settings_is)
 
-    unformed : is_command_form (class_as_number k) l ≡ false → swallowed o ≡ line_answer s o l
+    unformed : is_command_form (class_as_number k) l ≡ false → line_swallowed o ≡ line_answer s o l
     unfolding line_answer
-    unformed f = sym (if_no (replied s o l) (swallowed o) (at_class f))
+    unformed f = sym (if_no (command_answer s o l) (line_swallowed o) (at_class f))
 
     module _
         (j : ClassNumber)
         {letters p : List ℕ}
         (taken : IsCommandOf (class_as_number k) l (class_as_number j) letters p)
       where
-        formed : replied s o l ≡ line_answer s o l
+        formed : command_answer s o l ≡ line_answer s o l
         unfolding line_answer
-        formed = sym (if_yes (replied s o l) (swallowed o) (at_class taken.form))
+        formed = sym (if_yes (command_answer s o l) (line_swallowed o) (at_class taken.form))
 
         asks : {r : Request} → r ≡ request_of (class_as_number j) letters p → r ≡ line_asks l
         asks f = grind arith
 
         answers : {r : Request} (reply : Result Answer Refusal) → r ≡ request_of (class_as_number j) letters p
-            → said_by reply ≡ meant s o r
+            → said_by reply ≡ answer_for s o r
             → reply_line (class_code j) letters (said_bytes (said_by reply)) ≡ (line_answer s o l).reply
         answers reply f g = grind (arith, formed)
 
@@ -67,6 +67,6 @@ returns-clause-own c =
     let o = c.args.o.now in
     let l = c.args.l.now in
     c.decide-reply.ensures.own
-    ∙ ap (done s o)
+    ∙ ap (after_request s o)
     (asks s o l c.requires.settings c.class.ensures _ c.in-Some.ensures.taken c.request-asked.ensures)
     ∙ ap (λ a. a.own) (formed s o l c.requires.settings c.class.ensures _ c.in-Some.ensures.taken)

@@ -1,11 +1,11 @@
 use Rattle.std.proofs.Common.{refl}
-use Rattle.panel.specs.PanelCalls.{adding_rows, commanding_rows, projector_rows, added_to, commanded, stepped_at}
+use Rattle.panel.specs.PanelCalls.{adding_rows, commanding_rows, projector_rows, added_to, command_at, stepped_at}
 use Rattle.panel.specs.PanelCalls.{lost_at}
 use Rattle.panel.proofs.Refusals.{refused_keeps, number_by_rows}
 use Rattle.panel.proofs.theorems.a_refusal_keeps_the_panel.Goals as goal
 
 pub returns : goal.returns
-unfolding added_to commanded stepped_at lost_at
+unfolding added_to command_at stepped_at lost_at
 returns c = record {
   adding = λ p s. refused_keeps p (adding_rows p s) _ refl refl;
   sending = λ p i k room. refused_keeps p (commanding_rows p i k room) _ refl refl;

@@ -2,7 +2,7 @@
 use Rattle.std.proofs.Common.{◌/◌, length, map, sym, ap, ◌∙◌}
 use Rattle.text.proofs.Choices.{if_yes, if_no}
 use Rattle.record.specs.Updates.{with_own, with_marks}
-use Rattle.record.specs.Given.{accepted}
+use Rattle.record.specs.Given.{acceptance_of}
 use Rattle.record.specs.declared.types.Device.{Device}
 use Rattle.record.proofs.FactsTold.{legal_is}
 use Rattle.record.proofs.Started.{started_legal}
@@ -31,7 +31,7 @@ returns c =
     let said = ap (marks_said (length f.lamps.now / 4)) c.in-Some.is in
     let set = c.in-Ok.ensures in
     let tested = contents_tested (said_of f).settings (sym set.taken) set.made said c.enable.ensures.value in
-    ap accepted (c.enable.ensures.device c.if-not-enable.false)
-    ∙ ap (λ (d : Device). accepted (with_own d (with_marks d.own (mark_room (map is_marked c.in-Some.marks.now)))))
+    ap acceptance_of (c.enable.ensures.device c.if-not-enable.false)
+    ∙ ap (λ (d : Device). acceptance_of (with_own d (with_marks d.own (mark_room (map is_marked c.in-Some.marks.now)))))
     set.made
     ∙ sym (tested ∙ if_yes _ _ c.if-not-enable.false)
