@@ -4,8 +4,6 @@
 mod block;
 mod digits;
 mod tail;
-#[cfg(test)]
-mod tests;
 pub mod theorems;
 mod word;
 
