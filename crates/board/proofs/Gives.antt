@@ -1,7 +1,6 @@
 -- What a call in place gives, as a host is told of it: the number, and the record that it leaves.
 -- Assumes nothing.
-use Rattle.std.proofs.Common.{◌≡◌, ap, ◌∙◌}
-use Rattle.std.specs.Prelude.{Result, OnErr}
+use Rattle.std.proofs.Common.{◌≡◌, ap, ◌∙◌, Result, OnErr}
 use Rattle.record.specs.Given.{gives, left_by}
 use Rattle.record.specs.Refusals.{outcome_number}
 use Rattle.record.specs.declared.refusal.Refusal.{Refusal}

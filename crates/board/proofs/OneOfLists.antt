@@ -1,11 +1,10 @@
 -- The calls over lists leave one result each, the lent list included, and the numbers of a day call are those of one
 -- verdict, of one answer of the planner.
 -- Assumes nothing.
-use Rattle.std.proofs.Common.{[], ◌∷◌, ℕ, ◌≡◌, ◌≤◌, List, Ok, Err, Result, if◌then◌else◌, sym, ap, ◌∙◌}
-use Rattle.std.proofs.Common.{length, arith, ◌==◌}
+use Rattle.std.proofs.Common.{[], ◌∷◌, ℕ, ◌≡◌, ◌≤◌, List, Ok, Err, Result, if◌then◌else◌, sym, ap, ◌∙◌, length, arith}
+use Rattle.std.proofs.Common.{◌==◌, ℤ}
 use Rattle.std.proofs.lemmas.List.{length-map}
 use Rattle.std.proofs.lemmas.List.FromFn.{length-map-range_with_len}
-use Rattle.std.specs.Prelude.{ℤ}
 use Rattle.day.specs.declared.Placement.{Placement}
 use Rattle.day.specs.declared.check.CheckError.{CheckError}
 use Rattle.day.specs.declared.check.CheckError.TheVariants.{OutOfRange, NoRig, TooEarly, Clash, Spent}

@@ -2,9 +2,8 @@
 -- calls that take a command by its code, each the first row of the table that applies (RULES, The numbers a call
 -- gives).
 -- Assumes nothing.
-use Rattle.std.proofs.Common.{arith}
-use Rattle.std.proofs.Common.{ℕ, ◌≤◌, ◌≡◌, refl, ap, Bool, not, List, [], nat_lt}
-use Rattle.std.specs.Prelude.{if◌then◌else◌, Option, Some, None}
+use Rattle.std.proofs.Common.{arith, ℕ, ◌≤◌, ◌≡◌, refl, ap, Bool, not, List, [], nat_lt, if◌then◌else◌, Option, Some}
+use Rattle.std.proofs.Common.{None}
 use Rattle.pjlink.specs.Forms.{reply_parameter}
 use Rattle.pjlink.specs.declared.command.Command.{Command}
 use Rattle.pjlink.specs.Said.{Said}

@@ -1,8 +1,7 @@
 -- The number of a setting: it tells one setting or none, 0 exactly where set-up gives 0, and the password's where
 -- set-up gives 8.
 -- Assumes nothing.
-use Rattle.std.proofs.Common.{ℕ, ◌≡◌, ap, arith}
-use Rattle.std.specs.Prelude.{Option, None, Result}
+use Rattle.std.proofs.Common.{ℕ, ◌≡◌, ap, arith, Option, None, Result}
 use Rattle.record.specs.declared.types.Device.{Device}
 use Rattle.record.specs.declared.set_up_error.SetUpError.{SetUpError}
 use Rattle.record.specs.Wanted.{Wanted}

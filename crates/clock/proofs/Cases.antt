@@ -1,8 +1,6 @@
 -- Passing time by its cases: an illegal record comes back as it was, a legal one n seconds later.
 -- Assumes nothing.
-use Rattle.std.proofs.Common.{arith}
-use Rattle.std.proofs.Common.{ℕ, ◌≡◌, ap, true, false, not}
-use Rattle.std.specs.Prelude.{Ok, Err}
+use Rattle.std.proofs.Common.{arith, ℕ, ◌≡◌, ap, true, false, not, Ok, Err}
 use Rattle.text.proofs.Choices.{if_yes, if_no}
 use Rattle.record.specs.Legal.{is_legal}
 use Rattle.record.specs.Given.{Given, acceptance_of, refusal_with, given_by}

@@ -2,9 +2,8 @@
 -- after the other, and two changes as one.
 --   ChangedTo f l ms count after k      the loop over an array of lamps has changed the first k by so many marks
 -- Assumes nothing.
-use Rattle.std.proofs.Common.{ℕ, zero, suc, ◌+◌, ◌<◌, ◌≤◌, ◌≡◌, refl, sym, ap, ap₂, Bool, true, false, List, []}
-use Rattle.std.proofs.Common.{◌∷◌, arith, length, slice_index_or, set, take}
-use Rattle.std.specs.Prelude.{if◌then◌else◌}
+use Rattle.std.proofs.Common.{ℕ, zero, suc, ◌+◌, ◌<◌, ◌≤◌, ◌≡◌, refl, sym, ap, ap₂, Bool, true, false, List, [], ◌∷◌}
+use Rattle.std.proofs.Common.{arith, length, slice_index_or, set, take, if◌then◌else◌}
 use Rattle.text.proofs.Choices.{if_no}
 use Rattle.record.specs.Limits.{lamps_most}
 use Rattle.clock.specs.Second.{changed_where}

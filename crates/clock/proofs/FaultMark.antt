@@ -1,7 +1,6 @@
 -- The fault mark changes nothing that time does: to set it and let n seconds pass is to let them pass and set it.
 -- Assumes nothing.
-use Rattle.std.proofs.Common.{arith}
-use Rattle.std.proofs.Common.{ℕ, ◌≡◌, refl, Bool}
+use Rattle.std.proofs.Common.{arith, ℕ, ◌≡◌, refl, Bool}
 use Rattle.record.specs.Given.{left_by}
 use Rattle.record.specs.Updates.{with_own, with_fault}
 use Rattle.record.specs.HostCalls.{fault_set}

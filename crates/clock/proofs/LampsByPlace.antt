@@ -1,9 +1,8 @@
 -- A lamp's seconds after n, by its place: where the lamps burn each enabled one gains n, stopped at the limit (RULES,
 -- Lamps); else it stays, and so does the room past the lamps.
 -- Assumes nothing.
-use Rattle.std.proofs.Common.{ℕ, ◌≤◌, ◌<◌, ◌≡◌, ap, ◌∙◌, Bool, true, false, ◌&&◌, List, arith, length}
-use Rattle.std.proofs.Common.{slice_index_or, get_or-take}
-use Rattle.std.specs.Prelude.{if◌then◌else◌}
+use Rattle.std.proofs.Common.{ℕ, ◌≤◌, ◌<◌, ◌≡◌, ap, ◌∙◌, Bool, true, false, ◌&&◌, List, arith, length, slice_index_or}
+use Rattle.std.proofs.Common.{get_or-take, if◌then◌else◌}
 use Rattle.record.specs.Limits.{lamp_limit, is_lit}
 use Rattle.record.specs.Legal.{is_legal}
 use Rattle.record.specs.declared.types.Settings.{Settings}

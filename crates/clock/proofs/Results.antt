@@ -1,8 +1,6 @@
 -- Demand 1 for the call of this crate: the number by legality, and a refusal leaves the record that was given.
 -- Assumes nothing.
-use Rattle.std.proofs.Common.{arith}
-use Rattle.std.proofs.Common.{ℕ, ◌≡◌, sym, ap, Bool}
-use Rattle.std.specs.Prelude.{if◌then◌else◌}
+use Rattle.std.proofs.Common.{arith, ℕ, ◌≡◌, sym, ap, Bool, if◌then◌else◌}
 use Rattle.record.specs.Legal.{is_legal}
 use Rattle.record.specs.Given.{given_by}
 use Rattle.record.specs.declared.types.Device.{Device}

@@ -1,7 +1,6 @@
 -- Time adds: a seconds and then b are a + b, in the definition and in the calls.
 -- Assumes nothing.
-use Rattle.std.proofs.Common.{arith}
-use Rattle.std.proofs.Common.{ℕ, ◌+◌, ◌≤◌, ◌≡◌, refl}
+use Rattle.std.proofs.Common.{arith, ℕ, ◌+◌, ◌≤◌, ◌≡◌, refl}
 use Rattle.record.specs.Given.{left_by, given_by}
 use Rattle.record.specs.declared.types.Device.{Device}
 use Rattle.clock.specs.Second.{second, times}

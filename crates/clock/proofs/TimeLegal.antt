@@ -2,10 +2,9 @@
 -- connection legal.
 -- Assumes nothing.
 use Rattle.std.proofs.Common.{ℕ, ◌+◌, ◌≤◌, ◌<◌, ◌≡◌, refl, sym, ◌∙◌, Bool, true, false, List, arith, length}
-use Rattle.std.proofs.Common.{slice_index_or, length-take, ltb-true}
+use Rattle.std.proofs.Common.{slice_index_or, length-take, ltb-true, if◌then◌else◌}
 use Rattle.std.proofs.lemmas.List.{length-map}
 use Rattle.std.proofs.Math.ListN.{get_or-eq_default}
-use Rattle.std.specs.Prelude.{if◌then◌else◌}
 use Rattle.text.proofs.Choices.{if_all}
 use Rattle.record.specs.Limits.{lamps_most, lamp_limit, age_end}
 use Rattle.record.specs.Rules.{is_lamps}

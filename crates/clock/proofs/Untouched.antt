@@ -1,8 +1,7 @@
 -- Time changes nothing but power, seconds left, lamps, and an awaiting or failed connection.
 --   Untouched before after      all else is after as it was before
 -- Assumes nothing.
-use Rattle.std.proofs.Common.{arith}
-use Rattle.std.proofs.Common.{ℕ, ◌≡◌, refl, ap, false}
+use Rattle.std.proofs.Common.{arith, ℕ, ◌≡◌, refl, ap, false}
 use Rattle.record.specs.Legal.{is_timed}
 use Rattle.record.specs.Updates.{with_power_left, with_seconds}
 use Rattle.record.specs.Places.{connection_at}

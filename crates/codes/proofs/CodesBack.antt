@@ -14,8 +14,7 @@ use Rattle.pjlink.specs.declared.command.Half.{Half}
 use Rattle.pjlink.specs.declared.command.Command.{Command}
 use Rattle.codes.specs.Commands.{CodedBy, alone, switch, of_input, of_half, CodeRow, code_rows, switch_at, source_at}
 use Rattle.codes.specs.Commands.{input_at, half_at, stands_for, coded_by, coded_command, code_with, used_by, used_of}
-use Rattle.codes.specs.Commands.{bit}
-use Rattle.codes.specs.Commands.{source_number, half_number, input_code, code_of}
+use Rattle.codes.specs.Commands.{bit, source_number, half_number, input_code, code_of}
 use Rattle.codes.specs.declared.command.Coded.{Coded}
 use Rattle.codes.proofs.CommandsCoded.{code_back}
 

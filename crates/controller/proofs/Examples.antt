@@ -1,7 +1,6 @@
 -- Lines written and read, by computing (PJLink 1.04, 4 and 5.1; RULES, Controller).
 -- Assumes nothing.
-use Rattle.std.proofs.Common.{◌≡◌, refl, true, false, [], codes}
-use Rattle.std.specs.Prelude.{None, Some}
+use Rattle.std.proofs.Common.{◌≡◌, refl, true, false, [], codes, None, Some}
 use Rattle.pjlink.specs.Computing.{computing as pjlink}
 use Rattle.pjlink.specs.declared.body.Body.TheVariants.{Powr, Name}
 use Rattle.pjlink.specs.declared.command.Command.TheVariants.{PowerSet, Query}
@@ -9,10 +8,9 @@ use Rattle.pjlink.specs.Said.{okay, power_is}
 use Rattle.words.specs.declared.power.Power.TheVariants.{WarmUp}
 use Rattle.digest.specs.Computing.{computing as digest}
 use Rattle.controller.specs.Writing.{nothing_written, written_command}
-use Rattle.controller.specs.Reading.{meaning, outcome_alone, read_reply}
+use Rattle.controller.specs.Reading.{meaning, outcome_alone, read_reply, not_a_line, other_command, disallowed}
 use Rattle.controller.specs.Greetings.{read_greeting}
 use Rattle.controller.specs.Computing.{computing}
-use Rattle.controller.specs.Reading.{not_a_line, other_command, disallowed}
 use Rattle.controller.specs.declared.greeting.Greeting.TheVariants.{Secured}
 
 power_on_written : written_command (PowerSet true) false 0 [] 168 ≡ record { number = 0; bytes = codes "%1POWR 1\r" }

@@ -2,8 +2,7 @@
 -- Controller: "nothing more").
 -- Assumes nothing.
 use Rattle.std.proofs.Common.{ℕ, ◌^◌, ◌≤◌, ◌<◌, ◌≡◌, refl, sym, ap, ◌∙◌, true, List, map-id, arith, length, take, drop}
-use Rattle.std.proofs.Common.{length-take}
-use Rattle.std.specs.Prelude.{None, Some}
+use Rattle.std.proofs.Common.{length-take, None, Some}
 use Rattle.std.proofs.Math.Nat.{pow-le-pow_right}
 use Rattle.text.specs.Scans.{same_by, itself}
 use Rattle.text.proofs.Sameness.{same_is, turned_same}

@@ -8,10 +8,9 @@
 --   Then w g ms n es stream d    so they do after the events es
 -- Assumes nothing.
 use Rattle.std.proofs.Common.{ℕ, ◌+◌, ◌<◌, ◌≡◌, refl, sym, ap, subst, ◌∙◌, Bool, true, false, ◌&&◌, List, arith, length}
-use Rattle.std.proofs.Common.{slice_index_or, set, length-set, get_or-set_same, get_or-set_other, eqb-true, zero}
-use Rattle.std.proofs.Common.{suc, [], ◌∷◌, ◌++◌, add-zero, zero-add, add_assoc, replicate}
+use Rattle.std.proofs.Common.{slice_index_or, set, length-set, get_or-set_same, get_or-set_other, eqb-true, zero, suc}
+use Rattle.std.proofs.Common.{[], ◌∷◌, ◌++◌, add-zero, zero-add, add_assoc, replicate, if◌then◌else◌}
 use Rattle.std.proofs.lemmas.Bool.{eqb-false}
-use Rattle.std.specs.Prelude.{if◌then◌else◌}
 use Rattle.record.specs.Limits.{is_lit}
 use Rattle.record.specs.Wanted.{Wanted}
 use Rattle.record.specs.Legal.{is_legal}

@@ -20,9 +20,8 @@ use Rattle.stored.proofs.Fields.{bytes_all}
 use Rattle.stored.proofs.OneForm.{stored_again, forms_apart}
 use Rattle.ours.specs.Board.{ours, bytes_written}
 use Rattle.demands.specs.Calls.{Call, run}
-use Rattle.demands.specs.History.{Event, Stage, steady, next_stage, marks_next}
-use Rattle.demands.specs.History.{no_streams, history, marks_after, burning_from, burning_seconds, stage_after}
-use Rattle.demands.specs.History.{lamp_with}
+use Rattle.demands.specs.History.{Event, Stage, steady, next_stage, marks_next, no_streams, history, marks_after}
+use Rattle.demands.specs.History.{burning_from, burning_seconds, stage_after, lamp_with}
 use Rattle.demands.specs.CountsSeconds.{Beginning, loads, IsClass1, start_marks, IsAccepted, run_of, history_of}
 use Rattle.demands.specs.BoardSwap.{LoadsAs, BoardSwap}
 use Rattle.demands.proofs.KeepsRunning.{over_front}

@@ -3,8 +3,7 @@
 -- leaves them so, an opening if they agree in that place's phase.
 --   AlikeFrom p d e c     the call c gives the same from d and from e, and leaves them the same but for place p
 -- Assumes nothing.
-use Rattle.std.proofs.Common.{arith, ℕ, ◌≡◌, refl, sym, ◌∙◌, true, false, List, length}
-use Rattle.std.proofs.Common.{◌==◌}
+use Rattle.std.proofs.Common.{arith, ℕ, ◌≡◌, refl, sym, ◌∙◌, true, false, List, length, ◌==◌}
 use Rattle.std.proofs.lemmas.Bool.{eqb-false}
 use Rattle.text.specs.Words.{over}
 use Rattle.record.specs.Legal.{is_legal}

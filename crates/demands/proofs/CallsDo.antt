@@ -7,10 +7,8 @@
 --   own_then, connection_left, served    the own part that it then leaves, the connection at a place, the record
 -- Assumes nothing.
 use Rattle.std.proofs.Common.{ℕ, ◌<◌, ◌≡◌, refl, sym, ap, subst, ◌∙◌, true, false, List, [], arith, length, map, set}
-use Rattle.std.proofs.Common.{◌==◌}
-use Rattle.std.proofs.Common.{eqb-true}
+use Rattle.std.proofs.Common.{◌==◌, eqb-true, if◌then◌else◌}
 use Rattle.std.proofs.lemmas.Bool.{eqb-false}
-use Rattle.std.specs.Prelude.{if◌then◌else◌}
 use Rattle.text.specs.Words.{over}
 use Rattle.text.specs.Rows.{first_of}
 use Rattle.text.proofs.Choices.{if_by}

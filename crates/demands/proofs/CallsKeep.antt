@@ -2,8 +2,7 @@
 -- does but time; and "the random number is kept until closing" (RULES, Connection): whatever call comes on a connection
 -- that is not closed, it is closed afterwards or has the number that it had, over lines and over time.
 -- Assumes nothing.
-use Rattle.std.proofs.Common.{ℕ, ◌≡◌, refl, sym, ◌∙◌, ne_eqb, ap, subst, List, inl, inr, arith, ◌==◌}
-use Rattle.std.proofs.Common.{eqb-true}
+use Rattle.std.proofs.Common.{ℕ, ◌≡◌, refl, sym, ◌∙◌, ne_eqb, ap, subst, List, inl, inr, arith, ◌==◌, eqb-true}
 use Rattle.text.proofs.Choices.{if_no, if_by, if_all}
 use Rattle.record.specs.Places.{connection_at, is_shut, lowest_shut}
 use Rattle.record.specs.declared.types.Device.{Device}

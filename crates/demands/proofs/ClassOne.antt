@@ -3,22 +3,20 @@
 -- way. No reply is longer than 103 bytes (RULES, Inputs), eight around a parameter of at most 95: only an input's
 -- name is longer, and a Class 1 set-up has none.
 -- Assumes nothing.
-use Rattle.std.proofs.Common.{ℕ, ◌≤◌, ◌<◌, ◌≡◌, refl, sym, ap, subst, ◌∙◌, Bool, true, false, ◌||◌, List, []}
-use Rattle.std.proofs.Common.{◌∷◌, ⊎_elim, arith, length, slice_index_or, length-append, ◌*◌, ◌+◌, ◌++◌}
-use Rattle.std.proofs.Common.{ltb-true, eqb-true, codes}
+use Rattle.std.proofs.Common.{ℕ, ◌≤◌, ◌<◌, ◌≡◌, refl, sym, ap, subst, ◌∙◌, Bool, true, false, ◌||◌, List, [], ◌∷◌}
+use Rattle.std.proofs.Common.{⊎_elim, arith, length, slice_index_or, length-append, ◌*◌, ◌+◌, ◌++◌, ltb-true, eqb-true}
+use Rattle.std.proofs.Common.{codes, Ok, Option, unwrap_or}
 use Rattle.std.proofs.lemmas.Bool.{false≢true, not-false}
 use Rattle.std.proofs.Math.Bool.{or-true}
 use Rattle.std.proofs.Math.ListN.{get_or-eq_default}
 use Prim.Native.Char.{code}
-use Rattle.std.specs.Prelude.{Ok, Option, unwrap_or}
 use Rattle.text.proofs.Orders.{le_or_lt}
 use Rattle.text.proofs.Scanning.{list_all_at}
 use Rattle.pjlink.specs.Bodies.{has_set, has_query}
 use Rattle.pjlink.specs.Commands.{body_of}
 use Rattle.pjlink.specs.declared.body.Body.{Body}
 use Rattle.pjlink.specs.declared.command.Command.{Command}
-use Rattle.pjlink.specs.declared.command.Command.TheVariants.{PowerSet}
-use Rattle.pjlink.specs.declared.command.Command.TheVariants.{Query}
+use Rattle.pjlink.specs.declared.command.Command.TheVariants.{PowerSet, Query}
 use Rattle.words.proofs.TextsTold.{name_long, info_long}
 use Rattle.pjlink.specs.Requests.{Request, request_of}
 use Rattle.pjlink.specs.Said.{Said, said_bytes, bytes_most, refused}

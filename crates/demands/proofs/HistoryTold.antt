@@ -4,9 +4,9 @@
 -- reply says anything else.
 --   IsNoted a c    so it is of the call c, where what he knew before agreed with the device
 -- Assumes nothing.
-use Rattle.std.proofs.Common.{ℕ, ◌+◌, ◌-◌, ◌≡◌, ap, ◌∙◌, Bool, true, false, List, [], ◌∷◌, ◌++◌, arith, length}
-use Rattle.std.proofs.Common.{drop, length-append, codes, refl, sym, subst, take, replicate, ◌==◌, eqb-true, eq-eqb}
-use Rattle.std.proofs.Common.{ne_eqb, ◌≤◌, ◌<◌, zero-add, add_assoc, slice_index_or}
+use Rattle.std.proofs.Common.{ℕ, ◌+◌, ◌-◌, ◌≡◌, ap, ◌∙◌, Bool, true, false, List, [], ◌∷◌, ◌++◌, arith, length, drop}
+use Rattle.std.proofs.Common.{length-append, codes, refl, sym, subst, take, replicate, ◌==◌, eqb-true, eq-eqb, ne_eqb}
+use Rattle.std.proofs.Common.{◌≤◌, ◌<◌, zero-add, add_assoc, slice_index_or, if◌then◌else◌, Ok}
 use Rattle.std.proofs.Math.Seq.{drop-append_seam, take-append_seam}
 use Rattle.text.proofs.Choices.{if_yes, both_left}
 use Rattle.pjlink.specs.declared.body.Body.TheVariants.{Powr}
@@ -16,7 +16,6 @@ use Rattle.device.proofs.PowerLines.{is_power_okay, power_line, power_line_read,
 use Rattle.demands.specs.History.{Event, switched, power_set, a_second, mark_switched, Stage, steady}
 use Rattle.demands.specs.History.{towards, next_stage, Streams, going_on_at, streams_after, seen, no_streams, history}
 use Rattle.demands.specs.History.{stage_from, marks_after, burning_from, burning_seconds, stage_after}
-use Rattle.std.specs.Prelude.{if◌then◌else◌, Ok}
 use Rattle.pjlink.specs.declared.command.Command.TheVariants.{PowerSet}
 use Rattle.pjlink.specs.Said.{okay}
 use Rattle.record.specs.Limits.{lamp_limit}
@@ -55,8 +54,7 @@ use Rattle.stored.specs.Loading.{started_with}
 use Rattle.stored.proofs.FormsLoad.{form_loads, form_marks, marked_form_loads, marked_form_marks, old_form_loads}
 use Rattle.stored.proofs.Marks.{started_with-replicate, slice_index_or-mark_room}
 use Rattle.demands.specs.CountsSeconds.{Beginning, sets_up, loads, loads_marked, loads_old, start_marks, begun_by}
-use Rattle.demands.specs.CountsSeconds.{IsAccepted}
-use Rattle.demands.specs.CountsSeconds.{run_of, history_of}
+use Rattle.demands.specs.CountsSeconds.{IsAccepted, run_of, history_of}
 
 module _ (a b c d : ℕ) (powr : is_body 1 (a ∷ b ∷ c ∷ d ∷ []) Powr ≡ true) (stream reply : List ℕ)
     (okay : is_power_okay reply ≡ true) where

@@ -4,7 +4,7 @@
 -- reply has at most 136 bytes, and a digest with a command's line at most 168: no more than what the calls ask for.
 -- Assumes nothing.
 use Rattle.std.proofs.Common.{ℕ, ◌≤◌, ◌≡◌, ap, List, [], arith, length, take, drop, length-append, length-drop, Bool}
-use Rattle.std.proofs.Common.{true, refl, ◌∙◌, not, ◌∷◌}
+use Rattle.std.proofs.Common.{true, refl, ◌∙◌, not, ◌∷◌, if◌then◌else◌}
 use Rattle.std.proofs.Math.Seq.{take-append_seam, drop-append_seam}
 use Rattle.text.specs.Words.{over}
 use Rattle.digest.proofs.Laws.{length-leading_digest}
@@ -27,7 +27,6 @@ use Rattle.ours.specs.Board.{lent_by, ours}
 use Rattle.demands.specs.Calls.{Call, number_of, after}
 use Rattle.demands.specs.KeepsRunning.{Inside, WroteInside, StaysInside, rows_of, set_up_rows, writer_rows, reader_rows}
 use Rattle.demands.specs.KeepsRunning.{greeting_rows, Untouched, WritesNothing, KeepsRunning}
-use Rattle.std.specs.Prelude.{if◌then◌else◌}
 use Rattle.text.specs.Rows.{◌when◌, first_of}
 use Rattle.text.specs.Scans.{same_by, itself}
 use Rattle.pjlink.specs.Forms.{erra_line, greeting_open, is_reply_form, head_body, reply_parameter}

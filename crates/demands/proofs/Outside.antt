@@ -4,12 +4,10 @@
 --   Outside w p s d         place p of the legal device d, which has the password w, stands so with the session s
 --   GoesOn w p s d c        so it is after the call c, with the session that is noted
 -- Assumes nothing.
-use Rattle.std.proofs.Common.{arith}
-use Rattle.std.proofs.Common.{ℕ, zero, suc, ◌≡◌, refl, sym, ap, subst, ◌∙◌, Bool, true, false, List, ◌++◌, take}
-use Rattle.std.proofs.Common.{length, slice_index_or, replicate, ◌==◌, eqb-true}
+use Rattle.std.proofs.Common.{arith, ℕ, zero, suc, ◌≡◌, refl, sym, ap, subst, ◌∙◌, Bool, true, false, List, ◌++◌, take}
+use Rattle.std.proofs.Common.{length, slice_index_or, replicate, ◌==◌, eqb-true, if◌then◌else◌}
 use Rattle.text.specs.Words.{over}
 use Rattle.std.proofs.lemmas.Bool.{false≢true, eqb-false}
-use Rattle.std.specs.Prelude.{if◌then◌else◌}
 use Rattle.text.proofs.Choices.{if_all}
 use Rattle.record.specs.Limits.{shut, places_count}
 use Rattle.record.specs.Legal.{is_legal}

@@ -14,8 +14,7 @@ use Prim.Native.Char.{code}
 use Rattle.text.proofs.Choices.{both_right, alike}
 use Rattle.words.specs.Bytes.{not_cr, no_cr}
 use Rattle.words.proofs.Characters.{no_cr_each}
-use Rattle.device.specs.Receiving.{is_led_by, Taken, taken_in}
-use Rattle.device.specs.Receiving.{set_up_password}
+use Rattle.device.specs.Receiving.{is_led_by, Taken, taken_in, set_up_password}
 use Rattle.demands.specs.Outsider.{first_line, Session, is_matched, RefusalAtMost, silence, refusal}
 use Rattle.text.proofs.Scanning.{list_all-append}
 use Rattle.pjlink.specs.Forms.{erra_line}

@@ -2,20 +2,17 @@
 -- but for his place, and each other call gives the same in both. What holds at the end of two such runs holds at
 -- every moment of them: what came before is two such runs, on any board.
 -- Assumes nothing.
-use Rattle.std.proofs.Common.{arith}
-use Rattle.std.proofs.Common.{ℕ, ◌≡◌, refl, Bool, true, false, not, List, ◌∷◌, ◌==◌, eqb-true, eq-eqb, zero}
-use Rattle.std.proofs.Common.{suc, [], take}
+use Rattle.std.proofs.Common.{arith, ℕ, ◌≡◌, refl, Bool, true, false, not, List, ◌∷◌, ◌==◌, eqb-true, eq-eqb, zero, suc}
+use Rattle.std.proofs.Common.{[], take, if◌then◌else◌}
 use Rattle.std.proofs.lemmas.Bool.{false≢true, eqb-false}
 use Rattle.text.proofs.Choices.{both_left, both, both_right}
-use Rattle.std.specs.Prelude.{if◌then◌else◌}
 use Rattle.record.specs.declared.types.Device.{Device}
 use Rattle.device.specs.Receiving.{set_up_password}
 use Rattle.ours.specs.Board.{ours, Board}
 use Rattle.demands.specs.Calls.{Call, receives, after, Gave, gave_by}
 use Rattle.demands.specs.Outsider.{Session, unopened, noted, is_matched, IsNeverMatched}
 use Rattle.demands.specs.Unheard.{Alike, same_call, other_bytes, AllAlike, no_calls, one_more, opens_none, phase_at}
-use Rattle.demands.specs.Unheard.{is_opening, QuietOnceApart, is_at_place, SameElsewhere, HeardAlike}
-use Rattle.demands.specs.Unheard.{Unheard}
+use Rattle.demands.specs.Unheard.{is_opening, QuietOnceApart, is_at_place, SameElsewhere, HeardAlike, Unheard}
 use Rattle.demands.proofs.CallsDo.{own_left, settings_stay}
 use Rattle.demands.proofs.CallsAlike.{alike_elsewhere}
 use Rattle.demands.proofs.CallsKeep.{others_untouched}

@@ -2,8 +2,7 @@
 -- premise of it; place 0 has failed in the one and is still awaited in the other, and what place 1 did is the same in
 -- both. And its premise about openings is needed.
 -- Assumes nothing.
-use Rattle.std.proofs.Common.{ℕ, ◌≡◌, true, false, List, ◌∷◌, refl, ap, ◌∙◌, [], arith, length}
-use Rattle.std.proofs.Common.{slice_index_or, codes}
+use Rattle.std.proofs.Common.{ℕ, ◌≡◌, true, false, List, ◌∷◌, refl, ap, ◌∙◌, [], arith, length, slice_index_or, codes}
 use Rattle.record.specs.declared.types.Device.{Device}
 use Rattle.device.specs.Receiving.{set_up_password}
 use Rattle.ours.specs.Board.{ours, reply, lent_by}

@@ -8,8 +8,7 @@
 -- Assumes nothing.
 use Rattle.std.proofs.lemmas.Grind.{common_steps}
 use Rattle.std.proofs.Common.{ℕ, ◌≤◌, ◌<◌, ◌≡◌, refl, sym, ap, subst, ◌∙◌, true, false, List, ◌++◌, arith, length, ◌^◌}
-use Rattle.std.proofs.Common.{Bool}
-use Rattle.std.specs.Prelude.{Ok}
+use Rattle.std.proofs.Common.{Bool, Ok}
 use Rattle.digest.specs.Hex.{leading_digest}
 use Rattle.pjlink.specs.Commands.{command_class, is_command, command_line}
 use Rattle.pjlink.specs.declared.command.Command.{Command}

@@ -14,9 +14,8 @@
 -- Assumes nothing.
 use Rattle.std.specs.Prelude.{ℕ, ◌≤◌, ◌≡◌, true, List, ◌++◌, length, if◌then◌else◌, nat_le, codes}
 use Rattle.text.specs.Words.{◌is◌}
-use Rattle.words.specs.Bytes.{◌at◌, no_cr}
+use Rattle.words.specs.Bytes.{◌at◌, no_cr, command_most}
 use Rattle.pjlink.specs.Forms.{head_body, command_parameter}
-use Rattle.words.specs.Bytes.{command_most}
 use Rattle.pjlink.specs.ClassOne.{is_command_form_1}
 use Rattle.pjlink.specs.ClassOneAsked.{request_of_1}
 use Rattle.pjlink.specs.Requests.{Request}

@@ -41,8 +41,7 @@ use Rattle.demands.specs.Calls.{Call, run}
 use Rattle.demands.specs.CallsDone.{Leaves}
 use Rattle.demands.specs.SpeaksPjlink.{BetweenLines}
 use Rattle.demands.specs.History.{Event, switched, a_second, mark_switched, no_streams, history, Stage, steady}
-use Rattle.demands.specs.History.{next_stage}
-use Rattle.demands.specs.History.{marks_after, burning_seconds, stage_after, stage_is_burning, lamp_with}
+use Rattle.demands.specs.History.{next_stage, marks_after, burning_seconds, stage_after, stage_is_burning, lamp_with}
 
 pub data Beginning : Type 0 where
   sets_up : Beginning

@@ -17,8 +17,7 @@
 --   Inside m r          a call that is lent the memory m stays in it, and changes no byte past its reply
 --   Untouched m r       it took nothing, replied nothing and wrote nothing
 -- Assumes nothing.
-use Rattle.std.specs.Prelude.{ℕ, ◌≤◌, ◌≡◌, Bool, true, false, not, ◌||◌, List, [], ◌∷◌, set}
-use Rattle.std.specs.Prelude.{length, drop, nat_lt, ◌==◌}
+use Rattle.std.specs.Prelude.{ℕ, ◌≤◌, ◌≡◌, Bool, true, false, not, ◌||◌, List, [], ◌∷◌, set, length, drop, nat_lt, ◌==◌}
 use Rattle.text.specs.Rows.{Row, ◌when◌, first_of}
 use Rattle.text.specs.Scans.{same_by, itself}
 use Rattle.pjlink.specs.Forms.{erra_line, greeting_open, is_reply_form, head_body, reply_parameter}

@@ -28,9 +28,8 @@ use Rattle.std.specs.Prelude.{ℕ, ◌≤◌, ◌<◌, ◌^◌, ◌≡◌, Bool,
 use Rattle.std.specs.Prelude.{if◌then◌else◌, nat_le, codes}
 use Rattle.digest.specs.Md5.{md5_of}
 use Rattle.digest.specs.Hex.{leading_digest}
-use Rattle.words.specs.Bytes.{no_cr}
+use Rattle.words.specs.Bytes.{no_cr, command_most}
 use Rattle.pjlink.specs.Forms.{erra_line}
-use Rattle.words.specs.Bytes.{command_most}
 use Rattle.pjlink.specs.Commands.{is_command, command_class, command_line}
 use Rattle.pjlink.specs.declared.body.Body.TheVariants.{Name}
 use Rattle.pjlink.specs.declared.command.Command.{Command}
@@ -50,8 +49,7 @@ use Rattle.device.specs.Answering.{Answered, line_answer, line_swallowed}
 use Rattle.device.specs.Receiving.{phase_start, set_up_password, is_led_by}
 use Rattle.device.specs.Calls.{longest_reply, reply_room, has_password}
 use Rattle.controller.specs.Writing.{command_room, led_by}
-use Rattle.controller.specs.Reading.{meaning, LineSays}
-use Rattle.controller.specs.Reading.{means_it, erra_said}
+use Rattle.controller.specs.Reading.{meaning, LineSays, means_it, erra_said}
 use Rattle.controller.specs.Greetings.{Exactly}
 use Rattle.demands.specs.Greeted.{greeted_on}
 use Rattle.ours.specs.Board.{Board, Lent, Wrote, reply, bytes_written}

@@ -8,8 +8,7 @@ use Rattle.pjlink.specs.Forms.{reply_parameter}
 use Rattle.record.specs.Limits.{volume_most}
 use Rattle.record.specs.Updates.{with_own, with_volumes}
 use Rattle.record.specs.declared.types.Device.{Device}
-use Rattle.controller.specs.Reading.{outcome_alone, read_reply}
-use Rattle.controller.specs.Reading.{disallowed}
+use Rattle.controller.specs.Reading.{outcome_alone, read_reply, disallowed}
 use Rattle.ours.specs.Board.{Board, ours, lent_by}
 use Rattle.demands.specs.OursBut.{but_receive, but_reader}
 

@@ -15,9 +15,8 @@ use Rattle.record.specs.declared.types.Device.{Device}
 use Rattle.stream.specs.Collecting.{empty_line}
 use Rattle.record.specs.Places.{connection_at, with_place}
 use Rattle.device.specs.Calls.{refused_by}
-use Rattle.controller.specs.Reading.{ReadAs, meaning, outcome_alone, read_reply}
-use Rattle.controller.specs.Reading.{Outcome}
-use Rattle.controller.specs.Reading.{means_it, erra_said, not_a_line, other_command, disallowed}
+use Rattle.controller.specs.Reading.{ReadAs, meaning, outcome_alone, read_reply, Outcome, means_it, erra_said}
+use Rattle.controller.specs.Reading.{not_a_line, other_command, disallowed}
 use Rattle.ours.specs.Board.{Board, Lent, ours, lent_by}
 use Rattle.record.specs.Given.{Given}
 use Rattle.demands.specs.OursBut.{but_receive, but_reader}

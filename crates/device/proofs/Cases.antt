@@ -1,10 +1,9 @@
 -- The calls, case by case: one law a call, and the equation of what it does.
 -- Assumes nothing.
-use Rattle.std.proofs.Common.{arith}
+use Rattle.std.proofs.Common.{arith, ℕ, ◌≤◌, ◌<◌, ◌≡◌, refl, ap, Bool, true, false, not, List, [], ◌∷◌, le-ltb}
+use Rattle.std.proofs.Common.{if◌then◌else◌}
 use Rattle.std.specs.List.{list_all}
-use Rattle.std.proofs.Common.{ℕ, ◌≤◌, ◌<◌, ◌≡◌, refl, ap, Bool, true, false, not, List, [], ◌∷◌, le-ltb}
 use Rattle.std.proofs.lemmas.Bool.{lt-leb, eqb-false, not-true}
-use Rattle.std.specs.Prelude.{if◌then◌else◌}
 use Rattle.text.specs.Rows.{Row, by_rows, NoneOf, is_numbered}
 use Rattle.text.proofs.ByRows.{rows_done}
 use Rattle.text.proofs.Choices.{if_yes, if_no, both_left, both_right}

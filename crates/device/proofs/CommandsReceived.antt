@@ -7,8 +7,7 @@
 --   swallowed_at d p n           the same of a command of a higher class: no reply, the connection open between lines
 -- Assumes nothing.
 use Rattle.std.proofs.Common.{ℕ, ◌+◌, ◌≤◌, ◌<◌, ◌≡◌, sym, ap, ◌∙◌, true, false, List, [], ◌∷◌, ◌++◌, append_assoc}
-use Rattle.std.proofs.Common.{arith, length, length-append, codes}
-use Rattle.std.specs.Prelude.{Ok}
+use Rattle.std.proofs.Common.{arith, length, length-append, codes, Ok}
 use Rattle.digest.specs.Hex.{leading_digest}
 use Rattle.digest.proofs.Laws.{length-leading_digest}
 use Rattle.pjlink.specs.Commands.{body_text, body_of, command_class, class_digit, is_command, command_text}

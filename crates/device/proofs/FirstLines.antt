@@ -1,9 +1,8 @@
 -- The first line on an awaiting connection between lines, as the bytes before its CR (RULES, Connection: "the first 32
 -- bytes are compared exactly with the lowercase hex digest .., and the line at most 167 bytes before CR").
 -- Assumes nothing.
-use Rattle.std.proofs.Common.{arith}
-use Rattle.std.proofs.Common.{ℕ, ◌≤◌, ◌≡◌, sym, ap, ◌∙◌, Bool, true, false, List, ◌∷◌, ◌++◌, ⊎_elim}
-use Rattle.std.proofs.Common.{length, nat_le, leb-true, le-leb}
+use Rattle.std.proofs.Common.{arith, ℕ, ◌≤◌, ◌≡◌, sym, ap, ◌∙◌, Bool, true, false, List, ◌∷◌, ◌++◌, ⊎_elim, length}
+use Rattle.std.proofs.Common.{nat_le, leb-true, le-leb}
 use Prim.Native.Char.{code}
 use Rattle.text.specs.Scans.{same_by, itself}
 use Rattle.text.proofs.Choices.{both, both_left, both_right}

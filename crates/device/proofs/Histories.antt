@@ -6,11 +6,9 @@
 --   Tells s o w r k e          that, the lamps and their marks kept, and what the connection e holds then
 -- Assumes nothing.
 use Rattle.std.proofs.Common.{ℕ, ◌+◌, ◌≡◌, refl, sym, ap, subst, ◌∙◌, Bool, true, false, List, [], ◌∷◌, ◌++◌}
-use Rattle.std.proofs.Common.{append_assoc, append-nil, arith, take, drop, take-append-drop, eqb-true}
-use Rattle.std.proofs.Common.{codes}
+use Rattle.std.proofs.Common.{append_assoc, append-nil, arith, take, drop, take-append-drop, eqb-true, codes, Ok}
 use Rattle.std.proofs.lemmas.Bool.{eqb-false}
 use Prim.Native.Char.{code}
-use Rattle.std.specs.Prelude.{Ok}
 use Rattle.pjlink.specs.Forms.{reply_line}
 use Rattle.pjlink.specs.declared.body.Body.TheVariants.{Powr}
 use Rattle.pjlink.specs.declared.command.Command.TheVariants.{PowerSet}

@@ -1,8 +1,7 @@
 -- A record that is not legal is the first row of each call's table: it is refused with 1 and comes back as it was. So
 -- no call changes whether a record is legal.
 -- Assumes nothing.
-use Rattle.std.proofs.Common.{arith}
-use Rattle.std.proofs.Common.{ℕ, ◌≡◌, ap, true, false, not, List}
+use Rattle.std.proofs.Common.{arith, ℕ, ◌≡◌, ap, true, false, not, List}
 use Rattle.text.proofs.Choices.{if_yes}
 use Rattle.record.specs.Legal.{is_legal}
 use Rattle.record.specs.declared.types.Device.{Device}

@@ -1,7 +1,6 @@
 -- The parts of receiving, case by case: a line's answer, what CR does, what is kept, and what a call takes in.
 -- Assumes nothing.
-use Rattle.std.proofs.Common.{arith}
-use Rattle.std.proofs.Common.{ℕ, ◌+◌, ◌≤◌, ◌≡◌, ap, ◌∙◌, true, false, List, drop, ◌==◌, eq-eqb, ne_eqb}
+use Rattle.std.proofs.Common.{arith, ℕ, ◌+◌, ◌≤◌, ◌≡◌, ap, ◌∙◌, true, false, List, drop, ◌==◌, eq-eqb, ne_eqb}
 use Rattle.text.proofs.Choices.{if_yes, if_no, if_by}
 use Rattle.pjlink.specs.Forms.{is_command_form}
 use Rattle.record.specs.Limits.{awaiting, opened, failed}

@@ -4,8 +4,7 @@
 --   line_result d p a n    the result at place p where the line is answered a and n bytes are taken
 -- Assumes nothing.
 use Rattle.std.specs.List.{list_all}
-use Rattle.std.proofs.Common.{ℕ, ◌+◌, ◌≤◌, ◌<◌, ◌≡◌, ap, true, false, List, ◌∷◌, ◌++◌, arith, length, ◌==◌}
-use Rattle.std.proofs.Common.{codes}
+use Rattle.std.proofs.Common.{ℕ, ◌+◌, ◌≤◌, ◌<◌, ◌≡◌, ap, true, false, List, ◌∷◌, ◌++◌, arith, length, ◌==◌, codes}
 use Prim.Native.Char.{code}
 use Rattle.digest.specs.Hex.{leading_digest}
 use Rattle.words.specs.Bytes.{not_cr, no_cr, command_most}

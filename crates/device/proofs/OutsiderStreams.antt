@@ -3,9 +3,8 @@
 -- (demand 2: "a first line without the matching digest yields the refusal line only").
 -- Assumes nothing.
 use Rattle.std.proofs.Common.{ℕ, ◌≤◌, ◌<◌, ◌≡◌, refl, sym, ap, ◌∙◌, ◌+◌, Bool, true, List, [], ◌∷◌, arith, drop}
-use Rattle.std.proofs.Common.{drop_of_length-le}
+use Rattle.std.proofs.Common.{drop_of_length-le, if◌then◌else◌}
 use Prim.Native.Char.{code}
-use Rattle.std.specs.Prelude.{if◌then◌else◌}
 use Rattle.text.proofs.Choices.{if_yes}
 use Rattle.pjlink.specs.Forms.{erra_line}
 use Rattle.record.specs.Limits.{places_count, awaiting, failed}

@@ -7,12 +7,10 @@
 --   Outcome s o r m k      the request r, a POWR answered m, leaves the own part k of o: only a set that is answered OK
 --                          is carried out
 -- Assumes nothing.
-use Rattle.std.proofs.Common.{arith}
-use Rattle.std.proofs.Common.{ℕ, ◌≡◌, refl, sym, ap, ◌∙◌, Bool, true, false, not, ◌&&◌, List, [], ◌∷◌, ◌++◌}
-use Rattle.std.proofs.Common.{codes}
+use Rattle.std.proofs.Common.{arith, ℕ, ◌≡◌, refl, sym, ap, ◌∙◌, Bool, true, false, not, ◌&&◌, List, [], ◌∷◌, ◌++◌}
+use Rattle.std.proofs.Common.{codes, Ok, Err}
 use Rattle.std.proofs.lemmas.Bool.{false≢true}
 use Prim.Native.Char.{code}
-use Rattle.std.specs.Prelude.{Ok, Err}
 use Rattle.text.specs.Scans.{same_by}
 use Rattle.text.proofs.Choices.{if_by}
 use Rattle.words.specs.Bytes.{◌at◌, upper_of}

@@ -1,9 +1,8 @@
 -- Receiving changes nothing of the settings, the lamps and their marks, the fault mark and the error digits; opening
 -- and closing change nothing but the connection; and each leaves every other place's connection as it was.
 -- Assumes nothing.
-use Rattle.std.proofs.Common.{arith}
+use Rattle.std.proofs.Common.{arith, ℕ, ◌≡◌, refl, List}
 use Rattle.std.proofs.lemmas.Grind.{common_steps}
-use Rattle.std.proofs.Common.{ℕ, ◌≡◌, refl, List}
 use Rattle.record.specs.declared.types.Settings.{Settings}
 use Rattle.record.specs.declared.types.Own.{Own}
 use Rattle.record.specs.declared.types.Line.{Line}

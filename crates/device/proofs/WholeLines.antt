@@ -4,9 +4,8 @@
 -- Assumes nothing.
 use Rattle.std.specs.List.{list_all}
 use Rattle.std.proofs.Common.{ℕ, ◌+◌, ◌≤◌, ◌<◌, ◌≡◌, refl, ap, ◌∙◌, true, List, [], ◌∷◌, ◌++◌, map, arith, length, take}
-use Rattle.std.proofs.Common.{drop, length-append, take_at, drop_at, le-leb, codes}
+use Rattle.std.proofs.Common.{drop, length-append, take_at, drop_at, le-leb, codes, Ok}
 use Prim.Native.Char.{code}
-use Rattle.std.specs.Prelude.{Ok}
 use Rattle.text.specs.Scans.{itself}
 use Rattle.text.proofs.Choices.{both, if_yes, if_no}
 use Rattle.text.proofs.Scanning.{list_all-append}
@@ -37,8 +36,7 @@ use Rattle.stream.proofs.LinesCollected.{empty_is_none, line_gathered}
 use Rattle.meaning.specs.Meaning.{answer_for, after_request}
 use Rattle.meaning.proofs.ClassKnown.{class_low, class_high}
 use Rattle.device.specs.Answering.{line_asks, command_answer, line_swallowed, line_answer}
-use Rattle.device.specs.Receiving.{served_line, is_match, digest_long, set_up_password, line_ended}
-use Rattle.device.specs.Receiving.{taken_in}
+use Rattle.device.specs.Receiving.{served_line, is_match, digest_long, set_up_password, line_ended, taken_in}
 use Rattle.device.proofs.LineCases.{ended_open, ended_match}
 use Rattle.record.specs.Facts.{IsSettings}
 use Rattle.record.proofs.FactsTold.{settings_is}

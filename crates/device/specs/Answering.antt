@@ -8,8 +8,7 @@
 use Rattle.std.specs.Prelude.{ℕ, List, [], if◌then◌else◌}
 use Rattle.words.specs.Bytes.{◌at◌}
 use Rattle.pjlink.specs.Forms.{is_command_form, line_class, head_body, command_parameter, reply_line}
-use Rattle.pjlink.specs.Requests.{request_of}
-use Rattle.pjlink.specs.Requests.{Request}
+use Rattle.pjlink.specs.Requests.{request_of, Request}
 use Rattle.pjlink.specs.Said.{said_bytes}
 use Rattle.record.specs.declared.types.Settings.{Settings}
 use Rattle.record.specs.declared.types.Own.{Own}

@@ -1,9 +1,7 @@
 -- What an event leaves of the places (RULES, Floor log): the one that a log drives may change, and every other is as
 -- much later as the event lets pass.
 -- Assumes nothing.
-use Rattle.std.proofs.Common.{arith}
-use Rattle.std.proofs.Common.{ℕ, ◌≡◌, refl, sym, ap, subst, ◌∙◌, Bool, List, [], ◌∷◌, map, slice_index_or}
-use Rattle.std.proofs.Common.{set}
+use Rattle.std.proofs.Common.{arith, ℕ, ◌≡◌, refl, sym, ap, subst, ◌∙◌, Bool, List, [], ◌∷◌, map, slice_index_or, set}
 use Rattle.std.proofs.lemmas.List.{set-get_or}
 use Rattle.record.specs.Places.{no_connection, connection_at}
 use Rattle.record.specs.Record.{blank}

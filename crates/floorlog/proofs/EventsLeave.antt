@@ -2,8 +2,7 @@
 -- back as it was, with 1 where the line has a form.
 --   illegal_number e    the number of the event e on a record that is not legal
 -- Assumes nothing.
-use Rattle.std.proofs.Common.{arith}
-use Rattle.std.proofs.Common.{◌≡◌, refl, sym, ap, false, ℕ, List}
+use Rattle.std.proofs.Common.{arith, ◌≡◌, refl, sym, ap, false, ℕ, List}
 use Rattle.text.specs.Words.{over}
 use Rattle.record.specs.Legal.{is_legal}
 use Rattle.record.specs.declared.types.Device.{Device}
@@ -12,8 +11,7 @@ use Rattle.clock.proofs.TimeLegal.{passed_legality}
 use Rattle.clock.proofs.Untouched.{passed_leaves}
 use Rattle.device.specs.Calls.{refused_by, reply_room, Result as Played}
 use Rattle.device.proofs.Untouched.{receiving_keeps_settings, opening_keeps_settings, closing_keeps_settings}
-use Rattle.device.proofs.Illegal.{received_illegal, closed_illegal}
-use Rattle.device.proofs.Illegal.{received_legality, opened_legality, closed_legality}
+use Rattle.device.proofs.Illegal.{received_illegal, closed_illegal, received_legality, opened_legality, closed_legality}
 use Rattle.record.specs.declared.refusal.Refusal.TheVariants.{NotLegal}
 use Rattle.floorlog.specs.declared.line.Says.{Says}
 use Rattle.floorlog.specs.declared.line.Says.TheVariants.{NoSuch}

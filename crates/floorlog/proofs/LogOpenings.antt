@@ -1,8 +1,7 @@
 -- Opening in a log, case by case (RULES, Places): refused with 1, or with 5 where the place that the log drives is not
 -- closed; else the device's own opening.
 -- Assumes nothing.
-use Rattle.std.proofs.Common.{arith}
-use Rattle.std.proofs.Common.{ℕ, ◌≡◌, ap, ◌∙◌, true, false, not}
+use Rattle.std.proofs.Common.{arith, ℕ, ◌≡◌, ap, ◌∙◌, true, false, not}
 use Rattle.text.proofs.Choices.{if_yes, if_no}
 use Rattle.record.specs.Legal.{is_legal}
 use Rattle.record.specs.Places.{connection_at, is_shut}

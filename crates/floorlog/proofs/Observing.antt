@@ -2,9 +2,8 @@
 --   Underway .. s log old now left n at     n lines of the log are observed from s on: `at` is the observer, and the
 --                                           sink has `now`
 -- Assumes nothing.
-use Rattle.std.proofs.Common.{None, Some, IfSome, append-nil, refl, Result, Any, ℕ, suc}
-use Rattle.std.proofs.Common.{◌+◌, ◌≤◌, ◌≡◌, sym, ap, subst, ◌∙◌, List, [], ◌∷◌, ◌++◌, append_assoc, map, take}
-use Rattle.std.proofs.Common.{arith, length}
+use Rattle.std.proofs.Common.{None, Some, IfSome, append-nil, refl, Result, Any, ℕ, suc, ◌+◌, ◌≤◌, ◌≡◌, sym, ap, subst}
+use Rattle.std.proofs.Common.{◌∙◌, List, [], ◌∷◌, ◌++◌, append_assoc, map, take, arith, length}
 use Rattle.std.specs.declared.option.Option.{Option}
 use Rattle.std.specs.declared.io.Error.{Error}
 use Rattle.std.specs.Io.KnownBytes.{Keeps, Appends, Consumes}

@@ -1,9 +1,8 @@
 -- No line lets more seconds pass than a number of 32 bits can tell.
 --   Within says      so it is of what a line says
 -- Assumes nothing.
-use Rattle.std.proofs.Common.{arith}
+use Rattle.std.proofs.Common.{arith, ℕ, ◌≤◌, ◌&&◌, List, length, nat_le, ◌==◌}
 use Rattle.std.specs.List.{list_all}
-use Rattle.std.proofs.Common.{ℕ, ◌≤◌, ◌&&◌, List, length, nat_le, ◌==◌}
 use Rattle.text.proofs.Choices.{if_all}
 use Rattle.digest.specs.Hex.{is_hex_digit}
 use Rattle.words.specs.Bytes.{no_cr}

@@ -1,9 +1,8 @@
 -- A form that loads gives a legal record, and one that does not has a number of its own; what is read of a file is what
 -- all of it comes to.
 -- Assumes nothing.
-use Rattle.std.proofs.Common.{◌≡◌, ℕ, ◌≤◌, true, List, [], ◌++◌, take, Option, Some, None, Result, Ok, Err}
-use Rattle.std.proofs.Common.{sym, ap, subst, ◌∙◌, arith}
-use Rattle.std.specs.Prelude.{IfSome, option_map}
+use Rattle.std.proofs.Common.{◌≡◌, ℕ, ◌≤◌, true, List, [], ◌++◌, take, Option, Some, None, Result, Ok, Err, sym, ap}
+use Rattle.std.proofs.Common.{subst, ◌∙◌, arith, IfSome, option_map}
 use Rattle.record.specs.Legal.{is_legal}
 use Rattle.record.specs.Given.{Given}
 use Rattle.record.specs.declared.types.Device.{Device}

@@ -3,10 +3,9 @@
 -- Assumes nothing.
 use Rattle.std.specs.List.{list_all}
 use Rattle.std.proofs.Common.{ℕ, ◌+◌, ◌*◌, ◌/◌, ◌<◌, ◌≤◌, ◌≡◌, refl, sym, ap, ◌∙◌, Bool, true, false, not, ◌||◌, arith}
-use Rattle.std.proofs.Common.{length, slice_index_or, take, leb-true, le-leb}
+use Rattle.std.proofs.Common.{length, slice_index_or, take, leb-true, le-leb, Option, unwrap_or, Ok, Err}
 use Rattle.std.proofs.lemmas.Bool.{false≢true, eqb-false}
 use Rattle.std.proofs.Math.Bool.{or-true}
-use Rattle.std.specs.Prelude.{Option, unwrap_or, Ok, Err}
 use Rattle.text.proofs.Scanning.{list_all_by_place}
 use Rattle.words.specs.Bytes.{no_cr}
 use Rattle.words.specs.Inputs.{is_input}

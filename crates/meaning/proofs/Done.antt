@@ -2,8 +2,7 @@
 -- a legal projector legal.
 --   Keeps o k      k has the lamps and their marks, the fault mark and the errors of o
 -- Assumes nothing.
-use Rattle.std.proofs.Common.{ℕ, ◌≤◌, ◌<◌, ◌≡◌, refl, Bool, true, false, not, ◌&&◌, arith, ◌==◌}
-use Rattle.std.specs.Prelude.{Ok, Err}
+use Rattle.std.proofs.Common.{ℕ, ◌≤◌, ◌<◌, ◌≡◌, refl, Bool, true, false, not, ◌&&◌, arith, ◌==◌, Ok, Err}
 use Rattle.text.proofs.Choices.{if_all}
 use Rattle.pjlink.specs.declared.command.Half.{Half}
 use Rattle.pjlink.specs.declared.command.Volume.{Volume}
@@ -24,8 +23,7 @@ use Rattle.record.proofs.PowerSeen.{written}
 use Rattle.record.proofs.FactsTold.{own_is, settings_is}
 use Rattle.meaning.specs.Rules.{is_out_of_parameter}
 use Rattle.meaning.specs.Meaning.{level_after, after_power, after_mute, after_step, request_answer, carried_out}
-use Rattle.meaning.specs.Meaning.{answer_for}
-use Rattle.meaning.specs.Meaning.{after_request}
+use Rattle.meaning.specs.Meaning.{answer_for, after_request}
 use Rattle.meaning.proofs.Cases.{refused_or_passed, done_by}
 
 pub record Keeps (o k : Own) : Type 0 where

@@ -1,8 +1,7 @@
 -- INPT: the input that was set is the one that is then answered, and only an input that a line can carry is listed.
 -- Assumes nothing.
-use Rattle.std.proofs.Common.{◌≡◌, refl, sym, ap, ◌∙◌, true, arith, ltb-true}
+use Rattle.std.proofs.Common.{◌≡◌, refl, sym, ap, ◌∙◌, true, arith, ltb-true, Ok}
 use Rattle.std.proofs.lemmas.Bool.{not-false}
-use Rattle.std.specs.Prelude.{Ok}
 use Rattle.words.specs.Inputs.{is_input}
 use Rattle.words.specs.declared.input.Input.{Input}
 use Rattle.pjlink.specs.declared.body.Body.TheVariants.{Inpt}

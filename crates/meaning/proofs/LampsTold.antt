@@ -2,8 +2,7 @@
 -- or power-on (RULES, Lamps).
 -- Assumes nothing.
 use Rattle.std.proofs.Common.{ℕ, ◌<◌, ◌≤◌, ◌≡◌, false, ◌&&◌, arith, length, slice_index_or, length-take, get_or-take}
-use Rattle.std.proofs.Common.{ne_eqb}
-use Rattle.std.specs.Prelude.{Ok}
+use Rattle.std.proofs.Common.{ne_eqb, Ok}
 use Rattle.pjlink.specs.declared.body.Body.TheVariants.{Lamp}
 use Rattle.pjlink.specs.declared.command.Command.TheVariants.{Query}
 use Rattle.pjlink.specs.Said.{lamps_are}

@@ -1,7 +1,6 @@
 -- The power that is answered is that of the record.
 -- Assumes nothing.
-use Rattle.std.proofs.Common.{arith}
-use Rattle.std.proofs.Common.{◌≡◌, ap, ◌∙◌}
+use Rattle.std.proofs.Common.{arith, ◌≡◌, ap, ◌∙◌}
 use Rattle.words.specs.Powers.{power_code}
 use Rattle.record.specs.Facts.{IsOwn}
 use Rattle.record.specs.Views.{power_number, power_seen}

@@ -2,9 +2,7 @@
 -- them, POWR 1 when off and POWR 0 when on, and each such set does.
 --   PowerTurn s o r m k      what the request r, answered m, leaves of them in k
 -- Assumes nothing.
-use Rattle.std.proofs.Common.{arith}
-use Rattle.std.proofs.Common.{◌≡◌, refl, ◌∙◌, Bool, true, false, eq-eqb, ne_eqb}
-use Rattle.std.specs.Prelude.{Ok}
+use Rattle.std.proofs.Common.{arith, ◌≡◌, refl, ◌∙◌, Bool, true, false, eq-eqb, ne_eqb, Ok}
 use Rattle.text.proofs.Choices.{if_yes, if_no}
 use Rattle.pjlink.specs.declared.command.Half.{Half}
 use Rattle.pjlink.specs.declared.command.Command.TheVariants.{PowerSet}

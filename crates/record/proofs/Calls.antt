@@ -1,8 +1,7 @@
 -- The calls by their cases: what each gives by the tests that decide it, and what holds of a result because it holds in
 -- every case.
 -- Assumes nothing.
-use Rattle.std.proofs.Common.{ℕ, ◌<◌, ◌≡◌, Bool, true, false, List, length, set, arith}
-use Rattle.std.specs.Prelude.{Some, None, Result, Ok, Err}
+use Rattle.std.proofs.Common.{ℕ, ◌<◌, ◌≡◌, Bool, true, false, List, length, set, arith, Some, None, Result, Ok, Err}
 use Rattle.text.proofs.Choices.{if_by}
 use Rattle.record.specs.Limits.{off}
 use Rattle.record.specs.Wanted.{Wanted}

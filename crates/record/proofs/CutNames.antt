@@ -1,9 +1,8 @@
 -- Names that are lent one after the other, each of its length (RULES, Class 2).
 --   CutTo ns s at i      a loop has passed i names, to the place `at`
 -- Assumes nothing.
-use Rattle.std.proofs.Common.{ℕ, suc, ◌+◌, ◌≤◌, ◌<◌, ◌≡◌, refl, ap, Bool, true, ◌&&◌, List, [], ◌∷◌}
-use Rattle.std.proofs.Common.{arith, add-one, length, slice_index_or, take, drop, drop_of_length-le}
-use Rattle.std.proofs.Common.{drop-cons, drop-drop, ◌==◌}
+use Rattle.std.proofs.Common.{ℕ, suc, ◌+◌, ◌≤◌, ◌<◌, ◌≡◌, refl, ap, Bool, true, ◌&&◌, List, [], ◌∷◌, arith, add-one}
+use Rattle.std.proofs.Common.{length, slice_index_or, take, drop, drop_of_length-le, drop-cons, drop-drop, ◌==◌}
 use Rattle.std.specs.List.{list_all}
 use Rattle.text.proofs.Scanning.{Gathered}
 use Rattle.words.specs.Texts.{is_input_name}

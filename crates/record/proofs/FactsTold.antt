@@ -1,8 +1,7 @@
 -- The tests of legality say the facts.
 -- Assumes nothing.
-use Rattle.std.proofs.Common.{ℕ, arith, Bool, IsTrue, List, ◌↔◌}
+use Rattle.std.proofs.Common.{ℕ, arith, Bool, IsTrue, List, ◌↔◌, All}
 use Rattle.std.proofs.Math.Seq.{length-take-le}
-use Rattle.std.specs.Prelude.{All}
 use Rattle.std.specs.List.{list_all}
 use Rattle.record.specs.Legal.{is_zero, fills_room, fills_name_room, is_names, is_rest_of_2, is_settings, is_own}
 use Rattle.record.specs.Legal.{is_connection, is_connections, is_legal}

@@ -1,7 +1,6 @@
 -- What a call in place gives, as a host is told of it: one outcome, one record.
 -- Assumes nothing.
-use Rattle.std.proofs.Common.{◌≡◌, arith}
-use Rattle.std.specs.Prelude.{Result, OnErr}
+use Rattle.std.proofs.Common.{◌≡◌, arith, Result, OnErr}
 use Rattle.record.specs.Given.{Given, gives, left_by, given_by}
 use Rattle.record.specs.Refusals.{outcome_number}
 use Rattle.record.specs.declared.refusal.Refusal.{Refusal}

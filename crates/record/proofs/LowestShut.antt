@@ -1,9 +1,8 @@
 -- The lowest closed place (RULES, Places): the loop's law, and that what opening takes is closed, with no closed place
 -- below it.
 -- Assumes nothing.
-use Rattle.std.proofs.Common.{ℕ, zero, suc, ◌+◌, ◌≤◌, ◌<◌, ◌≡◌, refl, ap, ◌∙◌, true, false, List, [], ◌∷◌}
-use Rattle.std.proofs.Common.{arith, length, slice_index_or, drop, drop_of_length-le, drop-cons, ◌==◌}
-use Rattle.std.specs.Prelude.{if◌then◌else◌}
+use Rattle.std.proofs.Common.{ℕ, zero, suc, ◌+◌, ◌≤◌, ◌<◌, ◌≡◌, refl, ap, ◌∙◌, true, false, List, [], ◌∷◌, arith}
+use Rattle.std.proofs.Common.{length, slice_index_or, drop, drop_of_length-le, drop-cons, ◌==◌, if◌then◌else◌}
 use Rattle.text.proofs.Choices.{if_yes}
 use Rattle.record.specs.Limits.{shut}
 use Rattle.record.specs.Places.{no_connection, is_shut, lowest_shut}

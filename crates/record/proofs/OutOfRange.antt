@@ -3,9 +3,8 @@
 --   Stepped k l      the settings l stand at the places from k on, to the last
 -- Assumes nothing.
 use Rattle.std.specs.List.{list_all}
-use Rattle.std.proofs.Common.{ℕ, suc, ◌-◌, ◌≤◌, ◌<◌, ◌≡◌, refl, sym, ap, ◌∙◌, Bool, true, false, List, [], ◌∷◌}
-use Rattle.std.proofs.Common.{arith, slice_index_or}
-use Rattle.std.specs.Prelude.{not, Option, Some, None}
+use Rattle.std.proofs.Common.{ℕ, suc, ◌-◌, ◌≤◌, ◌<◌, ◌≡◌, refl, sym, ap, ◌∙◌, Bool, true, false, List, [], ◌∷◌, arith}
+use Rattle.std.proofs.Common.{slice_index_or, not, Option, Some, None}
 use Rattle.text.proofs.Choices.{if_by}
 use Rattle.record.specs.Wanted.{Wanted}
 use Rattle.record.specs.SetUp.{settings_in_order, is_setting_in_range, is_in_range, is_set_up, first_failing}

@@ -1,7 +1,6 @@
 -- The lamps of a record fit their room, and their marks, by what is used of it.
 -- Assumes nothing.
-use Rattle.std.proofs.Common.{◌≡◌, ℕ, ◌≤◌, Bool, true, List, length, arith, ◌&&◌}
-use Rattle.std.specs.Prelude.{is_some, not, ◌==◌, ◌||◌}
+use Rattle.std.proofs.Common.{◌≡◌, ℕ, ◌≤◌, Bool, true, List, length, arith, ◌&&◌, is_some, not, ◌==◌, ◌||◌}
 use Rattle.std.proofs.lemmas.Grind.{common_steps}
 use Rattle.std.specs.List.{list_all}
 use Rattle.text.specs.Rooms.{used_part}

@@ -7,8 +7,7 @@ use Rattle.words.specs.Texts.{is_text, is_input_name}
 use Rattle.words.proofs.Refusals.{refusal_long}
 use Rattle.words.proofs.WithinLength.{text_within, text_longer}
 use Rattle.record.specs.Limits.{input_room, lamps_most, errors_count, error_most, is_class_number, only_in_2}
-use Rattle.record.specs.Rules.{at_most, each_pair, is_new_input, is_inputs, is_lamp, is_lamps, is_error_list}
-use Rattle.record.specs.Rules.{are_names}
+use Rattle.record.specs.Rules.{at_most, each_pair, is_new_input, is_inputs, is_lamp, is_lamps, is_error_list, are_names}
 
 module _ (ds : List ℕ) (h : is_error_list ds ≡ true) where
   pub errors_long : length ds ≡ errors_count

@@ -1,10 +1,9 @@
 -- Set-ups of The lines that settle it and of its own examples, inputs, passwords and classes on both sides of the
 -- rules for inputs, passwords and Class 2, and which setting was refused, computed.
 -- Assumes nothing.
-use Rattle.std.proofs.Common.{ℕ, ◌≡◌, refl, true, false, List, [], ◌∷◌, map, take, replicate, codes}
+use Rattle.std.proofs.Common.{ℕ, ◌≡◌, refl, true, false, List, [], ◌∷◌, map, take, replicate, codes, Option, Some, None}
 use Prim.Native.String.{String}
 use Prim.Native.Char.{code}
-use Rattle.std.specs.Prelude.{Option, Some, None}
 use Rattle.record.specs.Limits.{lamp_limit}
 use Rattle.record.specs.Wanted.{Wanted, wanted_of, wanted_of_2, names_in}
 use Rattle.record.specs.Record.{start_device}

@@ -1,7 +1,6 @@
 -- What legal settings tell, and how they are shown (the crates above never open `is_settings`).
 -- Assumes nothing.
-use Rattle.std.proofs.Common.{ℕ, ◌+◌, ◌*◌, ◌≤◌, ◌<◌, ◌≡◌, sym, ◌∙◌, true, List, arith, length}
-use Rattle.std.proofs.Common.{take, get_or-take}
+use Rattle.std.proofs.Common.{ℕ, ◌+◌, ◌*◌, ◌≤◌, ◌<◌, ◌≡◌, sym, ◌∙◌, true, List, arith, length, take, get_or-take}
 use Rattle.words.specs.Bytes.{◌at◌}
 use Rattle.words.specs.Texts.{is_info, password_most}
 use Rattle.words.specs.Inputs.{is_input_text}
@@ -13,8 +12,7 @@ use Rattle.record.specs.declared.types.Settings.{Settings}
 use Rattle.words.proofs.TextsTold.{password_long}
 use Rattle.record.specs.Facts.{IsSettings}
 use Rattle.record.proofs.Kept.{kept_length}
-use Rattle.record.proofs.Rules.{inputs_class, inputs_some}
-use Rattle.record.proofs.Rules.{text_wider}
+use Rattle.record.proofs.Rules.{inputs_class, inputs_some, text_wider}
 use Rattle.record.proofs.InputsTold.{input_named, inputs_differ}
 
 -- the bytes of a text

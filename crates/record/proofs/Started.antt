@@ -16,9 +16,8 @@ use Rattle.record.specs.Places.{connection_at}
 use Rattle.record.specs.SetUp.{is_setting_in_range, is_set_up, set_up}
 use Rattle.record.specs.Given.{set_up_given}
 use Rattle.record.specs.declared.types.Setting.{Setting}
-use Rattle.record.specs.declared.types.Setting.TheVariants.{Name, Maker, Model, Other, Password, Inputs}
-use Rattle.record.specs.declared.types.Setting.TheVariants.{Lamps, WarmUp, Cooling, Serial, Version}
-use Rattle.record.specs.declared.types.Setting.TheVariants.{Names}
+use Rattle.record.specs.declared.types.Setting.TheVariants.{Name, Maker, Model, Other, Password, Inputs, Lamps, WarmUp}
+use Rattle.record.specs.declared.types.Setting.TheVariants.{Cooling, Serial, Version, Names}
 use Rattle.words.proofs.TextsTold.{name_long, info_long, password_long}
 use Rattle.record.proofs.Rules.{inputs_some, inputs_few, each_pair-is_new_input, lamps_few}
 use Rattle.record.proofs.Rules.{only_in_2_within, names_many, names_each, text_most}

@@ -2,18 +2,16 @@
 --   window           128 spaces, and 128 zeros after them
 -- Assumes nothing.
 use Rattle.std.specs.List.{list_all}
-use Rattle.std.proofs.Common.{◌≡◌, ℕ, ◌+◌, ◌-◌, ◌<◌, ◌≤◌, min, List, ◌++◌, length, take, drop}
-use Rattle.std.proofs.Common.{replicate, ◌∙◌, arith, false, not, ◌&&◌, slice_index_or, nat_le}
-use Rattle.std.specs.Prelude.{◌==◌, is_some}
+use Rattle.std.proofs.Common.{◌≡◌, ℕ, ◌+◌, ◌-◌, ◌<◌, ◌≤◌, min, List, ◌++◌, length, take, drop, replicate, ◌∙◌, arith}
+use Rattle.std.proofs.Common.{false, not, ◌&&◌, slice_index_or, nat_le, ◌==◌, is_some}
 use Rattle.std.proofs.lemmas.List.{get_or-take, get_or-drop, get_or-replicate, get_or_append_left, length-replicate}
-use Rattle.std.proofs.Math.Seq.{get_or-append_right}
+use Rattle.std.proofs.Math.Seq.{get_or-append_right, length-take-le}
 use Rattle.words.specs.Texts.{is_text_byte, is_text, is_refusal}
 use Rattle.words.proofs.WithinLength.{text_within, text_longer}
 use Rattle.text.specs.Rooms.{used_part}
 use Rattle.record.specs.Legal.{is_zero, fills_room}
 use Rattle.record.proofs.Rules.{empty_text}
 use Rattle.text.proofs.RoomsTold.{used_many, used_blank, used_not_blank, is_some_used, holds_used}
-use Rattle.std.proofs.Math.Seq.{length-take-le}
 use Rattle.std.proofs.lemmas.Grind.{common_steps}
 
 abbrev spaces : List ℕ

@@ -18,15 +18,12 @@
 --   is_legal d                the record is
 -- Assumes nothing.
 use Rattle.std.specs.List.{list_all}
-use Rattle.std.specs.Prelude.{ℕ, ◌*◌, Bool, not, ◌&&◌, ◌||◌, List, length, if◌then◌else◌, nat_le, nat_lt}
-use Rattle.std.specs.Prelude.{◌==◌}
-use Rattle.words.specs.Bytes.{no_cr}
+use Rattle.std.specs.Prelude.{ℕ, ◌*◌, Bool, not, ◌&&◌, ◌||◌, List, length, if◌then◌else◌, nat_le, nat_lt, ◌==◌}
+use Rattle.words.specs.Bytes.{no_cr, command_most}
 use Rattle.words.specs.Texts.{is_text, is_name, is_info, info_most, input_name_most}
-use Rattle.words.specs.Bytes.{command_most}
 use Rattle.text.specs.Rooms.{used_part, holds}
-use Rattle.record.specs.Limits.{text_room, listed_most, input_room, lamps_most, line_room, age_end}
-use Rattle.record.specs.Limits.{places_count, only_in_2, cooling, warming}
-use Rattle.record.specs.Limits.{shut, awaiting, opened, failed, is_power, is_phase}
+use Rattle.record.specs.Limits.{text_room, listed_most, input_room, lamps_most, line_room, age_end, places_count}
+use Rattle.record.specs.Limits.{only_in_2, cooling, warming, shut, awaiting, opened, failed, is_power, is_phase}
 use Rattle.record.specs.Rules.{is_set_up_password, is_inputs, is_lamps, is_marks, is_stretch, is_error_list, is_volume}
 use Rattle.record.specs.declared.types.Text.{Text}
 use Rattle.record.specs.declared.types.InputName.{InputName}

@@ -5,9 +5,8 @@
 -- Assumes nothing.
 use Rattle.std.specs.Prelude.{ℕ, ◌<◌, ◌≡◌, Bool, true, false, Option, Some, None}
 use Rattle.record.specs.declared.types.Setting.{Setting}
-use Rattle.record.specs.declared.types.Setting.TheVariants.{Name, Maker, Model, Other, Password, Inputs}
-use Rattle.record.specs.declared.types.Setting.TheVariants.{Lamps, WarmUp, Cooling, Serial, Version}
-use Rattle.record.specs.declared.types.Setting.TheVariants.{Names}
+use Rattle.record.specs.declared.types.Setting.TheVariants.{Name, Maker, Model, Other, Password, Inputs, Lamps, WarmUp}
+use Rattle.record.specs.declared.types.Setting.TheVariants.{Cooling, Serial, Version, Names}
 
 abbrev pub setting_place : Setting → ℕ
 setting_place Name = 1

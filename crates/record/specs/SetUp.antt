@@ -23,9 +23,8 @@ use Rattle.record.specs.declared.types.Device.{Device}
 use Rattle.record.specs.declared.set_up_error.SetUpError.{SetUpError}
 use Rattle.record.specs.declared.set_up_error.SetUpError.TheVariants.{OutOfRange, ShortPassword}
 use Rattle.record.specs.declared.types.Setting.{Setting}
-use Rattle.record.specs.declared.types.Setting.TheVariants.{Name, Maker, Model, Other, Password, Inputs}
-use Rattle.record.specs.declared.types.Setting.TheVariants.{Lamps, WarmUp, Cooling, Serial, Version}
-use Rattle.record.specs.declared.types.Setting.TheVariants.{Names}
+use Rattle.record.specs.declared.types.Setting.TheVariants.{Name, Maker, Model, Other, Password, Inputs, Lamps, WarmUp}
+use Rattle.record.specs.declared.types.Setting.TheVariants.{Cooling, Serial, Version, Names}
 
 abbrev pub settings_in_order : List Setting
 settings_in_order =

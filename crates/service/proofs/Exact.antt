@@ -1,7 +1,6 @@
 -- A difference of two numbers, by their order.
 -- Assumes nothing.
-use Rattle.std.proofs.Common.{◌≡◌, ◌↔◌, arith}
-use Rattle.std.specs.Prelude.{pos, ◌+ℤ◌, ◌<ℤ◌}
+use Rattle.std.proofs.Common.{◌≡◌, ◌↔◌, arith, pos, ◌+ℤ◌, ◌<ℤ◌}
 use Rattle.std.proofs.lemmas.Int.{ints}
 use Rattle.service.specs.Differences.{difference_of, IsBackwards}
 use Rattle.service.specs.declared.Reading.{Reading}

@@ -1,8 +1,7 @@
 -- At most one answer holds of readings, and it leaves one list of differences.
 -- Assumes nothing.
-use Rattle.std.proofs.Common.{ℕ, ◌≡◌, ◌<◌, ◌≤◌, List, Option, Some, None, Result, Ok, Err, refl}
-use Rattle.std.proofs.Common.{ap, arith, ⊎_elim}
-use Rattle.std.specs.Prelude.{ℤ, All}
+use Rattle.std.proofs.Common.{ℕ, ◌≡◌, ◌<◌, ◌≤◌, List, Option, Some, None, Result, Ok, Err, refl, ap, arith, ⊎_elim, ℤ}
+use Rattle.std.proofs.Common.{All}
 use Rattle.text.proofs.Orders.{le_or_lt}
 use Rattle.service.specs.Differences.{IsForwards}
 use Rattle.service.specs.ComparedHolds.{IsFirstBack, ComparedHolds, ComparedAs}

@@ -20,8 +20,7 @@ use Rattle.text.proofs.Bases.{Digits}
 use Rattle.numbers.specs.HighestFirst.{highest_first, number_in}
 use Rattle.numbers.proofs.HighestFirst.{length-highest_first, highest_back, highest_one_form}
 use Rattle.stored.specs.Form.{section, text_section, texts_bytes, seconds_bytes}
-use Rattle.stored.specs.Reading.{Field, ◌giving◌, given, byte, bytes, number, section_of, text, texts}
-use Rattle.stored.specs.Reading.{seconds_in}
+use Rattle.stored.specs.Reading.{Field, ◌giving◌, given, byte, bytes, number, section_of, text, texts, seconds_in}
 use Rattle.text.proofs.InTurn.{length-each_in_turn}
 use Rattle.record.specs.Limits.{lamps_most}
 use Rattle.record.specs.Record.{in_room}

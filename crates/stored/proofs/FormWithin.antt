@@ -5,8 +5,7 @@
 -- Assumes nothing.
 use Rattle.std.proofs.Common.{◌≡◌, ℕ, zero, suc, ◌+◌, ◌*◌, ◌/◌, ◌<◌, ◌≤◌, Bool, true, false, List, [], ◌∷◌, ◌++◌}
 use Rattle.std.proofs.Common.{length, take, drop, Some, refl, ap, ◌∙◌, sym, arith, if◌then◌else◌, nat_lt, ◌==◌}
-use Rattle.std.proofs.Common.{length-append, length-drop, length-take-le, le-ltb, ltb-true, ltb-false}
-use Rattle.std.proofs.Common.{take-append-drop}
+use Rattle.std.proofs.Common.{length-append, length-drop, length-take-le, le-ltb, ltb-true, ltb-false, take-append-drop}
 use Rattle.std.proofs.lemmas.Grind.{common_steps}
 use Rattle.std.proofs.lemmas.List.{take_all, take-append-le, drop-append-le}
 use Rattle.text.proofs.Choices.{if_no}
@@ -15,8 +14,7 @@ use Rattle.record.specs.Record.{blank}
 use Rattle.stored.specs.Form.{form_version}
 use Rattle.stored.specs.Reading.{Field, field_and_then, ◌giving◌, given, byte, bytes, number, section_of, text, texts}
 use Rattle.stored.specs.Reading.{class_alone, texts_of_2, class_part, class_in, marks_of, FormSaid, form}
-use Rattle.stored.specs.Loading.{is_other_version}
-use Rattle.stored.specs.Loading.{loaded_from}
+use Rattle.stored.specs.Loading.{is_other_version, loaded_from}
 use Rattle.stored.proofs.Fields.{Bytes, rest_bytes}
 
 pub record ReadWithin {A : Type 0} (k : ℕ) (P : A → Type 0) (r : Field A) (s : List ℕ) : Type 0 where

@@ -25,8 +25,7 @@ use Rattle.record.proofs.Started.{inputs_halved}
 use Rattle.stored.specs.Form.{form_version, old_version, text_section, seconds_bytes, mark_byte, marks_section}
 use Rattle.stored.specs.Form.{texts_bytes, texts_in_class_2, class_part_text, form_with, version_form}
 use Rattle.stored.specs.Reading.{given, byte, number, section_of, text, texts, seconds_in, ClassPart, class_alone}
-use Rattle.stored.specs.Reading.{texts_of_2}
-use Rattle.stored.specs.Reading.{class_part, class_in, marks_of, FormSaid, form}
+use Rattle.stored.specs.Reading.{texts_of_2, class_part, class_in, marks_of, FormSaid, form}
 use Rattle.stored.proofs.Fields.{if_form, section_counted, IsForm, given_form, form_then, form_as, byte_form}
 use Rattle.stored.proofs.Fields.{section_form, text_form, number_form, texts_form, Begins, begins_then, byte_begins}
 use Rattle.stored.proofs.Fields.{text_begins, inputs_begin, number_begins, texts_begin, reading, ended}

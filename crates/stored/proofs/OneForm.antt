@@ -3,9 +3,8 @@
 -- the same, each lamp enabled; and no two byte strings of one version load as one record.
 -- Assumes nothing.
 use Rattle.std.proofs.Common.{ℕ, ◌≡◌, true, ◌==◌, List, [], ◌∷◌, length, map, replicate, sym, ap, ◌∙◌, arith}
-use Rattle.std.proofs.Common.{append-nil}
+use Rattle.std.proofs.Common.{append-nil, if◌then◌else◌}
 use Rattle.std.proofs.lemmas.List.{length-map}
-use Rattle.std.specs.Prelude.{if◌then◌else◌}
 use Rattle.words.specs.Bytes.{◌at◌}
 use Rattle.record.specs.Wanted.{Wanted}
 use Rattle.record.specs.declared.types.Device.{Device}

@@ -23,8 +23,7 @@ use Rattle.stored.specs.Reading.{FormSaid, form}
 use Rattle.stored.specs.Told.{loading_told}
 use Rattle.stored.specs.declared.error.LoadError.{LoadError}
 use Rattle.stored.specs.Loading.{is_other_version, ends_early, leaves_more, said_by_form, said_in, settings_in}
-use Rattle.stored.specs.Loading.{mark_bytes_in}
-use Rattle.stored.specs.Loading.{marks_read, mark_room, are_marks, started_with, load_rows, loaded_from}
+use Rattle.stored.specs.Loading.{mark_bytes_in, marks_read, mark_room, are_marks, started_with, load_rows, loaded_from}
 use Rattle.stored.proofs.Marks.{marks_are}
 use Rattle.stored.proofs.Grammar.{nothing, form_read}
 

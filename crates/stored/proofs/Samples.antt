@@ -2,10 +2,9 @@
 -- name in Japanese; stored and loaded by computing, and refused with each number of the reader.
 -- Assumes nothing.
 use Rattle.std.proofs.Common.{ℕ, ◌+◌, ◌-◌, ◌*◌, ◌≡◌, Bool, true, false, List, [], ◌∷◌, ◌++◌, length, map, take, drop}
-use Rattle.std.proofs.Common.{replicate, refl, codes}
+use Rattle.std.proofs.Common.{replicate, refl, codes, if◌then◌else◌}
 use Prim.Native.String.{String}
 use Prim.Native.Char.{code}
-use Rattle.std.specs.Prelude.{if◌then◌else◌}
 use Rattle.text.specs.Words.{◌from◌to◌}
 use Rattle.numbers.specs.Computing.{computing as number-computing}
 use Rattle.record.specs.Limits.{lamp_limit}

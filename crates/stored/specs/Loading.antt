@@ -16,10 +16,9 @@
 --   load_rows s               when a load is refused, and with which number
 --   loaded_from s             refused with the blank record, or the set-up of the settings in s with the marks in s
 -- Assumes nothing.
-use Rattle.std.specs.Prelude.{ℕ, Bool, true, false, not, ◌&&◌, List, [], ◌∷◌}
+use Rattle.std.specs.Prelude.{ℕ, Bool, true, false, not, ◌&&◌, List, [], ◌∷◌, map, length, Option, Some, None}
+use Rattle.std.specs.Prelude.{if◌then◌else◌, ◌==◌}
 use Rattle.std.specs.List.{list_all}
-use Rattle.std.specs.Prelude.{map, length}
-use Rattle.std.specs.Prelude.{Option, Some, None, if◌then◌else◌, ◌==◌}
 use Rattle.text.specs.Rooms.{filled_room}
 use Rattle.text.specs.Rows.{Row, ◌when◌, by_rows}
 use Rattle.record.specs.Limits.{lamps_most}

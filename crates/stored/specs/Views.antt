@@ -4,8 +4,7 @@
 --   class_lent c              the class that set-up is lent, with what it has
 --   said_of f                 what a form says
 -- Assumes nothing.
-use Rattle.std.specs.Prelude.{ℕ, ◌/◌, List, length, replicate, if◌then◌else◌}
-use Rattle.std.specs.Prelude.{Option, Some, None, ◌==◌}
+use Rattle.std.specs.Prelude.{ℕ, ◌/◌, List, length, replicate, if◌then◌else◌, Option, Some, None, ◌==◌}
 use Rattle.std.specs.Borrow.{Bor}
 use Rattle.record.specs.Wanted.{wanted_in, counted_in}
 use Rattle.setup.specs.Lent.{class_number, serial_of, version_of, names_of}

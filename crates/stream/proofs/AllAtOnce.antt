@@ -2,12 +2,11 @@
 -- after the other.
 -- Assumes nothing.
 use Rattle.std.proofs.Common.{ℕ, suc, ◌+◌, ◌≤◌, ◌<◌, ◌≡◌, refl, sym, ap, ◌∙◌, Bool, true, false, List, [], ◌∷◌, ⊎_elim}
-use Rattle.std.proofs.Common.{add-zero, add-one, arith, length, take, set, nat_lt, ◌==◌, le-leb, leb-true}
-use Rattle.std.proofs.Common.{leb-false}
+use Rattle.std.proofs.Common.{add-zero, add-one, arith, length, take, set, nat_lt, ◌==◌, le-leb, leb-true, leb-false}
+use Rattle.std.proofs.Common.{if◌then◌else◌}
 use Rattle.std.proofs.lemmas.Bool.{lt-leb}
 use Rattle.std.proofs.Math.Seq.{sets}
 use mathlib.Core.List.{foldl}
-use Rattle.std.specs.Prelude.{if◌then◌else◌}
 use Rattle.text.proofs.Choices.{if_yes, if_no, if_by}
 use Rattle.text.proofs.Orders.{le_or_lt}
 use Rattle.stream.specs.Places.{index_after, index_of}

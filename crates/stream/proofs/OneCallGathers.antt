@@ -1,8 +1,7 @@
 -- A machine that keeps its line in its state takes in one call what it gathers.
 -- Assumes nothing.
-use Rattle.std.proofs.Common.{arith}
+use Rattle.std.proofs.Common.{arith, ◌≡◌, true, List, ◌∷◌, ◌++◌, length, ℕ, ◌+◌}
 use Rattle.std.specs.List.{list_all}
-use Rattle.std.proofs.Common.{◌≡◌, true, List, ◌∷◌, ◌++◌, length, ℕ, ◌+◌}
 use mathlib.Core.List.{foldl}
 use Prim.Native.Char.{code}
 use Rattle.record.specs.declared.types.Line.{Line}

@@ -11,8 +11,7 @@ use Rattle.std.proofs.Math.Seq.{take-length, take-append-add}
 use mathlib.Core.List.{foldl}
 use Rattle.text.proofs.Choices.{if_yes, if_by, both_right}
 use Rattle.stream.specs.Machine.{Out, Took, without_reply, reply_then, took_bytes, one_step, run_over, one_call}
-use Rattle.stream.specs.Machine.{handed_rest}
-use Rattle.stream.specs.Machine.{handed_part, handed_parts, stream_of}
+use Rattle.stream.specs.Machine.{handed_rest, handed_part, handed_parts, stream_of}
 use Rattle.stream.proofs.UpToTheEnd.{not_end}
 use Rattle.stream.proofs.OneCallGathers.{call_by}
 

@@ -7,10 +7,9 @@
 -- Assumes nothing.
 use Rattle.std.specs.List.{list_all}
 use Rattle.std.proofs.Common.{ℕ, ◌+◌, ◌≤◌, ◌≡◌, refl, sym, ap, ◌∙◌, Bool, true, false, not, List, [], ◌∷◌, ◌++◌, arith}
-use Rattle.std.proofs.Common.{length, length-append, ◌==◌, eqb-true, eq-eqb}
+use Rattle.std.proofs.Common.{length, length-append, ◌==◌, eqb-true, eq-eqb, if◌then◌else◌}
 use Rattle.std.proofs.lemmas.Bool.{false≢true, eqb-false, not-true}
 use mathlib.Core.List.{foldl}
-use Rattle.std.specs.Prelude.{if◌then◌else◌}
 use Rattle.text.proofs.Choices.{if_yes, if_no, if_by, both, both_left, both_right}
 use Rattle.stream.specs.Machine.{UpTo, one_later, up_to}
 

@@ -1,15 +1,13 @@
 -- One event of a watched log, by what is seen of it: what is told of a lamp is what demand 3's history has of it.
 -- Assumes nothing.
-use Rattle.std.proofs.Common.{ℕ, zero, suc, ◌+◌, ◌≤◌, ◌≡◌, refl, Bool, false, not, ◌&&◌}
-use Rattle.std.proofs.Common.{List, ◌++◌, arith, slice_index_or, replicate, nat_lt, ◌==◌, le-ltb}
-use Rattle.std.specs.Prelude.{if◌then◌else◌}
+use Rattle.std.proofs.Common.{ℕ, zero, suc, ◌+◌, ◌≤◌, ◌≡◌, refl, Bool, false, not, ◌&&◌, List, ◌++◌, arith}
+use Rattle.std.proofs.Common.{slice_index_or, replicate, nat_lt, ◌==◌, le-ltb, if◌then◌else◌}
 use Rattle.record.specs.Wanted.{Wanted}
 use Rattle.demands.specs.History.{Event, switched, a_second}
 use Rattle.demands.specs.History.{Stage, next_stage, stage_is_burning, stage_from, marks_after}
 use Rattle.stretches.specs.Stretches.{Stretch, stretch_if, is_lit_then, seconds_lit_from}
 use Rattle.stretches.proofs.Joined.{joined, since_none, joined-append, ends_here, cooling_dim}
-use Rattle.stretches.proofs.Joined.{stage_is_burning-stage_from}
-use Rattle.stretches.proofs.Joined.{seconds_lit_from-append}
+use Rattle.stretches.proofs.Joined.{stage_is_burning-stage_from, seconds_lit_from-append}
 use Rattle.stretches.proofs.EventsSeen.{Seen, nothing, time, power, mark}
 
 -- a second counts for one exactly if it is lit

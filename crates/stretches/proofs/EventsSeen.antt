@@ -23,16 +23,14 @@ use Rattle.floorlog.specs.Events.{opens, receives, passes, closes, no_such}
 use Rattle.floorlog.specs.Doing.{log_place}
 use Rattle.floorlog.proofs.LogOpenings.{log_opened_again, log_opened_closed}
 use Rattle.ours.specs.Board.{ours}
-use Rattle.demands.specs.Calls.{Call, after, run}
-use Rattle.demands.specs.Calls.{opens as opens_at, receives as receivesAt, passes as passesBy, closes as closes_at}
-use Rattle.demands.specs.Calls.{enables}
+use Rattle.demands.specs.Calls.{Call, after, run, opens as opens_at, receives as receivesAt, passes as passesBy}
+use Rattle.demands.specs.Calls.{closes as closes_at, enables}
 use Rattle.demands.specs.History.{Event, switched, a_second, mark_switched, Streams, seen, Stage, steady}
 use Rattle.demands.specs.History.{history, streams_after}
 use Rattle.demands.proofs.Agrees.{Then, agrees_none, power_of, Agrees}
 use Rattle.demands.proofs.HistoryTold.{noted, one_or_none}
 use Rattle.watch.specs.Marking.{FloorEvent, logged, marked, done_by, seconds_by}
-use Rattle.watch.proofs.DoneSpelt.{done_opening, done_receiving, done_passing, done_closing, done_nothing}
-use Rattle.watch.proofs.DoneSpelt.{done_marking}
+use Rattle.watch.proofs.DoneSpelt.{done_opening, done_receiving, done_passing, done_closing, done_nothing, done_marking}
 use Rattle.stretches.specs.LogTold.{room_lent, calls_by}
 
 pub data Seen (g : Stage) (n : ℕ) : List Event → Type 0 where

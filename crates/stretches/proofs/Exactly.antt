@@ -1,8 +1,7 @@
 -- A second lies in a stretch exactly if it is lit.
 -- Assumes nothing.
-use Rattle.std.proofs.Common.{ℕ, suc, ◌-◌, ◌≤◌, ◌<◌, ◌≡◌, refl, ap, ◌∙◌, Bool, true, false, ◌&&◌, ◌||◌, List, []}
-use Rattle.std.proofs.Common.{◌∷◌, ◌++◌, arith, slice_index_or, nat_le, nat_lt, le-ltb}
-use Rattle.std.specs.Prelude.{if◌then◌else◌}
+use Rattle.std.proofs.Common.{ℕ, suc, ◌-◌, ◌≤◌, ◌<◌, ◌≡◌, refl, ap, ◌∙◌, Bool, true, false, ◌&&◌, ◌||◌, List, [], ◌∷◌}
+use Rattle.std.proofs.Common.{◌++◌, arith, slice_index_or, nat_le, nat_lt, le-ltb, if◌then◌else◌}
 use Rattle.stretches.specs.Stretches.{Stretch, stretch_if, stretches_from, stretches_of, is_in}
 
 -- by the side of t on which i lies

@@ -1,11 +1,9 @@
 -- The lengths of the stretches add up to the lit seconds, and these are what demand 3 counts as burning.
 -- Assumes nothing.
-use Rattle.std.proofs.Common.{ℕ, suc, ◌+◌, ◌-◌, ◌≤◌, ◌≡◌, refl, ◌∙◌, Bool, true, false, List, [], ◌∷◌, ◌++◌}
-use Rattle.std.proofs.Common.{arith}
-use Rattle.std.specs.Prelude.{if◌then◌else◌}
+use Rattle.std.proofs.Common.{ℕ, suc, ◌+◌, ◌-◌, ◌≤◌, ◌≡◌, refl, ◌∙◌, Bool, true, false, List, [], ◌∷◌, ◌++◌, arith}
+use Rattle.std.proofs.Common.{if◌then◌else◌}
 use Rattle.record.specs.Wanted.{Wanted}
-use Rattle.demands.specs.History.{marks_next, Event, Stage, next_stage}
-use Rattle.demands.specs.History.{burning_from}
+use Rattle.demands.specs.History.{marks_next, Event, Stage, next_stage, burning_from}
 use Rattle.demands.specs.CountsSeconds.{count_set}
 use Rattle.stretches.specs.Stretches.{Stretch, stretches_from, stretches_of, lengths_of, seconds_lit_from}
 

@@ -10,12 +10,8 @@ use Rattle.record.proofs.Calls.{set_up_in_range}
 use Rattle.record.proofs.Started.{started_legal, set_up_started}
 use Rattle.stored.proofs.Results.{accepted_legal}
 use Rattle.ours.specs.Board.{ours}
-use Rattle.demands.specs.History.{Event, Streams}
-use Rattle.demands.specs.History.{history}
-use Rattle.demands.specs.History.{Stage, stage_is_burning, stage_from, marks_after}
-use Rattle.demands.specs.CountsSeconds.{Beginning, start_marks, begun_by}
-use Rattle.demands.specs.CountsSeconds.{IsAccepted}
-use Rattle.demands.specs.CountsSeconds.{history_of}
+use Rattle.demands.specs.History.{Event, Streams, history, Stage, stage_is_burning, stage_from, marks_after}
+use Rattle.demands.specs.CountsSeconds.{Beginning, start_marks, begun_by, IsAccepted, history_of}
 use Rattle.demands.proofs.Agrees.{Agrees, lit_shown, Then}
 use Rattle.demands.proofs.HistoryTold.{begun_agrees}
 use Rattle.watch.specs.Marking.{FloorEvent, done_by, seconds_by}

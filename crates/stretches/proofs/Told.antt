@@ -1,7 +1,6 @@
 -- What the stretches of a lamp tell, over any history.
 -- Assumes nothing.
-use Rattle.std.proofs.Common.{arith}
-use Rattle.std.proofs.Common.{ℕ, Bool, List}
+use Rattle.std.proofs.Common.{arith, ℕ, Bool, List}
 use Rattle.record.specs.Wanted.{Wanted}
 use Rattle.demands.specs.History.{Event}
 use Rattle.stretches.specs.Stretches.{seconds_lit, stretches_of, StretchesTell}

@@ -1,7 +1,6 @@
 -- What is told of a lamp, by what comes: the end of the log, or an event and the rest.
 -- Assumes nothing.
-use Rattle.std.proofs.Common.{arith}
-use Rattle.std.proofs.Common.{ℕ, ◌≡◌, refl, ap, ◌∙◌, Bool, ◌&&◌, List, [], ◌∷◌, ◌++◌}
+use Rattle.std.proofs.Common.{arith, ℕ, ◌≡◌, refl, ap, ◌∙◌, Bool, ◌&&◌, List, [], ◌∷◌, ◌++◌}
 use Rattle.watch.specs.Marking.{FloorEvent}
 use Rattle.watch.specs.Watching.{Watching, is_burning_in, is_long, dark_with, watched_on}
 use Rattle.watch.specs.Telling.{Telling, telling_if}

@@ -11,13 +11,11 @@
 --   lengths_of ss                 their lengths, added up
 --   StretchesTell w ms k es ss    what is promised of the stretches of the lamp at place k
 -- Assumes nothing.
-use Rattle.std.specs.Prelude.{ℕ, suc, ◌+◌, ◌-◌, ◌≤◌, ◌<◌, ◌≡◌, Bool, true, false, ◌&&◌, ◌||◌}
-use Rattle.std.specs.Prelude.{List, [], ◌∷◌, ◌++◌}
+use Rattle.std.specs.Prelude.{ℕ, suc, ◌+◌, ◌-◌, ◌≤◌, ◌<◌, ◌≡◌, Bool, true, false, ◌&&◌, ◌||◌, List, [], ◌∷◌, ◌++◌}
 use Rattle.std.specs.Prelude.{if◌then◌else◌, nat_le, nat_lt, ◌==◌, slice_index_or}
 use Rattle.record.specs.Wanted.{Wanted}
 use Rattle.demands.specs.History.{Event, switched, a_second, mark_switched, Stage, steady, next_stage, marks_next}
-use Rattle.demands.specs.History.{burnt_in}
-use Rattle.demands.specs.History.{burning_seconds}
+use Rattle.demands.specs.History.{burnt_in, burning_seconds}
 
 abbrev pub is_lit_then : Stage → List Bool → ℕ → Bool
 is_lit_then g ms k = burnt_in g ms k a_second == 1

@@ -1,8 +1,7 @@
 -- A log has no more lines than bytes, and no line longer than it.
 -- Assumes nothing.
-use Rattle.std.proofs.Common.{Any, ◌⊎◌, ℕ, suc, ◌+◌, ◌≤◌, Bool, List, []}
-use Rattle.std.proofs.Common.{◌∷◌, ◌++◌, arith, ⊎_elim, length, length-append}
-use Rattle.std.specs.Prelude.{if◌then◌else◌}
+use Rattle.std.proofs.Common.{Any, ◌⊎◌, ℕ, suc, ◌+◌, ◌≤◌, Bool, List, [], ◌∷◌, ◌++◌, arith, ⊎_elim, length}
+use Rattle.std.proofs.Common.{length-append, if◌then◌else◌}
 use Rattle.text.specs.Words.{◌is◌}
 use Rattle.text.proofs.Choices.{if_all}
 use Rattle.textio.specs.Lines.{lines_from, lines_of, count_most, HasEndlessLine, IsTooLong}

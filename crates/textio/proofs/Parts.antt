@@ -3,12 +3,11 @@
 use Rattle.std.proofs.lemmas.Grind.{common_steps}
 use Rattle.std.proofs.Common.{All, Any, ◌≢◌, None, Some, IfSome, ℕ, zero, suc, ◌+◌, ◌<◌, ◌≤◌, ◌≡◌, refl, sym, ap, subst}
 use Rattle.std.proofs.Common.{◌∙◌, Bool, true, false, List, [], ◌∷◌, ◌++◌, append-nil, append_assoc, arith, length}
-use Rattle.std.proofs.Common.{take, length-append, length-take, ne_eqb}
+use Rattle.std.proofs.Common.{take, length-append, length-take, ne_eqb, if◌then◌else◌}
 use Rattle.std.specs.declared.option.Option.{Option}
 use Rattle.std.specs.Io.KnownBytes.{Keeps, Consumes, IsAtEnd}
 use Rattle.std.proofs.KnownBytes.{Consumes-nil, Consumes-kept, Consumes-trans}
 use Rattle.std.proofs.lemmas.List.Elements.{All-nil, All-head, All-tail, All-append}
-use Rattle.std.specs.Prelude.{if◌then◌else◌}
 use Rattle.text.specs.Words.{◌is◌}
 use Rattle.text.proofs.Choices.{if_no}
 use Rattle.textio.specs.Lines.{lines_from, lines_of, count_most, HasEndlessLine}

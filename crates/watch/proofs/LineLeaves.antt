@@ -13,8 +13,7 @@ use Rattle.floorlog.specs.Told.{Drives}
 use Rattle.floorlog.proofs.Driven.{none_pass, itself_kept, did_drives}
 use Rattle.floorlog.proofs.EventsLeave.{event_result-settings, did_legality}
 use Rattle.floorlog.proofs.EventSeconds.{event_seconds}
-use Rattle.watch.specs.Marking.{FloorEvent, logged, marked, done_by, seconds_by}
-use Rattle.watch.specs.Marking.{floor_event}
+use Rattle.watch.specs.Marking.{FloorEvent, logged, marked, done_by, seconds_by, floor_event}
 
 module _ (d : Device) where
   pub done_settings : (e : FloorEvent) → (done_by d e).settings ≡ d.settings

@@ -1,10 +1,7 @@
 -- What a line says of a mark, case by case; and the seconds of a line, whatever its text.
 -- Assumes nothing.
-use Rattle.std.proofs.Common.{arith}
-use Rattle.std.proofs.Common.{ℕ, ◌-◌, ◌≤◌, ◌<◌, ◌≡◌, Bool, ◌&&◌, List, [], length, nat_le}
-use Rattle.std.proofs.Common.{ne_eqb}
+use Rattle.std.proofs.Common.{arith, ℕ, ◌-◌, ◌≤◌, ◌<◌, ◌≡◌, Bool, ◌&&◌, List, [], length, nat_le, ne_eqb, if◌then◌else◌}
 use Prim.Native.Char.{code}
-use Rattle.std.specs.Prelude.{if◌then◌else◌}
 use Rattle.text.specs.Words.{◌is◌}
 use Rattle.words.specs.Bytes.{◌at◌}
 use Rattle.floorlog.specs.declared.line.Says.{Says}

@@ -1,8 +1,7 @@
 -- One line of a log that is watched, by what the functions that play it give.
 -- Assumes nothing.
-use Rattle.std.proofs.Common.{ℕ, ◌+◌, ◌-◌, ◌^◌, ◌<◌, ◌≡◌, ap, ◌∙◌, Bool, true, List, []}
-use Rattle.std.proofs.Common.{arith, slice_index_or}
-use Rattle.std.specs.Prelude.{if◌then◌else◌}
+use Rattle.std.proofs.Common.{ℕ, ◌+◌, ◌-◌, ◌^◌, ◌<◌, ◌≡◌, ap, ◌∙◌, Bool, true, List, [], arith, slice_index_or}
+use Rattle.std.proofs.Common.{if◌then◌else◌}
 use Rattle.record.specs.declared.types.Device.{Device}
 use Rattle.floorlog.specs.declared.line.Says.{Says}
 use Rattle.floorlog.specs.Lines.{line_said}

@@ -2,8 +2,7 @@
 -- Assumes nothing.
 use Rattle.std.specs.List.{list_all}
 use Rattle.std.proofs.Common.{ℕ, zero, suc, ◌+◌, ◌-◌, ◌^◌, ◌≤◌, ◌<◌, ◌≡◌, refl, sym, subst, Bool, true, false, not}
-use Rattle.std.proofs.Common.{◌&&◌, List, [], ◌∷◌, arith, slice_index_or, nat_le, leb-true, le-leb}
-use Rattle.std.specs.Prelude.{if◌then◌else◌}
+use Rattle.std.proofs.Common.{◌&&◌, List, [], ◌∷◌, arith, slice_index_or, nat_le, leb-true, le-leb, if◌then◌else◌}
 use Rattle.text.proofs.Choices.{if_yes, if_no, if_all, both, both_left, both_right}
 use Rattle.text.proofs.Scanning.{list_all_by_place}
 use Rattle.record.specs.declared.types.Device.{Device}

@@ -2,11 +2,9 @@
 -- for which two characters stand, and no other.
 -- Assumes nothing.
 use Rattle.std.proofs.lemmas.Grind.{common_steps}
-use Rattle.std.proofs.Common.{ℕ, ◌≡◌, sym, ap, ◌∙◌, true, [], ◌∷◌, arith}
-use Rattle.std.specs.Prelude.{Some, None}
+use Rattle.std.proofs.Common.{ℕ, ◌≡◌, sym, ap, ◌∙◌, true, [], ◌∷◌, arith, Some, None}
 use Rattle.text.proofs.Choices.{if_yes}
-use Rattle.words.specs.Sources.{type_of, same_input, character, number_character}
-use Rattle.words.specs.Sources.{input_for}
+use Rattle.words.specs.Sources.{type_of, same_input, character, number_character, input_for}
 use Rattle.words.specs.Inputs.{is_input_text, source_named, input_named, read_input, is_input, source_digit, input_text}
 use Rattle.words.specs.declared.input.Source.{Source}
 use Rattle.words.specs.declared.input.Input.{Input}

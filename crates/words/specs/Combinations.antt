@@ -14,8 +14,7 @@ use Prim.Native.Char.{Char, code}
 use Rattle.text.specs.Words.{◌is◌}
 use Rattle.text.proofs.Choices.{if_yes, both, both_left, both_right}
 use Rattle.words.specs.Codec.{Codec, WholeCodec, Plain, Ends, first_named, letter, strip_prefix, first_spelled}
-use Rattle.words.specs.Codec.{preceded_by, pair_of}
-use Rattle.words.specs.Codec.{values_in, whole_value, value_at_end, ◌>>=◌}
+use Rattle.words.specs.Codec.{preceded_by, pair_of, values_in, whole_value, value_at_end, ◌>>=◌}
 use Rattle.words.specs.Joined.{list_text, JoinedBy, list_behind, list_read, is_list, WritesList}
 
 pub bind_some : {A B : Type 0} (o : Option A) (f : A → Option B) {y : B} → (o >>= f) ≡ Some y

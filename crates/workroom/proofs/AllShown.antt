@@ -2,8 +2,7 @@
 -- on the device alone, and there alone others do what they do meanwhile; what another projector is sent or says touches
 -- that one's entry alone. An open connection is kept up always, and one whose digest is awaited for 30 seconds.
 -- Assumes nothing.
-use Rattle.std.proofs.Common.{arith}
-use Rattle.std.proofs.Common.{ℕ, ◌+◌, ◌<◌, ◌≡◌, refl, sym, ap, subst, ◌∙◌, true, false, List, [], ◌∷◌}
+use Rattle.std.proofs.Common.{arith, ℕ, ◌+◌, ◌<◌, ◌≡◌, refl, sym, ap, subst, ◌∙◌, true, false, List, [], ◌∷◌}
 use Rattle.std.proofs.lemmas.Bool.{false≢true}
 use Rattle.record.specs.Limits.{age_end, awaiting, opened}
 use Rattle.record.specs.Legal.{is_legal, is_timed}

@@ -3,9 +3,8 @@
 -- device meant is shown. A higher one is swallowed, and stays under way (RULES, Class 2). A code that stands for no
 -- command leaves all as it was.
 -- Assumes nothing.
-use Rattle.std.proofs.Common.{ℕ, ◌≤◌, ◌<◌, ◌≡◌, refl, sym, ap, subst, ◌∙◌, Bool, true, false, not, ◌&&◌, List}
-use Rattle.std.proofs.Common.{◌++◌, arith, length, ⊎_elim, ne_eqb}
-use Rattle.std.specs.Prelude.{Option, Some, None, Ok, is_some}
+use Rattle.std.proofs.Common.{ℕ, ◌≤◌, ◌<◌, ◌≡◌, refl, sym, ap, subst, ◌∙◌, Bool, true, false, not, ◌&&◌, List, ◌++◌}
+use Rattle.std.proofs.Common.{arith, length, ⊎_elim, ne_eqb, Option, Some, None, Ok, is_some}
 use Rattle.text.proofs.Choices.{if_no}
 use Rattle.text.proofs.Orders.{le_or_lt}
 use Rattle.digest.specs.Hex.{leading_digest}

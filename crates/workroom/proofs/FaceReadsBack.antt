@@ -4,9 +4,7 @@
 -- greeting.
 --   Told d p m c w r     the writing w of m, which is the command c, and the receiving r of its bytes at place p
 -- Assumes nothing.
-use Rattle.std.proofs.Common.{arith}
-use Rattle.std.proofs.Common.{ℕ, ◌^◌, ◌≤◌, ◌<◌, ◌≡◌, true, false, List}
-use Rattle.std.specs.Prelude.{Option, Some, Ok}
+use Rattle.std.proofs.Common.{arith, ℕ, ◌^◌, ◌≤◌, ◌<◌, ◌≡◌, true, false, List, Option, Some, Ok}
 use Rattle.pjlink.specs.Commands.{command_class}
 use Rattle.pjlink.specs.declared.command.Command.{Command}
 use Rattle.record.specs.Limits.{places_count, awaiting, opened}

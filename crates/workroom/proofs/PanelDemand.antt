@@ -1,8 +1,7 @@
 -- Our panel does what RULES, Panel asks of one: by the table of what each kind of line does (`StepTo` of panel), which
 -- a legal entry steps by.
 -- Assumes nothing.
-use Rattle.std.proofs.Common.{arith}
-use Rattle.std.proofs.Common.{ℕ, ◌≡◌, refl, sym, subst, List}
+use Rattle.std.proofs.Common.{arith, ℕ, ◌≡◌, refl, sym, subst, List}
 use Rattle.panel.specs.Entries.{talk_of, shown_of}
 use Rattle.panel.specs.StepTable.{StepTo, greets_open, greets_secured, strays, answers, refuses}
 use Rattle.panel.specs.PanelCalls.{entry_at, stepped_at}

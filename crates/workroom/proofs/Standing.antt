@@ -2,8 +2,7 @@
 --   PanelStands i w q e     the panel q, which was that of w, has the projector i, and its entry is e
 --   DeviceStands p w d c    the device d, which was that of w, has the connection c at place p
 -- Assumes nothing.
-use Rattle.std.proofs.Common.{arith}
-use Rattle.std.proofs.Common.{ℕ, ◌<◌, ◌≡◌, refl, true, false}
+use Rattle.std.proofs.Common.{arith, ℕ, ◌<◌, ◌≡◌, refl, true, false}
 use Rattle.record.specs.Limits.{places_count}
 use Rattle.record.specs.Legal.{is_legal}
 use Rattle.record.specs.Places.{connection_at}

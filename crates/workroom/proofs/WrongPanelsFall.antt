@@ -12,8 +12,7 @@ use Rattle.workroom.specs.Workroom.{asks}
 use Rattle.workroom.specs.ShowsWhatWasMeant.{ShowsWhatWasMeant}
 use Rattle.workroom.specs.PanelDemand.{PanelDemand}
 use Rattle.workroom.specs.WrongPanels.{takes_foreign, ends_on_malformed, keeps_after_erra, stray_count_wraps}
-use Rattle.workroom.specs.WrongPanels.{shows_late}
-use Rattle.workroom.specs.WrongPanels.{counts_nothing, shows_no_reply}
+use Rattle.workroom.specs.WrongPanels.{shows_late, counts_nothing, shows_no_reply}
 use Rattle.workroom.specs.Computing.{computing}
 use Rattle.workroom.proofs.Samples.{resting, asked, resting_served, full_served, asked_served, lamps_asked}
 use Rattle.workroom.proofs.Samples.{workroom, workroom_joined, powr_within}

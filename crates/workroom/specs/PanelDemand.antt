@@ -22,8 +22,7 @@ use Rattle.controller.specs.Greetings.{read_greeting}
 use Rattle.controller.specs.Reading.{meaning, read_reply}
 use Rattle.controller.specs.declared.greeting.Greeting.TheVariants.{Open, Secured}
 use Rattle.panel.specs.Entries.{Talk, Shown, talk_of, shown_of, ungreeted, greeted_open, greeted_secured, greeted_by}
-use Rattle.panel.specs.Entries.{no_talk}
-use Rattle.panel.specs.Entries.{rested_on, nothing_shown}
+use Rattle.panel.specs.Entries.{no_talk, rested_on, nothing_shown}
 use Rattle.panel.specs.Showing.{showing}
 use Rattle.panel.specs.LegalPanels.{is_panel}
 use Rattle.panel.specs.StepTable.{IsUnderWay, IsStray}

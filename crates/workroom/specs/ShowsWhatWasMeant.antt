@@ -50,8 +50,7 @@ use Rattle.panel.specs.PanelCalls.{entry_at}
 use Rattle.panel.specs.declared.types.Entry.{Entry}
 use Rattle.panel.specs.declared.types.Panel.{Panel}
 use Rattle.workroom.specs.AnyPanel.{AnyPanel}
-use Rattle.workroom.specs.Workroom.{Workroom, room_of}
-use Rattle.workroom.specs.Workroom.{RoomMove, asks, waits, asks_another, hears_another, meanwhile}
+use Rattle.workroom.specs.Workroom.{Workroom, room_of, RoomMove, asks, waits, asks_another, hears_another, meanwhile}
 use Rattle.workroom.specs.Workroom.{connected, happened, all_happened, parted}
 use Rattle.workroom.specs.MeantThrough.{IsWithin, said_at, own_at, shown_through, own_through}
 

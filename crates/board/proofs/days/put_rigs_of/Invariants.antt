@@ -1,7 +1,6 @@
 -- The rigs of the placements passed stand at the start of the list.
-use Rattle.std.proofs.Common.{◌≡◌, take}
+use Rattle.std.proofs.Common.{◌≡◌, take, map}
 use Rattle.std.proofs.Math.Seq.{sets}
-use Rattle.std.specs.Prelude.{map}
 use Rattle.board.proofs.days.put_rigs_of.Given as goal
 
 abbrev pub invariant-loop-j : goal.invariant-loop-j

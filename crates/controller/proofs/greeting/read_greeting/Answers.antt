@@ -1,6 +1,5 @@
 -- The greeting that is compared with is the one with the number that was read.
-use Rattle.std.proofs.Common.{◌≡◌, sym, ap, ◌∙◌, ℕ, Bool, List, take, drop, codes}
-use Rattle.std.specs.Prelude.{Some}
+use Rattle.std.proofs.Common.{◌≡◌, sym, ap, ◌∙◌, ℕ, Bool, List, take, drop, codes, Some}
 use Rattle.std.proofs.lemmas.List.Edits.{sets}
 use Rattle.text.specs.Scans.{same_by, itself}
 use Rattle.digest.specs.Hex.{hex_digits, hex_value}

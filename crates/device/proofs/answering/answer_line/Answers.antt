@@ -1,9 +1,8 @@
 -- The line is taken apart into what its answer speaks of, and its class is one that the set-up takes.
-use Rattle.std.proofs.Common.{ℕ, ◌≡◌, sym, ap, ◌∙◌, Bool, true, false, List, arith}
+use Rattle.std.proofs.Common.{ℕ, ◌≡◌, sym, ap, ◌∙◌, Bool, true, false, List, arith, Result}
 use Rattle.words.specs.Classes.{class_as_number, class_code}
 use Rattle.words.specs.declared.class.ClassNumber.{ClassNumber}
 use Rattle.words.specs.declared.refusal.Refusal.{Refusal}
-use Rattle.std.specs.Prelude.{Result}
 use Rattle.pjlink.specs.declared.answer.Answer.{Answer}
 use Rattle.pjlink.specs.Carried.{said_by}
 use Rattle.pjlink.specs.Forms.{is_command_form, reply_line, IsCommandOf}

@@ -1,6 +1,5 @@
 -- A record that is not legal is refused with 1, where the line has a form; and it stays as it was.
-use Rattle.std.proofs.Common.{arith}
-use Rattle.std.proofs.Common.{refl}
+use Rattle.std.proofs.Common.{arith, refl}
 use Rattle.floorlog.proofs.EventsLeave.{did_legality, illegal_text, illegal_kept, illegal_silent}
 use Rattle.floorlog.proofs.Driven.{driven}
 use Rattle.floorlog.proofs.event.call.Goals as goal

@@ -1,6 +1,5 @@
 -- The first place that `position` tells, or the number of inputs where it tells none.
-use Rattle.std.proofs.Common.{◌≡◌, List, length, rules, tests, refl, sym, ap, ◌∙◌, add-one, true, false}
-use Rattle.std.specs.Prelude.{unwrap_or}
+use Rattle.std.proofs.Common.{◌≡◌, List, length, rules, tests, refl, sym, ap, ◌∙◌, add-one, true, false, unwrap_or}
 use Rattle.std.proofs.lemmas.Iterator.{YieldsList-from_slice, IsFirst-from_position, index_from_first}
 use Rattle.words.specs.Sources.{same_input}
 use Rattle.words.specs.declared.input.Input.{Input}

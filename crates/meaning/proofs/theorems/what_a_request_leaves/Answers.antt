@@ -1,5 +1,4 @@
-use Rattle.std.proofs.Common.{◌≡◌, refl}
-use Rattle.std.specs.Prelude.{Ok}
+use Rattle.std.proofs.Common.{◌≡◌, refl, Ok}
 use Rattle.pjlink.specs.declared.command.Half.TheVariants.{VideoHalf, AudioHalf}
 use Rattle.pjlink.specs.declared.command.Command.TheVariants.{MuteSet}
 use Rattle.record.specs.declared.types.Own.{Own}

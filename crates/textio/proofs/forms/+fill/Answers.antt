@@ -1,6 +1,5 @@
 -- The text before the gap, the number, and the rest.
-use Rattle.std.proofs.Common.{arith}
-use Rattle.std.proofs.Common.{◌∙◌}
+use Rattle.std.proofs.Common.{arith, ◌∙◌}
 use Rattle.std.proofs.lemmas.List.{take_rest}
 use Rattle.textio.proofs.FormsFilled.{form_filled_first, form_filled_empty}
 use Rattle.textio.proofs.Fronts.{writes_then, writes_fails}

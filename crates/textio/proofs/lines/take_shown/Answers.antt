@@ -1,6 +1,5 @@
 -- what is read ahead, with its LF, is what is taken
-use Rattle.std.proofs.Common.{arith, take_all}
-use Rattle.std.proofs.Common.{append-nil}
+use Rattle.std.proofs.Common.{arith, take_all, append-nil}
 use Rattle.std.proofs.lemmas.List.{take_more}
 use Rattle.textio.proofs.Known.{appended_front, kept_then_consumed}
 use Rattle.textio.proofs.lines.take_shown.Goals as goal
