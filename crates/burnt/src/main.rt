@@ -8,9 +8,7 @@ mod telling;
 mod tests;
 
 use floorlog::cut;
-use formfile::NotBegun;
 use record::types::Device;
-use std::io::Error;
 use std::{env, io};
 use textio::lines::Failure;
 use textio::reader::Reader;
@@ -40,11 +38,7 @@ fn main(rt: HostRuntime) -> io::Result<()> {
     let drawn = is_page(&rt);
     let told = match formfile::begun_by(&rt, if drawn { 2 } else { 1 }) {
         Ok(device) => show(&rt, device, drawn),
-        Err(NotBegun::Unread) => {
-            let unread = Failure::Read(Error::other("no form"));
-            cut::end_output(Err(unread), &mut Stream(rt.stdout()))
-        }
-        Err(NotBegun::Refused(number)) => cut::tell_number(&mut Stream(rt.stdout()), number),
+        Err(why) => formfile::tell(why, &mut Stream(rt.stdout())),
     };
     if let Err(error) = told {
         writer::put(

@@ -1,15 +1,12 @@
--- A form that loads gives a legal record, and one that does not has a number of its own; what is read of a file is what
--- all of it comes to.
+-- A form that loads gives a legal record; what is read of a file is what all of it comes to.
 -- Assumes nothing.
-use Rattle.std.proofs.Common.{◌≡◌, ℕ, ◌≤◌, true, List, [], ◌++◌, take, Option, Some, None, Result, Ok, Err, sym, ap}
-use Rattle.std.proofs.Common.{subst, ◌∙◌, arith, IfSome, option_map}
+use Rattle.std.proofs.Common.{◌≡◌, ℕ, true, List, [], ◌++◌, take, Option, Some, None, Result, Ok, Err, sym, ap}
+use Rattle.std.proofs.Common.{subst, ◌∙◌, IfSome, option_map}
 use Rattle.record.specs.Legal.{is_legal}
 use Rattle.record.specs.Given.{Given}
 use Rattle.record.specs.declared.types.Device.{Device}
 use Rattle.stored.specs.Loading.{loaded_from}
-use Rattle.stored.specs.Told.{load_error_number, loading_told}
-use Rattle.stored.specs.declared.error.LoadError.{LoadError}
-use Rattle.stored.specs.declared.error.LoadError.TheVariants.{OtherVersion, CutShort, LeftOver, NotLegal}
+use Rattle.stored.specs.Told.{loading_told}
 use Rattle.stored.proofs.Results.{accepted_legal}
 use Rattle.stored.proofs.Fields.{Bytes}
 use Rattle.stored.proofs.FormWithin.{loaded_from-take}
@@ -22,17 +19,11 @@ loaded_is_legal bytes d e =
     ap (λ (g : Given Device). is_legal g.device) e
     ∙ accepted_legal bytes (sym (ap (λ (g : Given Device). g.number) e))
 
-pub error_number_within : (e : LoadError) → (20 ≤ load_error_number e) × (load_error_number e ≤ 23)
-error_number_within OtherVersion = (omega arith, omega arith)
-error_number_within CutShort = (omega arith, omega arith)
-error_number_within LeftOver = (omega arith, omega arith)
-error_number_within NotLegal = (omega arith, omega arith)
-
 begun_alike : (s t : List ℕ) (r : Result Device NotBegun) → loaded_from s ≡ loaded_from t → IsBegunBy s r
     → IsBegunBy t r
 begun_alike s t (Ok d) e h = sym e ∙ h
 begun_alike s t (Err Unread) e h = h
-begun_alike s t (Err (Refused n)) e h = sym e ∙ h
+begun_alike s t (Err (Refused x)) e h = sym e ∙ h
 
 -- as many bytes as no form has say what all of it says
 pub begun_by_front : (s form : List ℕ) (r : Result Device NotBegun) → Bytes s → IsBegunBy s r → s ≡ take form_room form

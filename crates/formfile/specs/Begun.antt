@@ -1,21 +1,23 @@
 -- What a log can begin with, whatever an argument names and whatever a file holds (RULES, Floor log and Stored form).
---   IsBegun r         a legal record; or why there is none, with the number of a form that does not load
+--   IsBegun r         a legal record, or why there is none
 --   form_room         so many bytes are read at most, one more than any form has
 --   IsBegunBy form r  r is what loading gives of these bytes
+--   unbegun_text why  what is told where there is none: that it cannot be read, or the number with which it does not load
 -- Assumes nothing.
-use Rattle.std.specs.Prelude.{ℕ, List, ◌≡◌, ◌≤◌, true, Result, Ok, Err}
+use Rattle.std.specs.Prelude.{ℕ, List, ◌≡◌, true, Result, Ok, Err, codes}
 use Rattle.record.specs.Record.{blank}
 use Rattle.record.specs.Given.{acceptance_of, refusal_with}
 use Rattle.record.specs.Legal.{is_legal}
 use Rattle.record.specs.declared.types.Device.{Device}
 use Rattle.stored.specs.Loading.{loaded_from}
+use Rattle.stored.specs.Told.{load_error_number}
+use Rattle.floorlog.specs.Cuts.{number_line}
 use Rattle.formfile.specs.declared.NotBegun.{NotBegun}
 use Rattle.formfile.specs.declared.NotBegun.TheVariants.{Unread, Refused}
 
 abbrev pub IsBegun : Result Device NotBegun → Type 0
 IsBegun (Ok d) = is_legal d ≡ true
-IsBegun (Err Unread) = Unit {0}
-IsBegun (Err (Refused number)) = (20 ≤ number) × (number ≤ 23)
+IsBegun (Err why) = Unit {0}
 
 abbrev pub form_room : ℕ
 form_room = 68867
@@ -23,4 +25,8 @@ form_room = 68867
 abbrev pub IsBegunBy : List ℕ → Result Device NotBegun → Type 0
 IsBegunBy form (Ok d) = loaded_from form ≡ acceptance_of d
 IsBegunBy form (Err Unread) = ⊥
-IsBegunBy form (Err (Refused number)) = loaded_from form ≡ refusal_with number blank
+IsBegunBy form (Err (Refused e)) = loaded_from form ≡ refusal_with (load_error_number e) blank
+
+abbrev pub unbegun_text : NotBegun → List ℕ
+unbegun_text Unread = codes "! read failed\n"
+unbegun_text (Refused e) = number_line (load_error_number e)

@@ -2,15 +2,20 @@
 // an argument names.
 #![tactic(auto)]
 
-ghost use Rattle.std.specs.Prelude.{◌≡◌, ℕ, List, take, IfOk, IfSome};
-ghost use Rattle.formfile.specs.Begun.{IsBegun, form_room, IsBegunBy};
+ghost use Rattle.std.specs.Prelude.{[], ◌≡◌, ℕ, List, take, IfOk, OnOk, IfSome};
+ghost use Rattle.textio.specs.Fronts.{WritesText};
+ghost use Rattle.formfile.specs.Begun.{IsBegun, form_room, IsBegunBy, unbegun_text};
 
+use floorlog::cut;
 use record::types::Device;
 use std::alloc::Global;
 use std::fs::File;
-use std::io::{Read, Write};
+use std::io::{Error, Read, Write};
 use std::{env, io};
+use stored::error::LoadError;
 use stored::loading;
+use textio::lines::Failure;
+use textio::writer::ByteSink;
 
 // A byte more than the longest form that its counts, a byte each, can ask for, legal or not: a file that fills this has
 // bytes left over.
@@ -21,19 +26,19 @@ const ROOM: u64 = 68867;
 pub enum NotBegun {
     /// The file could not be read to its end.
     Unread,
-    /// The form does not load, with this number.
-    Refused(u32),
+    /// The form does not load.
+    Refused(LoadError),
 }
 
 // By as many bytes of a form as are read.
-#[tactic(auto, using(crate::proofs::FormBegun::loaded_is_legal, crate::proofs::FormBegun::error_number_within))]
+#[tactic(auto, using(crate::proofs::FormBegun::loaded_is_legal))]
 fn loaded(bytes: &[u8]) -> Result<Device, NotBegun>
     ensures begun { IsBegun result }
     ensures by_form { (form : List ℕ) → bytes.now ≡ take form_room form → IsBegunBy form result }
 {
     match loading::load(bytes) {
         Ok(device) => Ok(device),
-        Err(error) => Err(NotBegun::Refused(error.number())),
+        Err(error) => Err(NotBegun::Refused(error)),
     }
 }
 
@@ -76,5 +81,17 @@ pub fn begun_by(rt: &HostRuntime, place: usize) -> Result<Device, NotBegun>
             let _told = eprintln!(rt; "form: {error}").is_ok();
             Err(NotBegun::Unread)
         }
+    }
+}
+
+/// What is told in the place of what a log comes to, and all that waits is handed on: that the form cannot be read, or
+/// the number with which it does not load.
+pub fn tell<W: ByteSink>(why: NotBegun, to: &mut W) -> io::Result<()>
+    ensures text { WritesText W.fails_with (W.contents to.old) (W.contents to.new) result (unbegun_text why) }
+    ensures none_waits { OnOk result (W.waiting to.new ≡ []) }
+{
+    match why {
+        NotBegun::Unread => cut::end_output(Err(Failure::Read(Error::other("no form"))), to),
+        NotBegun::Refused(error) => cut::tell_number(to, error.number()),
     }
 }

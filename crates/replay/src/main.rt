@@ -4,10 +4,8 @@
 #![tactic(auto)]
 
 use floorlog::cut;
-use formfile::NotBegun;
 use record::types::Device;
 use std::io;
-use std::io::Error;
 use textio::lines::Failure;
 use textio::reader::Reader;
 use textio::streams::Stream;
@@ -24,11 +22,7 @@ fn play(rt: &HostRuntime, device: Device) -> io::Result<()> {
 fn main(rt: HostRuntime) {
     let told = match formfile::begun_by(&rt, 1) {
         Ok(device) => play(&rt, device),
-        Err(NotBegun::Unread) => {
-            let unread = Failure::Read(Error::other("no form"));
-            cut::end_output(Err(unread), &mut Stream(rt.stdout()))
-        }
-        Err(NotBegun::Refused(number)) => cut::tell_number(&mut Stream(rt.stdout()), number),
+        Err(why) => formfile::tell(why, &mut Stream(rt.stdout())),
     };
     if let Err(error) = told {
         // more output would hide what is missing

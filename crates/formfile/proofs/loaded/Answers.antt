@@ -1,6 +1,4 @@
-use Rattle.std.proofs.Common.{Ok, Err, sym, ap, ◌∙◌, arith}
-use Rattle.record.specs.Given.{refusal_with}
-use Rattle.record.specs.Record.{blank}
+use Rattle.std.proofs.Common.{Ok, Err, sym, arith}
 use Rattle.formfile.specs.declared.NotBegun.TheVariants.{Refused}
 use Rattle.formfile.proofs.FormBegun.{begun_by_front}
 use Rattle.formfile.proofs.loaded.Goals as goal
@@ -12,5 +10,5 @@ returns-in-Ok-clause-by_form c form e =
 
 pub returns-in-Err-clause-by_form : goal.returns-in-Err-clause-by_form
 returns-in-Err-clause-by_form c form e =
-    begun_by_front c.args.bytes.now form (Err (Refused c.number.result)) (λ i h. omega (arith, c.type_inv.bytes i))
-    (sym c.in-Err.ensures ∙ ap (λ n. refusal_with n blank) (sym c.number.ensures)) e
+    begun_by_front c.args.bytes.now form (Err (Refused c.in-Err.error)) (λ i h. omega (arith, c.type_inv.bytes i))
+    (sym c.in-Err.ensures) e
