@@ -2,7 +2,7 @@
 --   IsBegun r         a legal record, or why there is none
 --   form_room         so many bytes are read at most, one more than any form has
 --   IsBegunBy form r  r is what loading gives of these bytes
---   unbegun_text why  what is told where there is none: that it cannot be read, or the number with which it does not load
+--   unbegun_text why  what is told where there is none: that it cannot be read, or with which number it does not load
 -- Assumes nothing.
 use Rattle.std.specs.Prelude.{ℕ, List, ◌≡◌, true, Result, Ok, Err, codes}
 use Rattle.record.specs.Record.{blank}
