@@ -1,4 +1,3 @@
 pub mod Flattening
 pub mod CommandsCoded
 pub mod CodesBack
-pub mod Filling

@@ -3,9 +3,9 @@
 --   said_flat m        what is said: kinds 1 to 10, and 12 a freeze (RULES, Class 2)
 --   flat_reading r     what the reply reader gives: kind 11 is ERRA, kind 0 no meaning
 -- Assumes nothing.
-use Rattle.std.specs.Prelude.{ℕ, Bool, false, List, [], map, length, replicate, Option, None, Some}
-use Rattle.std.proofs.lemmas.List.Edits.{sets}
+use Rattle.std.specs.Prelude.{ℕ, Bool, false, List, map, length, replicate, Option, None, Some}
 use Rattle.text.specs.InTurn.{each_in_turn}
+use Rattle.text.specs.Rooms.{filled_room}
 use Rattle.words.specs.Classes.{class_as_number}
 use Rattle.words.specs.Inputs.{input_text}
 use Rattle.words.specs.declared.input.Input.{Input}
@@ -36,21 +36,17 @@ greeting_random g = 0
 abbrev pub flat_greeting : Option Greeting → FlatGreeting
 flat_greeting g = record { number = greeting_number g; kind = greeting_kind g; random = greeting_random g }
 
--- the things xs from the start of so much room, blank after them
-abbrev pub filled_to : {A : Type 0} → ℕ → A → List A → List A
-filled_to room blank xs = sets (replicate room blank) 0 xs
-
 abbrev pub no_hours : List ℕ
-no_hours = filled_to 8 0 []
+no_hours = replicate 8 0
 
 abbrev pub none_lit : List Bool
-none_lit = filled_to 8 false []
+none_lit = replicate 8 false
 
 abbrev pub no_characters : List ℕ
-no_characters = filled_to 64 0 []
+no_characters = replicate 64 0
 
 abbrev pub no_bytes : List ℕ
-no_bytes = filled_to parameter_most 0 []
+no_bytes = replicate parameter_most 0
 
 abbrev pub flat_of : (number kind first second count : ℕ) (hours : List ℕ) (lit : List Bool) (inputs text : List ℕ)
     → FlatReading
@@ -73,7 +69,7 @@ abbrev pub plain_reading : (kind first second : ℕ) → FlatReading
 plain_reading kind first second = flat_of 0 kind first second 0 no_hours none_lit no_characters no_bytes
 
 abbrev pub with_text : ℕ → List ℕ → FlatReading
-with_text kind s = flat_of 0 kind 0 0 (length s) no_hours none_lit no_characters (filled_to parameter_most 0 s)
+with_text kind s = flat_of 0 kind 0 0 (length s) no_hours none_lit no_characters (filled_room 0 parameter_most s)
 
 abbrev pub hours_of : LampHours → ℕ
 hours_of l = l.hours
@@ -85,21 +81,21 @@ lit_of l = l.lit
 abbrev pub flat_lamps : List LampHours → FlatLamps
 flat_lamps ls = record {
   count = length ls;
-  hours = filled_to 8 0 (map hours_of ls);
-  lit = filled_to 8 false (map lit_of ls);
+  hours = filled_room 0 8 (map hours_of ls);
+  lit = filled_room false 8 (map lit_of ls);
 }
 
 abbrev pub with_lamps : List LampHours → FlatReading
 with_lamps ls =
-    flat_of 0 7 0 0 (length ls) (filled_to 8 0 (map hours_of ls))
-    (filled_to 8 false (map lit_of ls)) no_characters no_bytes
+    flat_of 0 7 0 0 (length ls) (filled_room 0 8 (map hours_of ls))
+    (filled_room false 8 (map lit_of ls)) no_characters no_bytes
 
 -- two characters an input
 abbrev pub characters : List Input → List ℕ
 characters is = each_in_turn input_text is
 
 abbrev pub with_inputs : List Input → FlatReading
-with_inputs is = flat_of 0 8 0 0 (length is) no_hours none_lit (filled_to 64 0 (characters is)) no_bytes
+with_inputs is = flat_of 0 8 0 0 (length is) no_hours none_lit (filled_room 0 64 (characters is)) no_bytes
 
 abbrev pub power_at_face : Power → ℕ
 power_at_face Off = 0

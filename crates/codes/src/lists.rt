@@ -4,8 +4,9 @@ ghost use Rattle.pjlink.specs.Said.{parameter_most};
 ghost use Rattle.pjlink.specs.Carried.{lamps_carried, inputs_carried};
 ghost use Rattle.codes.specs.Readings.{with_text, flat_lamps, with_lamps, with_inputs};
 
-use crate::readings::{CHARACTERS, FlatReading, TEXT_MOST};
+use crate::readings::{CHARACTERS, FlatReading};
 use pjlink::answer::LAMPS_MOST;
+use text::rooms;
 use words::input;
 use words::input::Input;
 use words::lamp::LampHours;
@@ -44,11 +45,9 @@ impl FlatReading {
         requires { length s.now ≤ parameter_most }
         ensures { result ≡ with_text kind s.now }
     {
-        let mut text = [0u8; TEXT_MOST];
-        text::put(&mut text, 0, s);
         let mut flat = FlatReading::plain(kind, 0, 0);
         flat.count = s.len();
-        flat.text = text;
+        flat.text = rooms::kept(s, 0);
         flat
     }
 

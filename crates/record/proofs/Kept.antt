@@ -2,16 +2,16 @@
 -- Assumes nothing.
 use Rattle.std.specs.List.{list_all}
 use Rattle.std.proofs.Common.{ℕ, suc, ◌+◌, ◌-◌, ◌≤◌, ◌<◌, ◌≡◌, refl, sym, ap, ◌∙◌, Bool, true, List, [], ◌∷◌}
-use Rattle.std.proofs.Common.{◌++◌, arith, add-one, set, length-set, length, slice_index_or, take, drop, length-append}
-use Rattle.std.proofs.Common.{drop-cons, drop-set-lt, take-suc-set, get_or-drop, length-take-le, eq-eqb, append_assoc}
-use Rattle.std.proofs.Common.{replicate, take_all}
+use Rattle.std.proofs.Common.{◌++◌, arith, add-one, set, length-set, length, slice_index_or, take, drop}
+use Rattle.std.proofs.Common.{drop-cons, drop-set-lt, take-suc-set, get_or-drop, length-take-le, eq-eqb}
 use Rattle.std.proofs.lemmas.Grind.{common_steps}
-use Rattle.std.proofs.lemmas.List.{take-append-le, set_at}
+use Rattle.std.proofs.lemmas.List.{take-append-le}
 use Rattle.std.proofs.Math.ListN.{get_or-eq_default}
-use Rattle.std.proofs.Math.Seq.{take-append_seam, take-suc}
+use Rattle.std.proofs.Math.Seq.{take-append_seam}
 use native.Mathlib.Numerals.{unary_clauses}
 use Rattle.text.specs.Rooms.{filled_room}
 use Rattle.text.proofs.RoomsTold.{kept_used}
+use Rattle.text.proofs.RoomsFilled.{set-filled_room}
 use Rattle.text.proofs.Scanning.{list_all_at, list_all_by_place}
 use Rattle.record.specs.Record.{zeros, in_room}
 use Rattle.record.specs.Legal.{is_zero}
@@ -74,11 +74,7 @@ one_more_kept room rule s n b k l h =
       follows = rw (add-one n, take-suc-set s n b inside) h;
     }
 
--- one item more, where there is room for it
-pub set-filled_room : {A : Type 0} (x : A) (room : ℕ) (items : List A) (a : A) → length items < room
-    → set (filled_room x room items) (length items) a ≡ filled_room x room (items ++ (a ∷ []))
-set-filled_room x room items a h = grind (arith, set_at, append_assoc, length-append)
-
+-- one byte more, where there is room for it
 pub room_more : (room : ℕ) (s : List ℕ) (b : ℕ) → length s < room
     → set (in_room room s) (length s) b ≡ in_room room (s ++ (b ∷ []))
 unfolding in_room
@@ -87,19 +83,3 @@ room_more = set-filled_room 0
 pub room_first : (room : ℕ) (s : List ℕ) (n : ℕ) → n ≤ length s → take n (in_room room s) ≡ take n s
 unfolding in_room
 room_first room s n h = take-append-le n s (zeros (room - length s)) h
-
--- a room that a loop fills, item by item
-module _ {A : Type 0} (x : A) (room : ℕ) (s : List A) where
-  pub record IsCopied (l : List A) (i : ℕ) : Type 0 where
-    pub inside : i ≤ length s
-    pub stored : l ≡ filled_room x room (take i s)
-
-  pub none_copied : IsCopied (replicate room x) 0
-  none_copied = record { inside = omega arith; stored = simp unary_clauses refl }
-
-  module _ (fits : length s ≤ room) {l : List A} {i : ℕ} (p : IsCopied l i) where
-    pub one_copied : {a : A} → i < length s → a ≡ slice_index_or s i x → IsCopied (set l i a) (i + 1)
-    one_copied {a} h e = grind (arith, length-take-le, take-suc, set-filled_room)
-
-    pub all_copied : length s ≤ i → l ≡ filled_room x room s
-    all_copied h = p.stored ∙ ap (filled_room x room) (take_all i s h)

@@ -1,17 +1,15 @@
 -- What the enabled marks of a legal record tell, and how they are shown (RULES, Lamps): all set at a set-up, and one
 -- replaced.
 -- Assumes nothing.
-use Rattle.std.proofs.lemmas.Grind.{common_steps}
 use Rattle.std.specs.List.{list_all}
-use Rattle.std.proofs.Common.{ℕ, ◌+◌, ◌≤◌, ◌<◌, ◌≡◌, refl, ap, subst, Bool, true, false, not, List}
+use Rattle.std.proofs.Common.{ℕ, ◌≤◌, ◌<◌, ◌≡◌, refl, ap, subst, Bool, true, false, not, List}
 use Rattle.std.proofs.Common.{arith, length, take, drop, set, replicate, length-set, drop-set-lt, length-take-le}
-use Rattle.std.proofs.lemmas.List.{length-replicate, take-replicate, replicate-append-replicate}
+use Rattle.std.proofs.lemmas.List.{length-replicate, take-replicate}
 use Rattle.text.specs.Rooms.{filled_room}
 use Rattle.text.proofs.RoomsTold.{kept_used}
 use Rattle.record.specs.Limits.{lamps_most}
 use Rattle.record.specs.Rules.{is_marks}
 use Rattle.record.specs.Record.{all_marks}
-use Rattle.record.proofs.Kept.{set-filled_room}
 
 module _ (n : ℕ) (ms : List Bool) where
   module _ (legal : is_marks n ms ≡ true) where
@@ -55,7 +53,3 @@ module _ (n : ℕ) (few : n ≤ lamps_most) where
   pub marks_kept : filled_room false lamps_most (take n (replicate lamps_most true)) ≡ all_marks n
   unfolding all_marks
   marks_kept = ap (filled_room false lamps_most) (take-replicate n lamps_most true few)
-
-pub set-all_marks : (k : ℕ) → k < lamps_most → set (all_marks k) k true ≡ all_marks (k + 1)
-unfolding all_marks
-set-all_marks k inside = grind (arith, common_steps, length-replicate, set-filled_room, replicate-append-replicate)

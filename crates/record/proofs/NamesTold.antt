@@ -16,7 +16,8 @@ use Rattle.record.specs.Legal.{fills_name_room}
 use Rattle.record.specs.Facts.{Fills, IsNames}
 use Rattle.record.specs.declared.types.InputName.{InputName}
 use Rattle.record.proofs.FactsTold.{fills_told}
-use Rattle.record.proofs.Kept.{IsCopied, one_copied, all_copied, filled_kept, nothing_kept}
+use Rattle.text.proofs.RoomsFilled.{IsCopied, one_copied, all_copied}
+use Rattle.record.proofs.Kept.{filled_kept, nothing_kept}
 use Rattle.record.proofs.Rules.{names_many, names_each, text_most, text_wider, empty_text}
 
 no_name_fits : (most : ℕ) → fills_name_room most blank_name ≡ true

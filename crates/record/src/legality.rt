@@ -27,6 +27,7 @@ pub struct Tested {
 }
 
 impl Tested {
+    /// The record, tested.
     pub fn of(device: Device) -> Tested
         ensures { result.device ≡ device }
     {

@@ -14,7 +14,7 @@ use words::texts;
 pub fn info_fits(class: u8, s: &[u8]) -> bool
     ensures { result ≡ is_text (only_in_2 class info_most) s.now }
 {
-    texts::is_text(s, class::only_in_2(class, 32))
+    texts::is_text(s, class::only_in_2(class, texts::INFO_MOST))
 }
 
 /// A name for each of so many inputs, of Class 2 alone: none in any other class.
@@ -35,7 +35,7 @@ fn are_names(bytes: &[u8], lengths: &[usize], count: usize) -> bool
             return count == 0;
         }
         let end = at + n;
-        ok = ok & texts::is_text(&bytes[at..end], 128);
+        ok = ok & texts::is_input_name(&bytes[at..end]);
         at = end;
     }
     if at != bytes.len() {
@@ -75,7 +75,7 @@ fn are_counted(row: &[u8], count: usize) -> bool
     let mut left = row;
     for _ in 0..count {
         let (name, rest) = first_counted(left);
-        ok = ok & texts::is_text(name, 128);
+        ok = ok & texts::is_input_name(name);
         left = rest;
     }
     ok

@@ -1,4 +1,6 @@
 // The device record (RULES, The legal record): numbers, bools, arrays and structs of these, so that it can cross to C.
+use words::texts::INPUT_NAME_MOST;
+
 /// The room of a text, in bytes.
 pub const TEXT_ROOM: usize = 64;
 
@@ -13,9 +15,6 @@ pub const PASSWORD_LEAST: usize = 8;
 
 /// The most lamps.
 pub const LAMPS_MOST: usize = 8;
-
-/// The most bytes of an input's name (RULES, Class 2).
-pub const INPUT_NAME_MOST: usize = 128;
 
 /// The most bytes of a line before its CR: a digest of 32 and a command of 135.
 pub const LINE_ROOM: usize = 167;
@@ -110,6 +109,7 @@ pub struct Device {
 }
 
 impl Text {
+    /// The text of no bytes.
     pub const EMPTY: Text = Text {
         len: 0,
         bytes: [0; TEXT_ROOM],
@@ -117,15 +117,16 @@ impl Text {
 }
 
 impl InputName {
+    /// The name of no bytes.
     pub const EMPTY: InputName = InputName {
         len: 0,
         bytes: [0; INPUT_NAME_MOST],
     };
 }
 
-/// All zero: off, both mutes off, the first input, no fault, error status 000000, no lamp enabled, not frozen, no
-/// volume.
 impl Own {
+    /// All zero: off, both mutes off, the first input, no fault, error status 000000, no lamp enabled, not frozen, no
+    /// volume.
     pub const BLANK: Own = Own {
         power: 0,
         left: 0,
@@ -143,6 +144,7 @@ impl Own {
 }
 
 impl Connection {
+    /// All zero: closed, with nothing collected of a line.
     pub const CLOSED: Connection = Connection {
         phase: 0,
         age: 0,
@@ -155,8 +157,8 @@ impl Connection {
     };
 }
 
-/// All zero: what a refused set-up returns. It has no input, so it is not legal.
 impl Device {
+    /// All zero: what a refused set-up returns. It has no input, so it is not legal.
     pub const BLANK: Device = Device {
         settings: Settings {
             name: Text::EMPTY,

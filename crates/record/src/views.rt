@@ -73,6 +73,7 @@ impl Phase {
 }
 
 impl Own {
+    /// The power, with the seconds that are left of it; a number of none is `Off`.
     pub fn power(&self) -> Power
         ensures { result ≡ power_of self.now.power self.now.left }
     {
@@ -85,6 +86,7 @@ impl Own {
         }
     }
 
+    /// Sets the power and the seconds that are left of it, 0 where it has none.
     pub fn set_power(&mut self, power: Power)
         ensures { self.new ≡ with_power self.old power }
     {
@@ -100,6 +102,7 @@ impl Own {
 }
 
 impl Connection {
+    /// The phase, with its age and its random number; a number of none is `Closed`.
     pub fn phase(&self) -> Phase
         ensures { result ≡ phase_of self.now.phase self.now.age self.now.random }
     {
@@ -113,6 +116,7 @@ impl Connection {
         }
     }
 
+    /// Sets the phase, its age and its random number, 0 where it has none; the line stays.
     pub fn set_phase(&mut self, phase: Phase)
         ensures { self.new ≡ with_phase self.old phase }
     {

@@ -18,10 +18,6 @@ since_none [] f g t = refl
 since_none (true ∷ ls) f g t = refl
 since_none (false ∷ ls) f g t = since_none ls f g (suc t)
 
--- one second
-pub joined-cons : (lit : Bool) (f t : ℕ) (ls : List Bool) → f ≤ t → joined lit f t (lit ∷ ls) ≡ joined lit f (suc t) ls
-joined-cons lit f t ls h = grind arith
-
 pub joined-append : (n : ℕ) (lit : Bool) (f t : ℕ) (ls : List Bool) → f ≤ t
     → joined lit f t (replicate n lit ++ ls) ≡ joined lit f (t + n) ls
 joined-append zero lit f t ls h = ap (λ (u : ℕ). joined lit f u ls) (sym (add-zero t))
@@ -45,10 +41,6 @@ cooling_dim w ms k n [] = tt
 cooling_dim w ms k n (a_second ∷ es) = refl
 cooling_dim w ms k n (switched wanted ∷ es) = cooling_dim w ms k n es
 cooling_dim w ms k n (mark_switched lamp mark ∷ es) = cooling_dim w (marks_next ms (mark_switched lamp mark)) k n es
-
-pub stage_is_burning-next_stage : (w : Wanted) (g : Stage)
-    → stage_is_burning (next_stage w g a_second) ≡ stage_is_burning g
-stage_is_burning-next_stage w g = grind arith
 
 pub stage_is_burning-stage_from : (n : ℕ) (w : Wanted) (g : Stage) →
     stage_is_burning (stage_from w g (replicate n a_second)) ≡ stage_is_burning g

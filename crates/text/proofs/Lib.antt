@@ -8,6 +8,7 @@ pub mod OneResult
 pub mod Orders
 pub mod Parts
 pub mod Sameness
+pub mod RoomsFilled
 pub mod RoomsTold
 pub mod Scanning
 pub mod Stores

@@ -1,6 +1,6 @@
 -- What `same_by` says of two lists: the one, each of its bytes turned, is the other.
 -- Assumes nothing.
-use Rattle.std.proofs.Common.{ℕ, ◌≡◌, refl, sym, ap, ◌∙◌, true, ◌&&◌, List, [], ◌∷◌, map, map-id, ◌==◌, eqb-true}
+use Rattle.std.proofs.Common.{ℕ, ◌≡◌, refl, sym, ap, ◌∙◌, true, List, [], ◌∷◌, map, map-id, ◌==◌, eqb-true}
 use Rattle.std.proofs.Common.{eq-eqb}
 use Rattle.text.specs.Scans.{same_by, itself}
 use Rattle.text.proofs.Choices.{both, both_left, both_right}
@@ -23,9 +23,3 @@ turned_same f s t e = ap (same_by f s) (sym e) ∙ of_map s
     of_map : (s : List ℕ) → same_by f s (map f s) ≡ true
     of_map [] = refl
     of_map (x ∷ xs) = both (eq-eqb (f x) (f x) refl) (of_map xs)
-
-pub same_after : (f : ℕ → ℕ) (s t : List ℕ) → same_by f s t ≡ same_by itself (map f s) t
-same_after f [] [] = refl
-same_after f [] (y ∷ ys) = refl
-same_after f (x ∷ xs) [] = refl
-same_after f (x ∷ xs) (y ∷ ys) = ap (λ b. f x == y && b) (same_after f xs ys)

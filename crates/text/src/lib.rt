@@ -18,7 +18,7 @@ pub fn put(out: &mut [u8], at: usize, src: &[u8])
     }
 }
 
-// Whether a and b hold the same bytes.
+/// Whether a and b hold the same bytes.
 pub fn same(a: &[u8], b: &[u8]) -> bool
     ensures { result ≡ same_by itself a.now b.now }
 {

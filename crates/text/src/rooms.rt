@@ -1,6 +1,6 @@
 // A room: an array of a record, of which so many places are used, from its start, and the others are blank
 // (RULES, The legal record, "Unused room").
-ghost use Rattle.std.specs.Prelude.{◌≡◌, ◌==◌, ◌≤◌, Bool, not, length, option_map};
+ghost use Rattle.std.specs.Prelude.{◌≡◌, ◌==◌, ◌≤◌, Bool, not, length, option_map, take};
 ghost use Rattle.std.specs.List.{list_all};
 ghost use Rattle.text.specs.Rooms.{used_part, filled_room};
 
@@ -73,4 +73,12 @@ pub fn kept<T: Copy, const N: usize>(items: &[T], blank: T) -> [T; N]
     let mut room = [blank; N];
     room[..items.len()].copy_from_slice(items);
     room
+}
+
+/// The first `n` places of a room, or all.
+pub fn first<T, const N: usize>(room: &[T; N], n: usize) -> &[T]
+    ensures value { result.now ≡ take n room.now }
+    ensures within { length result.now ≤ N }
+{
+    &room[..n.min(N)]
 }

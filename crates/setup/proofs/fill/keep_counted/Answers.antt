@@ -1,6 +1,6 @@
 use Rattle.std.proofs.Common.{ap, sym, ◌∙◌}
 use Rattle.record.specs.Record.{name_of}
-use Rattle.record.proofs.Kept.{none_copied}
+use Rattle.text.proofs.RoomsFilled.{none_copied}
 use Rattle.record.proofs.CountedNames.{none_passed, name_here, one_passed}
 use Rattle.record.proofs.NamesTold.{name_short, one_name_copied, all_names_copied}
 use Rattle.setup.proofs.fill.keep_counted.Goals as goal

@@ -1,6 +1,6 @@
 -- Each name passed is kept at its place, in a room of which no other place has one.
 use Rattle.std.proofs.Common.{arith}
-use Rattle.record.proofs.Kept.{none_copied}
+use Rattle.text.proofs.RoomsFilled.{none_copied}
 use Rattle.record.proofs.CutNames.{none_cut, one_cut, cut_there, cut_ends, cut_here}
 use Rattle.record.proofs.NamesTold.{name_short, one_name_copied, all_names_copied}
 use Rattle.setup.proofs.fill.keep_row.Goals as goal

@@ -1,5 +1,7 @@
 use Rattle.std.proofs.Common.{arith}
-use Rattle.codes.proofs.Filling.{one_filled, one_more_turned}
+use Rattle.std.proofs.lemmas.List.{length-map}
+use Rattle.std.proofs.Math.ListN.{get_or-map}
+use Rattle.text.proofs.RoomsFilled.{one_copied}
 use Rattle.codes.specs.Readings.{hours_of, lit_of}
 use Rattle.codes.proofs.lists.FlatLamps.of.Goals as goal
 
@@ -7,9 +9,4 @@ pub loop-k-preserved : goal.loop-k-preserved
 loop-k-preserved c =
     let lamps = c.args.lamps.now in
     let k = c.loop-k.k in
-    record {
-      told = one_filled _ _ _ _ c.loop-k.invariant.told (omega arith)
-          (one_more_turned hours_of lamps k _ (omega arith));
-      shown =
-          one_filled _ _ _ _ c.loop-k.invariant.shown (omega arith) (one_more_turned lit_of lamps k _ (omega arith));
-    }
+    grind (arith, one_copied, length-map, get_or-map hours_of lamps k, get_or-map lit_of lamps k)
