@@ -1,11 +1,11 @@
 -- What one call gathers of a line that CR ends: by how many bytes stand before it, and where none is CR.
 -- Assumes nothing.
 use Rattle.std.specs.List.{list_all}
-use Rattle.std.proofs.Common.{ℕ, ◌≤◌, ◌+◌, ◌≡◌, ap, true, false, List, length}
+use Rattle.std.proofs.Common.{ℕ, ◌≤◌, ◌+◌, ◌≡◌, true, false, List, length}
 use Prim.Native.Char.{code}
 use Rattle.words.specs.Bytes.{not_cr}
 use Rattle.record.specs.declared.types.Line.{Line}
-use Rattle.stream.specs.Collecting.{line_after, collected_all, gathered_of, gathered_from}
+use Rattle.stream.specs.Collecting.{line_after, collected_all, gathered_from}
 use Rattle.stream.proofs.UpToTheEnd.{plain_up_to, found}
 
 module _ (most : ℕ) (l : Line) (bs : List ℕ) where
@@ -24,4 +24,4 @@ module _ (most : ℕ) (l : Line) (bs : List ℕ) where
   pub plain_gathered : list_all not_cr bs ≡ true
       → gathered_from most l bs ≡ record { line = collected_all most l bs; before = length bs; ended = false }
   unfolding gathered_from
-  plain_gathered p = ap gathered_of (plain_up_to (code "\r") (line_after most) l bs p)
+  plain_gathered p = plain_up_to (code "\r") (line_after most) l bs p

@@ -9,8 +9,8 @@ use Rattle.words.specs.Bytes.{not_cr}
 use Rattle.record.specs.Limits.{line_room}
 use Rattle.record.specs.declared.types.Line.{Line}
 use Rattle.record.proofs.Kept.{room_empty, room_more}
-use Rattle.stream.specs.declared.Gathered.{Gathered}
-use Rattle.stream.specs.Collecting.{line_of, empty_line, overlong_line, line_after, collected_all, gathered_of}
+use Rattle.stream.specs.Collecting.{Gathered}
+use Rattle.stream.specs.Collecting.{line_of, empty_line, overlong_line, line_after, collected_all}
 use Rattle.stream.specs.Collecting.{gathered_from}
 use Rattle.stream.proofs.UpToTheEnd.{up_to-append}
 use Rattle.stream.proofs.AllAtOnce.{one_fits, all_past}
@@ -37,7 +37,7 @@ module _ (most : ℕ) where
       → gathered_from most l (xs ++ (code "\r" ∷ more))
       ≡ record { line = collected_all most l xs; before = length xs; ended = true }
   unfolding gathered_from
-  gathered_from-append l xs more p = ap gathered_of (up_to-append (code "\r") (line_after most) l xs more p)
+  gathered_from-append l xs more p = up_to-append (code "\r") (line_after most) l xs more p
 
   module _ (done xs rest : List ℕ) where
     abbrev with : Line → Gathered

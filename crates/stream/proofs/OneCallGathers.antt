@@ -5,7 +5,7 @@ use Rattle.std.specs.List.{list_all}
 use mathlib.Core.List.{foldl}
 use Prim.Native.Char.{code}
 use Rattle.record.specs.declared.types.Line.{Line}
-use Rattle.stream.specs.declared.Gathered.{Gathered}
+use Rattle.stream.specs.Collecting.{Gathered}
 use Rattle.stream.specs.Collecting.{line_after, gathered_from}
 use Rattle.stream.specs.Machine.{Out, Took, up_to, without_reply, took_bytes, call_of, one_call}
 use Rattle.stream.proofs.UpToTheEnd.{not_end, up_to_by, up_to_kept_in}

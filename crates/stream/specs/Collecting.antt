@@ -6,6 +6,8 @@
 --                              says what is left in its room
 --   line_after most l b        the same, where nothing is left in it
 --   collected_all most l bs    the line after these bytes, one after the other
+--   Gathered                   what one call makes of the bytes that it is handed: the line so far, how many bytes come
+--                              before CR, and whether it came
 --   gathered_from most l bs    the line after the bytes of bs before the first CR, how many these are, and whether it
 --                              came
 -- Assumes nothing.
@@ -15,7 +17,6 @@ use mathlib.Core.List.{foldl}
 use Rattle.record.specs.Limits.{line_room}
 use Rattle.record.specs.Record.{zeros, in_room}
 use Rattle.record.specs.declared.types.Line.{Line}
-use Rattle.stream.specs.declared.Gathered.{Gathered}
 use Rattle.stream.specs.Machine.{UpTo, up_to}
 
 abbrev pub line_of : List ℕ → Line
@@ -42,8 +43,8 @@ line_after most l b = collected_in (λ (m : List ℕ). zeros line_room) most l b
 abbrev pub collected_all : ℕ → Line → List ℕ → Line
 collected_all most l bs = foldl (line_after most) l bs
 
-abbrev pub gathered_of : UpTo Line → Gathered
-gathered_of g = record { line = g.line; before = g.before; ended = g.ended }
+abbrev pub Gathered : Type 0
+Gathered = UpTo Line
 
 unfoldable pub gathered_from : ℕ → Line → List ℕ → Gathered
-gathered_from most l bs = gathered_of (up_to (code "\r") (line_after most) l bs)
+gathered_from most l bs = up_to (code "\r") (line_after most) l bs

@@ -11,29 +11,20 @@ ghost use Rattle.stream.specs.Places.{index_of};
 use record::types::{LINE_ROOM, Line};
 use record::views::Phase;
 
-// What one call makes of the bytes it is handed, as the specs say it: the line so far, the bytes before CR, and whether
-// there was one.
-#[derive(Clone, Copy)]
-pub struct Gathered {
-    pub line: Line,
-    pub before: usize,
-    pub ended: bool,
-}
-
-// The same without the line, which changes where it lies.
+/// What one call makes of the bytes it is handed, beside the line, which changes where it lies: how many come before
+/// CR, and whether it came.
 #[derive(Clone, Copy)]
 pub struct Passed {
     pub before: usize,
     pub ended: bool,
 }
 
-impl Gathered {
-    pub const OVERLONG: Line = Line {
-        overlong: true,
-        held: 0,
-        bytes: [0; LINE_ROOM],
-    };
-}
+// The line that got longer than the phase allows: only its mark is kept.
+const OVERLONG: Line = Line {
+    overlong: true,
+    held: 0,
+    bytes: [0; LINE_ROOM],
+};
 
 // The bytes `more`, none of them CR, after those collected; or the overlong mark where there is no room for them all.
 fn collect(most: usize, l: &mut Line, more: &[u8])
@@ -48,18 +39,18 @@ fn collect(most: usize, l: &mut Line, more: &[u8])
     }
     let held = l.held;
     if most <= held {
-        *l = Gathered::OVERLONG;
+        *l = OVERLONG;
         return;
     }
     if most - held < more.len() {
-        *l = Gathered::OVERLONG;
+        *l = OVERLONG;
         return;
     }
     text::put(&mut l.bytes, held, more);
     l.held = held + more.len();
 }
 
-// The place of the first b in s, or the length of s.
+/// The place of the first b in s, or the length of s.
 pub fn find(s: &[u8], b: u8) -> usize
     ensures place { result ≡ index_of b s.now }
     ensures within { result ≤ length s.now }
@@ -67,7 +58,7 @@ pub fn find(s: &[u8], b: u8) -> usize
     s.iter().position(|x| *x == b).unwrap_or(s.len())
 }
 
-// The bytes up to the first CR, collected as the phase allows.
+/// The bytes up to the first CR, collected as the phase allows.
 pub fn gather(phase: Phase, l: &mut Line, bytes: &[u8]) -> Passed
     ensures line { l.new ≡ (gathered_from (held_most (phase_number phase)) l.old bytes.now).line }
     ensures before { result.before ≡ (gathered_from (held_most (phase_number phase)) l.old bytes.now).before }

@@ -1,9 +1,10 @@
 -- The lines of a log (RULES, Floor log: "A line ends with LF, the last perhaps without").
---   lines_from g log  the lines of a log of which the first has begun with g: each ends with LF, the last perhaps
---                     without
---   lines_of log      the lines of a log
---   linesMost         so many lines, or bytes of one line, are more than are counted
---   IsTooLong log     a log has as many lines, or a line of as many bytes
+--   lines_from g log    the lines of a log of which the first has begun with g: each ends with LF, the last perhaps
+--                       without
+--   lines_of log        the lines of a log
+--   count_most          so many lines, or bytes of one line, are more than are counted
+--   HasEndlessLine log  a log has a line of as many bytes
+--   IsTooLong log       a log has as many lines, or a line of as many bytes
 -- Assumes nothing.
 use Rattle.std.specs.Prelude.{ℕ, ◌≤◌, ◌⊎◌, List, [], ◌∷◌, ◌++◌, Any, length, if◌then◌else◌, ◌==◌}
 use Rattle.text.specs.Words.{◌is◌}

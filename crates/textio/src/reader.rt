@@ -38,6 +38,7 @@ pub struct Reader<R> {
 impl<R: ByteSource> Reader<R> {
     ghost use Rattle.textio.specs.Ahead.{ahead_of, left_in};
 
+    /// The source, with nothing read ahead.
     pub fn new(inner: R) -> Reader<R>
         ensures { left_in R.remaining result ≡ R.remaining inner }
     {

@@ -76,6 +76,7 @@ pub struct Writer<W> {
 impl<W: ByteSink> Writer<W> {
     ghost use Rattle.textio.specs.Waiting.{held_by};
 
+    /// The sink, with nothing waiting for it.
     pub fn new(inner: W) -> Writer<W>
         ensures { held_by W.contents result ≡ W.contents inner }
     {

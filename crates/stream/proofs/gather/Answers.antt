@@ -6,8 +6,8 @@ use Rattle.record.specs.Legal.{held_most}
 use Rattle.record.specs.Views.{phase_number}
 use Rattle.record.proofs.ConnectionTold.{held_most_room}
 use Rattle.record.specs.declared.types.Line.{Line}
-use Rattle.stream.specs.declared.Gathered.{Gathered}
-use Rattle.stream.specs.Collecting.{line_after, collected_all, gathered_of, gathered_from}
+use Rattle.stream.specs.Collecting.{Gathered}
+use Rattle.stream.specs.Collecting.{line_after, collected_all, gathered_from}
 use Rattle.stream.specs.Places.{index_of}
 use Rattle.stream.proofs.AllAtOnce.{all_at_once}
 use Rattle.stream.proofs.gather.Goals as goal
@@ -21,7 +21,7 @@ all : (bs : List ℕ) (l : Line) (most : ℕ) → gathered_from most l bs ≡ re
   ended = nat_lt (index_of (code "\r") bs) (length bs);
 }
 unfolding gathered_from
-all bs l most = ap gathered_of (all_at_once (code "\r") (line_after most) l bs)
+all bs l most = all_at_once (code "\r") (line_after most) l bs
 
 pub returns-clause-line : goal.returns-clause-line
 returns-clause-line c =
