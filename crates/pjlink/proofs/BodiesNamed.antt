@@ -4,9 +4,7 @@
 use Rattle.std.proofs.Common.{arith, ℕ, ◌≡◌, true, ◌&&◌, List, ◌==◌, find, Option, Some}
 use Rattle.std.specs.Option.{option_map}
 use Rattle.text.specs.Scans.{same_by, itself}
-use Rattle.text.proofs.Choices.{both_right}
 use Rattle.text.proofs.Sameness.{same_turned}
-use Rattle.words.specs.Bytes.{upper_of}
 use Rattle.words.specs.Classes.{class_as_number}
 use Rattle.pjlink.specs.Bodies.{class_of, body_named, is_body}
 use Rattle.pjlink.specs.Commands.{body_text}
@@ -27,10 +25,6 @@ pub record Named (b : Body) : Type 0 where
 pub body_named_lem : (b : Body) → Named b
 body_named_lem b = grind arith
 
-module _ (k : ℕ) (s : List ℕ) (b : Body) (named : is_body k s b ≡ true) where
-  pub same_by-body_text : same_by upper_of s (body_text b) ≡ true
-  same_by-body_text = both_right (k == class_of b) (same_by upper_of s (body_text b)) named
-
-  -- bytes that a body's text is, in any case of letters, name that body
-  pub body_is_named : body_named k s ≡ Some b
-  body_is_named = grind (arith, same_turned)
+-- bytes that a body's text is, in any case of letters, name that body
+pub body_is_named : (k : ℕ) (s : List ℕ) (b : Body) → is_body k s b ≡ true → body_named k s ≡ Some b
+body_is_named k s b named = grind (arith, same_turned)

@@ -33,11 +33,7 @@ pub data KeptAs (now before : Request) : Type 0 where
   of_class_2 : (a b : ℕ) → is_input_text 2 a b ≡ true → is_input_text 1 a b ≡ false
       → now ≡ Ok (InputSet (input_named a b)) → before ≡ Err (Unlisted Inpt) → KeptAs now before
 
--- a parameter of one character, and of two, by its length and its characters
-switch_by_one : (p : List ℕ)
-    → whole_value switch_read p ≡ (if length p == 1 && p at 0 from "0" to "1" then Some (p at 0 is "1") else None)
-switch_by_one p = grind arith
-
+-- a parameter of two characters, by its length and its characters
 mute_by_two : (p : List ℕ)
     → mute_of p
     ≡ (if length p == 2 && (p at 0 from "1" to "3" && p at 1 from "0" to "1")

@@ -3,16 +3,15 @@
 -- last is CR.
 -- Assumes nothing.
 use Rattle.std.specs.List.{list_all}
-use Rattle.std.proofs.Common.{ℕ, ◌+◌, ◌≤◌, ◌<◌, ◌≡◌, sym, ap, ◌∙◌, Bool, true, false, List}
+use Rattle.std.proofs.Common.{ℕ, ◌+◌, ◌≤◌, ◌<◌, ◌≡◌, sym, ap, ◌∙◌, true, false, List}
 use Rattle.std.proofs.Common.{◌∷◌, ◌++◌, arith, length, length-append, nat_le, le-leb, ne_eqb, codes}
 use Rattle.std.proofs.lemmas.Bool.{lt-leb}
 use Rattle.text.proofs.Scanning.{list_all_implies}
 use Rattle.words.specs.Bytes.{is_alnum, not_cr, no_cr}
 use Rattle.words.specs.Inputs.{input_text}
 use Rattle.pjlink.specs.Commands.{body_text, body_of, command_class, class_digit, parameter_of}
-use Rattle.words.specs.Powers.{switch_code}
 use Rattle.pjlink.specs.Commands.{command_text, command_line}
-use Rattle.pjlink.specs.Forms.{head_body, takes_class, is_command_form, command_parameter, line_class}
+use Rattle.pjlink.specs.Forms.{head_body, is_command_form, command_parameter, line_class}
 use Rattle.words.specs.declared.input.Input.{Input}
 use Rattle.pjlink.specs.declared.command.Command.{Command}
 use Rattle.words.proofs.Characters.{no_cr_of, alnum_not_cr}
@@ -24,18 +23,11 @@ pub spelt : (c : Command) {h : ℕ} {s p : List ℕ} → h ≡ class_digit (comm
     → codes "%" ++ (h ∷ four s) ++ codes " " ++ p ++ codes "\r" ≡ command_line c
 spelt c k e f = grind arith
 
-not_cr-switch_code : (on : Bool) → not_cr (switch_code on) ≡ true
-not_cr-switch_code on = grind arith
-
 pub input_no_cr : (i : Input) → list_all not_cr (input_text i) ≡ true
 input_no_cr i = list_all_implies is_alnum not_cr alnum_not_cr (input_text i) (input_alnum i)
 
 list_all-parameter_of : (c : Command) → list_all not_cr (parameter_of c) ≡ true
 list_all-parameter_of c = grind (arith, input_no_cr)
-
--- a set-up takes the lines of its own class and of a lower one
-pub takes_class-class_digit : (k j : ℕ) → 1 ≤ k → k ≤ 2 → 1 ≤ j → j ≤ 2 → takes_class k (class_digit j) ≡ nat_le j k
-takes_class-class_digit k j lk hk lj hj = grind arith
 
 module _ (c : Command) where
   abbrev h : ℕ

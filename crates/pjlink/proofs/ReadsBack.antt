@@ -4,7 +4,7 @@
 -- Assumes nothing.
 use Rattle.std.proofs.lemmas.Grind.{common_steps}
 use Rattle.std.specs.List.{list_all}
-use Rattle.std.proofs.Common.{ℕ, zero, suc, ◌≡◌, ◌≤◌, Bool, true, false, List, [], ◌∷◌, length, refl, ap}
+use Rattle.std.proofs.Common.{ℕ, zero, suc, ◌≡◌, ◌≤◌, Bool, true, List, [], ◌∷◌, length, refl, ap}
 use Rattle.std.proofs.Common.{◌∙◌, arith, slice_index_or, codes, Option, None}
 use Rattle.std.proofs.lemmas.Bool.{eq-eqb}
 use Rattle.std.proofs.lemmas.List.{length-map}
@@ -68,10 +68,6 @@ read_parameter-said_text : (c : Command) (r : Refusal) → is_refusal_to c (refu
     → read_parameter c (said_text (refused (refusal_digit r))) ≡ refused (refusal_digit r)
 unfolding read_parameter
 read_parameter-said_text c r t = grind arith
-
--- an input's name is the answer to no set
-name_no_set : (c : Command) → body_of c ≡ Innm → is_set c ≡ false
-name_no_set c h = grind arith
 
 name_back : (c : Command) (s : List ℕ) → body_of c ≡ Innm → is_input_name s ≡ true → read_value c s ≡ text_is s
 name_back c s b e = grind arith

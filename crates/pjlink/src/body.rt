@@ -1,5 +1,5 @@
 // The bodies of both classes: THE table, a row for each (RULES, Commands; PJLink 1.04, 4.1 to 4.14; RULES, Class 2).
-ghost use Rattle.std.specs.Prelude.{◌≡◌};
+ghost use Rattle.std.specs.Prelude.{◌≡◌, ◌==◌};
 ghost use Rattle.words.specs.Classes.{class_as_number};
 ghost use Rattle.pjlink.specs.Bodies.{row_of, is_named, is_body, body_named, has_set, has_parameters, has_query};
 
@@ -92,6 +92,12 @@ pub const BODIES: [Row; 19] = [
     Row { body: Body::Inst2, class: Two, letters: *b"INST", set: QueryOnly, asks: true, lamps: false, on: false },
 ];
 
+fn same_class(a: ClassNumber, b: ClassNumber) -> bool
+    ensures { result ≡ (class_as_number a == class_as_number b) }
+{
+    a.number() == b.number()
+}
+
 impl Row {
     /// Whether four letters name its body in a line of the class, whatever their case.
     fn is_named(&self, class: ClassNumber, letters: [u8; 4]) -> bool
@@ -99,7 +105,7 @@ impl Row {
     {
         let [a, b, c, d] = letters;
         let [w, x, y, z] = self.letters;
-        class.number() == self.class.number()
+        same_class(class, self.class)
             && byte::upper(a) == w
             && byte::upper(b) == x
             && byte::upper(c) == y

@@ -6,6 +6,7 @@ ghost use Rattle.pjlink.specs.Forms.{is_headed_by, IsCommandOf, IsReplyOf};
 
 use words::byte;
 use words::class::ClassNumber;
+use words::codec::LINE_MOST;
 
 /// What a line of either form has beside its marks.
 #[derive(Clone, Copy)]
@@ -42,7 +43,7 @@ pub fn command(k: ClassNumber, l: &[u8]) -> Option<Parts<'_>>
         return None;
     };
     let letters = [*a, *b, *c, *d];
-    if l.len() > 135 || !is_headed(*first, letters, *mark, b' ') {
+    if l.len() > LINE_MOST - 1 || !is_headed(*first, letters, *mark, b' ') {
         return None;
     }
     let class = class_for(k, *class)?;
@@ -77,7 +78,7 @@ pub fn reply(k: ClassNumber, l: &[u8]) -> Option<Parts<'_>>
         return None;
     };
     let letters = [*a, *b, *c, *d];
-    if l.len() > 136
+    if l.len() > LINE_MOST
         || !is_headed(*first, letters, *mark, b'=')
         || *class != k.code()
         || *last != b'\r'

@@ -50,10 +50,7 @@ module _ (i : Input) (legal : is_input i ≡ true) where
   unfolding input_of
   input_of-input_text = (whole_says input_codec).back i (input_text i) (legal, refl)
 
--- what names an input of Class 1 names one of Class 2
-wider : (a b : ℕ) → is_input_text 1 a b ≡ true → is_input_text 2 a b ≡ true
-wider a b e = grind arith
-
+-- what names an input of one class names one of Class 2
 pub named_widely : (k a b : ℕ) → is_input_text k a b ≡ true → is_input_text 2 a b ≡ true
 named_widely k a b = grind arith
 

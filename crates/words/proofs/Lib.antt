@@ -1,4 +1,3 @@
-pub mod ByPlaces
 pub mod Refusals
 pub mod TextsTold
 pub mod WithinLength

@@ -2,7 +2,7 @@
 -- digit, and a legal text.
 -- Assumes nothing.
 use Rattle.std.specs.List.{list_all}
-use Rattle.std.proofs.Common.{ℕ, ◌≡◌, ◌≤◌, true, List, length, refl, sym, ap, ◌∙◌, arith, slice_index_or, nat_le}
+use Rattle.std.proofs.Common.{ℕ, ◌≡◌, ◌≤◌, true, List, length, sym, ap, ◌∙◌, arith, slice_index_or, nat_le}
 use Rattle.std.specs.Prelude.{Option, Some, None, not, ◌&&◌}
 use Prim.Native.Char.{code}
 use Rattle.text.proofs.Choices.{both_right}
@@ -22,9 +22,6 @@ none_by o h = grind arith
 
 pub refusal_is : (p : List ℕ) (r : Refusal) → whole_value refusal_read p ≡ Some r → p ≡ refusal_text r
 refusal_is p r e = ((whole_says refusal_codec).sound p r e).1
-
-pub whole_value-refusal_text : (r : Refusal) → whole_value refusal_read (refusal_text r) ≡ Some r
-whole_value-refusal_text r = (whole_says refusal_codec).back r (refusal_text r) (refl, refl)
 
 pub not_four : (p : List ℕ) → (length p ≡ 4 → ⊥) → whole_value refusal_read p ≡ None
 not_four p h = none_by (whole_value refusal_read p) (λ r e. h (ap length (refusal_is p r e)))

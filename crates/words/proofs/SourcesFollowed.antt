@@ -4,16 +4,10 @@
 use Rattle.std.proofs.lemmas.Grind.{common_steps}
 use Rattle.std.proofs.Common.{ℕ, ◌≡◌, sym, ap, ◌∙◌, true, [], ◌∷◌, arith, Some, None}
 use Rattle.text.proofs.Choices.{if_yes}
-use Rattle.words.specs.Sources.{type_of, same_input, character, number_character, input_for}
+use Rattle.words.specs.Sources.{same_input, number_character, input_for}
 use Rattle.words.specs.Inputs.{is_input_text, source_named, input_named, read_input, is_input, source_digit, input_text}
-use Rattle.words.specs.declared.input.Source.{Source}
 use Rattle.words.specs.declared.input.Input.{Input}
 use Rattle.words.proofs.InputsReadBack.{input_read_back, read_input_by, named_widely, named_text}
-
--- each row, as it is read
-pub source_named-character : (s : Source) → source_named (character (type_of s)) ≡ s
-unfolding source_named
-source_named-character s = grind arith
 
 -- whatever two characters stand for is what is read of them
 module _ (a b : ℕ) where

@@ -1,7 +1,7 @@
 -- The table of the types of an input (RULES, The legal record; PJLink 1.04, 4.3; RULES, Class 2: type 6 and numbers
 -- with letters are of Class 2), and what two characters stand for by it. What reads and what writes characters has
 -- definitions of its own (Inputs), which are proved to follow this table (proofs/SourcesFollowed), and so has the C
--- face for its codes (`source_number` of codes/specs/Commands; `face_follows` of codes/proofs/CodesBack).
+-- face for its codes (`source_number` of codes/specs/Commands; `face_follows` of codes/proofs/CommandsCoded).
 --   type_of s               the type of a source, 1 to 6
 --   same_input i j          i and j have the same type and the same number
 --   character n             the character of a number below ten

@@ -1,15 +1,23 @@
 // Single bytes of a line (PJLink 1.04, 2.1).
 ghost use Rattle.std.specs.Prelude.{◌≡◌};
 ghost use Rattle.words.specs.Bytes.{is_alnum, upper_of, no_cr};
+ghost use Rattle.words.specs.Texts.{is_text_byte};
 
-// An ASCII letter or digit.
+/// An ASCII letter or digit.
 pub fn is_alnum(b: u8) -> bool
     ensures { result ≡ is_alnum b }
 {
     ((b'0' <= b) & (b <= b'9')) | ((b'A' <= b) & (b <= b'Z')) | ((b'a' <= b) & (b <= b'z'))
 }
 
-// The upper case of a letter; any other byte as it is.
+/// A byte of a text (RULES, Texts): any but those below the space.
+pub fn is_text_byte(b: u8) -> bool
+    ensures { result ≡ is_text_byte b }
+{
+    0x20 <= b
+}
+
+/// The upper case of a letter; any other byte as it is.
 pub fn upper(b: u8) -> u8
     ensures { result ≡ upper_of b }
 {
@@ -22,7 +30,7 @@ pub fn upper(b: u8) -> u8
     b - (b'a' - b'A')
 }
 
-// Whether no byte of s is CR.
+/// Whether no byte of s is CR.
 #[tactic(auto, unfolding(crate::specs::Bytes::no_cr))]
 pub fn no_cr(s: &[u8]) -> bool
     ensures { result ≡ no_cr s.now }

@@ -9,6 +9,7 @@ ghost use Rattle.words.specs.Laws.{input_codec};
 use crate::codec;
 use crate::codec::{Line, Wire};
 
+/// The type of an input, 1 to 6 in this order; 6 is of Class 2 only (RULES, Inputs).
 #[derive(Clone, Copy, Default)]
 pub enum Source {
     #[default]
@@ -20,7 +21,7 @@ pub enum Source {
     Internal,
 }
 
-// The number is 1 to 9, or 10 to 35 for A to Z.
+/// An input: its type and its number. The number is 1 to 9, or 10 to 35 for A to Z.
 #[derive(Clone, Copy, Default)]
 pub struct Input {
     pub source: Source,
@@ -33,7 +34,8 @@ fn is_number_character(b: u8) -> bool
     ((b'1' <= b) & (b <= b'9')) | ((b'A' <= b) & (b <= b'Z'))
 }
 
-// Whether two characters name an input of Class k: 11 and 59 do; 10 and 20 do not; 61 and 1A do of Class 2 only.
+/// Whether two characters name an input of Class k: 11 and 59 do; 10 and 20 do not; 61 and 1A do of Class 2 only. Every
+/// k other than 1 is read as Class 2.
 pub fn is_input_text(k: u8, a: u8, b: u8) -> bool
     ensures { result ≡ is_input_text k a b }
 {
@@ -68,7 +70,7 @@ fn number_for(b: u8) -> u8
     10 + (b - b'A')
 }
 
-// The input of either class that two characters name, or none.
+/// The input of either class that two characters name, or none.
 #[tactic(auto, unfolding(crate::specs::Inputs::read_input))]
 pub fn read_input(a: u8, b: u8) -> Option<Input>
     ensures { result ≡ read_input a b }
@@ -81,7 +83,7 @@ pub fn read_input(a: u8, b: u8) -> Option<Input>
     Some(Input { source, number })
 }
 
-// The input of one word.
+/// The input of one word.
 #[tactic(auto, unfolding(crate::specs::Inputs::input_of))]
 pub fn input_of(w: &[u8]) -> Option<Input>
     ensures { result ≡ input_of w.now }
@@ -89,7 +91,7 @@ pub fn input_of(w: &[u8]) -> Option<Input>
     codec::parse(w)
 }
 
-// Whether two characters can name the input.
+/// Whether two characters can name the input.
 pub fn is_input(i: Input) -> bool
     ensures { result ≡ is_input i }
 {
@@ -97,6 +99,7 @@ pub fn is_input(i: Input) -> bool
 }
 
 // The two characters, the source's first.
+/// The character of a source: its type, 1 to 6.
 pub fn source_digit(s: Source) -> u8
     ensures { result ≡ source_digit s }
 {
@@ -110,6 +113,7 @@ pub fn source_digit(s: Source) -> u8
     }
 }
 
+/// The character of a number of 1 to 35: a digit up to 9, a letter from 10 on.
 #[tactic(auto, unfolding(crate::specs::Sources::number_character))]
 pub fn number_character(n: u8) -> u8
     ensures { result ≡ number_character n }
@@ -120,6 +124,7 @@ pub fn number_character(n: u8) -> u8
     b'A' + (n - 10) % 26
 }
 
+/// The two characters of an input.
 pub fn input_text(i: Input) -> [u8; 2]
     ensures { result ≡ input_text i }
 {
@@ -127,6 +132,7 @@ pub fn input_text(i: Input) -> [u8; 2]
     [source_digit(source), number_character(i.number)]
 }
 
+/// The last decimal digit of a number, as a character.
 pub fn number_digit(n: u8) -> u8
     ensures { result ≡ number_digit n }
 {

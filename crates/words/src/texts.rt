@@ -2,21 +2,37 @@
 ghost use Rattle.std.specs.Prelude.{◌≡◌};
 ghost use Rattle.std.specs.List.{list_all};
 ghost use Rattle.std.specs.Str.{is_utf8};
+ghost use Rattle.text.specs.Words.{◌from◌to◌};
 ghost use Rattle.words.specs.Bytes.{is_alnum};
 ghost use Rattle.words.specs.Texts.{is_refusal, is_text_byte, is_text, is_name, is_info, is_input_name};
 ghost use Rattle.words.specs.Texts.{is_password};
 
 use crate::byte;
 
-// Whether s is exactly ERR1, ERR2, ERR3 or ERR4.
+/// The most bytes of the projector's name.
+pub const NAME_MOST: usize = 64;
+
+/// The most bytes of maker, model, other information, serial number and version.
+pub const INFO_MOST: usize = 32;
+
+/// The most bytes of an input's name (RULES, Class 2).
+pub const INPUT_NAME_MOST: usize = 128;
+
+/// The most characters of a password.
+pub const PASSWORD_MOST: usize = 32;
+
+fn is_refusal_digit(b: u8) -> bool
+    ensures { result ≡ (b from "1" to "4") }
+{
+    b'1' <= b && b <= b'4'
+}
+
+/// Whether s is exactly ERR1, ERR2, ERR3 or ERR4.
 #[tactic(auto, unfolding(crate::specs::Texts::is_refusal))]
 pub fn is_refusal(s: &[u8]) -> bool
     ensures { result ≡ is_refusal s.now }
 {
-    if s.len() != 4 {
-        return false;
-    }
-    (s[0] == b'E') & (s[1] == b'R') & (s[2] == b'R') & ((b'1' <= s[3]) & (s[3] <= b'4'))
+    matches!(s, [b'E', b'R', b'R', digit] if is_refusal_digit(*digit))
 }
 
 // Each byte is 0x20 to 0xFF.
@@ -25,17 +41,17 @@ fn all_text(s: &[u8]) -> bool
 {
     let mut ok = true;
     for &b in s {
-        ok = ok & (0x20 <= b);
+        ok = ok & byte::is_text_byte(b);
     }
     ok
 }
 
-// 0 to `most` bytes, each 0x20 to 0xFF, and no refusal.
+/// 0 to `most` bytes, each 0x20 to 0xFF, and no refusal.
 #[tactic(auto, unfolding(crate::specs::Texts::is_text))]
 pub fn is_text(s: &[u8], most: usize) -> bool
     ensures { result ≡ is_text most s.now }
 {
-    (s.len() <= most) & all_text(s) & !is_refusal(s)
+    s.len() <= most && all_text(s) && !is_refusal(s)
 }
 
 // Whether s is well-formed UTF-8, by the table of RFC 3629 (`theorems::bytes_and_numbers_agree`).
@@ -45,26 +61,25 @@ fn is_utf8(s: &[u8]) -> bool
     str::from_utf8(s).is_ok()
 }
 
-// The rule of the projector's name, for set-up, legality and reader alike (RULES, Texts).
-#[tactic(auto, unfolding(crate::specs::Texts::is_name))]
+/// The rule of the projector's name, for set-up, legality and reader alike (RULES, Texts).
 pub fn is_name(s: &[u8]) -> bool
     ensures { result ≡ is_name s.now }
 {
-    is_text(s, 64) & is_utf8(s)
+    is_text(s, NAME_MOST) & is_utf8(s)
 }
 
-// The rule of maker, model, other information, serial number and version.
+/// The rule of maker, model, other information, serial number and version.
 pub fn is_info(s: &[u8]) -> bool
     ensures { result ≡ is_info s.now }
 {
-    is_text(s, 32)
+    is_text(s, INFO_MOST)
 }
 
-// The rule of an input's name (RULES, Class 2).
+/// The rule of an input's name (RULES, Class 2).
 pub fn is_input_name(s: &[u8]) -> bool
     ensures { result ≡ is_input_name s.now }
 {
-    is_text(s, 128)
+    is_text(s, INPUT_NAME_MOST)
 }
 
 fn all_alnum(s: &[u8]) -> bool
@@ -77,10 +92,10 @@ fn all_alnum(s: &[u8]) -> bool
     ok
 }
 
-// 0 to 32 ASCII letters and digits.
+/// 0 to 32 ASCII letters and digits.
 #[tactic(auto, unfolding(crate::specs::Texts::is_password))]
 pub fn is_password(s: &[u8]) -> bool
     ensures { result ≡ is_password s.now }
 {
-    (s.len() <= 32) & all_alnum(s)
+    s.len() <= PASSWORD_MOST && all_alnum(s)
 }
