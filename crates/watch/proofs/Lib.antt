@@ -1,4 +1,3 @@
-pub mod MarksSaid
 pub mod DoneSpelt
 pub mod LineLeaves
 mod Sound

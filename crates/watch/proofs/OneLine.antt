@@ -1,24 +1,27 @@
 -- One line of a log that is watched, by what the functions that play it give.
 -- Assumes nothing.
 use Rattle.std.proofs.Common.{ℕ, ◌+◌, ◌-◌, ◌^◌, ◌<◌, ◌≡◌, ap, ◌∙◌, Bool, true, List, [], arith, slice_index_or}
-use Rattle.std.proofs.Common.{if◌then◌else◌}
+use Rattle.std.proofs.Common.{if◌then◌else◌, Option}
 use Rattle.record.specs.declared.types.Device.{Device}
 use Rattle.floorlog.specs.declared.line.Says.{Says}
 use Rattle.floorlog.specs.Lines.{line_said}
 use Rattle.floorlog.specs.Events.{event, event_of}
 use Rattle.floorlog.proofs.KeptText.{event_said}
-use Rattle.watch.specs.declared.marking.MarkSaid.{MarkSaid}
 use Rattle.watch.specs.declared.light.Light.{Light}
 use Rattle.watch.specs.Marking.{mark_said, event_by, floor_event, done_by, seconds_by}
 use Rattle.watch.specs.Watching.{Watching, is_burning_in, gained_by, watched_on, is_sound}
 use Rattle.watch.specs.States.{light_of, IsWatched}
-use Rattle.watch.proofs.MarksSaid.{seconds_of-event_of}
+use Rattle.floorlog.specs.Told.{seconds_of}
 use Rattle.watch.proofs.Sound.{sound_after, burnt_fits}
 
-module _ (l : List ℕ) {mark : MarkSaid} (m : mark ≡ mark_said l) where
+-- the seconds of a line, whatever its text
+seconds_of-event_of : (s : Says) (bs : List ℕ) → seconds_of (event_of s []) ≡ seconds_of (event_of s bs)
+seconds_of-event_of s bs = grind arith
+
+module _ (l : List ℕ) {mark : Option (ℕ × Bool)} (m : mark ≡ mark_said l) where
   event_is : event_by mark (event l) ≡ floor_event l
   unfolding floor_event
-  event_is = ap (λ (x : MarkSaid). event_by x (event l)) m
+  event_is = ap (λ (x : Option (ℕ × Bool)). event_by x (event l)) m
 
   pub seconds_is : {says : Says} {n : ℕ} → says ≡ line_said l → n ≡ seconds_by (event_by mark (event_of says []))
       → n ≡ seconds_by (floor_event l)

@@ -2,13 +2,13 @@
 -- what it is there: `M`, a space, a lamp's number from 1, a space, 0 or 1 is the mark call. No projector has more than
 -- eight lamps, so a number is one digit.
 --   is_mark_line l    l has that form
---   mark_said l       the place of the lamp that it names, from 0, and the mark
+--   mark_said l       the place of the lamp that it names, from 0, and the mark, if it is one
 --   FloorEvent        an event of such a log
 --   floor_event l     that of the line l
 --   done_by d e       the device after it
 --   seconds_by e      the seconds that it lets pass
 -- Assumes nothing.
-use Rattle.std.specs.Prelude.{ℕ, ◌-◌, Bool, ◌&&◌, List, length, if◌then◌else◌, ◌==◌}
+use Rattle.std.specs.Prelude.{ℕ, ◌-◌, Bool, ◌&&◌, List, length, if◌then◌else◌, ◌==◌, Option, Some, None}
 use Prim.Native.Char.{code}
 use Rattle.text.specs.Words.{◌is◌, ◌from◌to◌}
 use Rattle.words.specs.Bytes.{◌at◌}
@@ -18,24 +18,22 @@ use Rattle.record.specs.declared.types.Device.{Device}
 use Rattle.floorlog.specs.Events.{LogEvent, event}
 use Rattle.floorlog.specs.Doing.{event_result}
 use Rattle.floorlog.specs.Told.{seconds_of}
-use Rattle.watch.specs.declared.marking.MarkSaid.{MarkSaid}
-use Rattle.watch.specs.declared.marking.MarkSaid.TheVariants.{Sets, NoMark}
 
 abbrev pub is_mark_line : List ℕ → Bool
 is_mark_line l =
     length l == 5 && l at 0 is "M" && l at 1 is " " && l at 2 from "1" to "9" && l at 3 is " "
     && l at 4 from "0" to "1"
 
-unfoldable pub mark_said : List ℕ → MarkSaid
-mark_said l = if is_mark_line l then Sets ((l at 2) - code "1") (l at 4 is "1") else NoMark
+unfoldable pub mark_said : List ℕ → Option (ℕ × Bool)
+mark_said l = if is_mark_line l then Some ((l at 2) - code "1", l at 4 is "1") else None
 
 pub data FloorEvent : Type 0 where
   logged : LogEvent → FloorEvent
   marked : (lamp : ℕ) (mark : Bool) → FloorEvent
 
-abbrev pub event_by : MarkSaid → LogEvent → FloorEvent
-event_by (Sets lamp mark) e = marked lamp mark
-event_by NoMark e = logged e
+abbrev pub event_by : Option (ℕ × Bool) → LogEvent → FloorEvent
+event_by (Some (lamp, mark)) e = marked lamp mark
+event_by None e = logged e
 
 unfoldable pub floor_event : List ℕ → FloorEvent
 floor_event l = event_by (mark_said l) (event l)

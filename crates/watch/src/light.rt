@@ -15,7 +15,7 @@ fn gain(mark: bool, burnt: u64, n: u64) -> u64
     burnt
 }
 
-// Each lamp whose mark is set burnt n seconds more.
+/// Each lamp whose mark is set burnt n seconds more.
 pub fn gained(
     burnt: [u64; LAMPS_MOST],
     marks: [bool; LAMPS_MOST],
@@ -35,7 +35,7 @@ pub fn gained(
     after
 }
 
-// The same where a stretch ended, else what it was.
+/// `gained` where a stretch ended, else what it was.
 pub fn gained_if(
     ended: bool,
     burnt: [u64; LAMPS_MOST],
@@ -52,8 +52,8 @@ pub fn gained_if(
     burnt
 }
 
-// What a line does to the light: whether the lamps burn no longer after it, the second at which they began to burn
-// last, and whether stretches ended that are not empty.
+/// What a line does to the light: whether the lamps burn no longer after it, the second at which they began to burn
+/// last, and whether stretches ended that are not empty.
 #[derive(Clone, Copy)]
 pub struct Light {
     pub dark: bool,
@@ -70,7 +70,7 @@ fn begin(lights: bool, time: u64, from: u64) -> u64
     from
 }
 
-// By whether the lamps burnt before it and burn after it, at that time.
+/// What a line does to the light, by whether the lamps burnt before it and burn after it, at that time.
 pub fn light_after(was: bool, is: bool, time: u64, from: u64) -> Light
     ensures { result ≡ light_of was is time from }
 {

@@ -1,5 +1,6 @@
 // One line of a log that is watched for its lamps: what it does to the device, where it lies.
 ghost use Rattle.std.specs.Prelude.{◌≡◌, []};
+ghost use Rattle.text.specs.Words.{◌from◌to◌};
 ghost use Rattle.floorlog.specs.Lines.{line_said};
 ghost use Rattle.floorlog.specs.Events.{event_of, event};
 ghost use Rattle.floorlog.specs.KeptText.{kept_text};
@@ -11,44 +12,40 @@ use floorlog::kept::KeptLine;
 use floorlog::line::Says;
 use record::legality::Tested;
 
-// The mark that a line asks for: of the lamp at a place from 0.
-#[derive(Clone, Copy)]
-pub enum MarkSaid {
-    Sets(u8, bool),
-    NoMark,
+fn is_lamp(b: u8) -> bool
+    ensures { result ≡ (b from "1" to "9") }
+{
+    b'1' <= b && b <= b'9'
 }
 
-// `M`, a space, a lamp's number from 1, a space, 0 or 1.
-pub fn mark_says(l: &[u8]) -> MarkSaid
+fn is_mark(b: u8) -> bool
+    ensures { result ≡ (b from "0" to "1") }
+{
+    b'0' <= b && b <= b'1'
+}
+
+/// What a line says of a mark, if it is a mark call: `M`, a space, a lamp's number from 1, a space, 0 or 1. The lamp's
+/// place from 0, and the mark.
+#[tactic(auto, unfolding(crate::specs::Marking::mark_said))]
+pub fn mark_says(l: &[u8]) -> Option<(u8, bool)>
     ensures { result ≡ mark_said l.now }
 {
-    if l.len() != 5 {
-        return MarkSaid::NoMark;
+    match l {
+        [b'M', b' ', lamp, b' ', mark] if is_lamp(*lamp) && is_mark(*mark) => Some((
+            *lamp - b'1',
+            *mark == b'1',
+        )),
+        _ => None,
     }
-    let lamp = l[2];
-    let mark = l[4];
-    if lamp < b'1' {
-        return MarkSaid::NoMark;
-    }
-    if (l[0] == b'M')
-        & (l[1] == b' ')
-        & (lamp <= b'9')
-        & (l[3] == b' ')
-        & (b'0' <= mark)
-        & (mark <= b'1')
-    {
-        return MarkSaid::Sets(lamp - b'1', mark == b'1');
-    }
-    MarkSaid::NoMark
 }
 
-// The seconds that a line lets pass, by what it says.
-pub fn seconds_of(mark: MarkSaid, says: Says) -> u32
+/// The seconds that a line lets pass, by what it says.
+pub fn seconds_of(mark: Option<(u8, bool)>, says: Says) -> u32
     ensures { result ≡ seconds_by (event_by mark (event_of says [])) }
 {
     match mark {
-        MarkSaid::Sets(_, _) => 0,
-        MarkSaid::NoMark => event::seconds_of(says),
+        Some(_) => 0,
+        None => event::seconds_of(says),
     }
 }
 
@@ -68,13 +65,13 @@ fn call(t: &mut Tested, says: Says, line: &mut KeptLine)
     event::call(t, says, line.received(), &mut reply);
 }
 
-// The line, which says so, is played.
-pub fn end_line(t: &mut Tested, mark: MarkSaid, says: Says, line: &mut KeptLine)
+/// The line, which says so, is played.
+pub fn end_line(t: &mut Tested, mark: Option<(u8, bool)>, says: Says, line: &mut KeptLine)
     requires { says ≡ line_said (kept_text line.old) }
     ensures { t.new.device ≡ done_by t.old.device (event_by mark (event (kept_text line.old))) }
 {
     match mark {
-        MarkSaid::Sets(lamp, to) => set_mark(t, lamp, to),
-        MarkSaid::NoMark => call(t, says, line),
+        Some((lamp, to)) => set_mark(t, lamp, to),
+        None => call(t, says, line),
     }
 }
