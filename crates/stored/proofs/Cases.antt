@@ -1,7 +1,7 @@
 -- Loading by its cases: what it gives by the version, by what the form says and leaves, and by what set-up gave.
 -- Assumes nothing.
 use Rattle.std.proofs.Common.{ℕ, ◌<◌, ◌≡◌, Bool, true, false, ◌&&◌, ◌==◌, if◌then◌else◌, List, length, map, replicate}
-use Rattle.std.proofs.Common.{Some, None, Result, sym, ap, ◌∙◌, arith, eqb-true, OnOk}
+use Rattle.std.proofs.Common.{Some, None, Result, Ok, Err, sym, ap, ◌∙◌, arith, eqb-true, OnOk}
 use Rattle.std.specs.Result.{is_ok}
 use Rattle.text.proofs.Choices.{if_yes, by_not}
 use Rattle.record.specs.Limits.{lamps_most, is_class_number}
@@ -21,6 +21,7 @@ use Rattle.stored.specs.Form.{mark_byte}
 use Rattle.stored.specs.Reading.{FormSaid, form}
 use Rattle.stored.specs.Views.{class_said}
 use Rattle.stored.specs.declared.form.Rest.{Rest}
+use Rattle.stored.specs.declared.error.LoadError.TheVariants.{LeftOver}
 use Rattle.stored.specs.Loading.{is_other_version, contents, loaded_from, is_marked, is_marks_of, are_marks}
 use Rattle.stored.specs.Loading.{started_with}
 use Rattle.stored.proofs.Marks.{marks_back, are_marks-map, all_are_marks, map-replicate, started_with-replicate}
@@ -44,6 +45,9 @@ module _ (s : List ℕ) where
       pub loaded_whole : (length rest == 0) ≡ true → loaded_from s ≡ contents f
       unfolding loaded_from
       loaded_whole h = grind (arith, v, e, h)
+
+pub none_over : (t : Bool) (u : Unit {0}) → Ok u ≡ (if t then Ok tt else Err LeftOver) → t ≡ true
+none_over t u e = grind (arith, e)
 
 pub ruleset loaded_early = (loaded_other, loaded_cut, loaded_over)
 

@@ -24,7 +24,8 @@ use Rattle.stored.specs.Reading.{Field, ◌giving◌, given, byte, bytes, number
 use Rattle.text.proofs.InTurn.{length-each_in_turn}
 use Rattle.record.specs.Limits.{lamps_most}
 use Rattle.record.specs.Record.{in_room}
-use Rattle.record.proofs.Kept.{filled_take, one_copied}
+use Rattle.text.proofs.RoomsFilled.{one_copied}
+use Rattle.record.proofs.Kept.{filled_take}
 
 -- ---- written
 

@@ -1,6 +1,7 @@
 // Loading a stored form (RULES, Stored form and Lamps): the version, then whether the bytes end with the form, then
 // what it says. The record is made where it lies, so that no copy of it is on the stack.
-ghost use Rattle.std.specs.Prelude.{◌≡◌, ◌/◌, ◌≤◌, true, map, length, OnOk, OnErr};
+ghost use Rattle.std.specs.Prelude.{◌≡◌, ◌/◌, ◌==◌, ◌&&◌, ◌≤◌, true, map, length, OnOk, OnErr};
+ghost use Rattle.std.specs.List.{list_all};
 ghost use Rattle.std.specs.Result.{is_ok};
 ghost use Rattle.record.specs.Limits.{lamps_most};
 ghost use Rattle.record.specs.Record.{in_room, start_device, blank};
@@ -9,7 +10,8 @@ ghost use Rattle.record.specs.Facts.{IsLegal};
 ghost use Rattle.record.specs.SetUp.{is_set_up};
 ghost use Rattle.record.specs.Given.{gives};
 ghost use Rattle.stored.specs.Reading.{seconds_in};
-ghost use Rattle.stored.specs.Loading.{is_other_version, is_marked, mark_room, are_marks, contents, loaded_from};
+ghost use Rattle.stored.specs.Loading.{is_other_version, is_mark_byte, is_marked, mark_room, are_marks};
+ghost use Rattle.stored.specs.Loading.{contents, loaded_from};
 ghost use Rattle.stored.specs.Told.{loading_told};
 ghost use Rattle.stored.specs.Views.{said_of};
 
@@ -59,6 +61,13 @@ fn marks_of(bytes: &[u8]) -> [bool; LAMPS_MOST]
     list
 }
 
+// A byte for each of so many lamps, 0 or 1.
+fn are_mark_bytes(count: usize, bytes: &[u8]) -> bool
+    ensures { result ≡ (length bytes.now == count && list_all is_mark_byte bytes.now) }
+{
+    bytes.len() == count && scan::bytes_within(bytes, 1)
+}
+
 // The marks that the bytes are, if they are marks of its lamps, and whether they are: the record's own test says which
 // marks are legal.
 #[tactic(auto, using(crate::proofs::Marks::marks_are, record::proofs::FactsTold::own_is))]
@@ -68,10 +77,7 @@ fn enable(device: &mut Device, bytes: &[u8]) -> bool
     ensures device { result ≡ true
         → device.new ≡ with_own device.old (with_marks device.old.own (mark_room (map is_marked bytes.now))) }
 {
-    if bytes.len() != device.settings.lamp_count {
-        return false;
-    }
-    if !scan::bytes_within(bytes, 1) {
+    if !are_mark_bytes(device.settings.lamp_count, bytes) {
         return false;
     }
     device.own.enabled = marks_of(bytes);
@@ -138,9 +144,7 @@ fn read_in(device: &mut Device, bytes: &[u8]) -> Result<(), LoadError>
     }
     let mut reader = Reader::new(bytes);
     let form = reader.form()?;
-    if !reader.is_empty() {
-        return Err(LoadError::LeftOver);
-    }
+    reader.end()?;
     form.load_in(device)
 }
 

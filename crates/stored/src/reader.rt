@@ -1,14 +1,16 @@
 // What is left to read of a stored form (RULES, Stored form): each method takes one field from its front. Where the
 // bytes end before the field does, they are cut short, and the reader is not used again.
-ghost use Rattle.std.specs.Prelude.{◌≡◌, ◌*◌, ◌==◌, ◌≤◌, IfOk, length};
+ghost use Rattle.std.specs.Prelude.{◌≡◌, ◌*◌, ◌==◌, ◌≤◌, IfOk, Ok, Err, if◌then◌else◌, length};
 ghost use Rattle.record.specs.Wanted.{counted_in};
 ghost use Rattle.stored.specs.Reading.{byte, bytes, number, section_of, text, texts};
 ghost use Rattle.stored.specs.Reads.{Reads};
+ghost use Rattle.stored.specs.declared.error.LoadError.TheVariants.{LeftOver};
 
 use crate::error::LoadError;
 use numbers::highest;
 use std::marker::Model;
 
+/// The bytes that are left to read.
 #[derive(Drop)]
 pub struct Reader<'a> {
     rest: &'a [u8],
@@ -30,11 +32,14 @@ impl<'a> Reader<'a> {
         Reader { rest: bytes }
     }
 
-    /// Whether nothing is left.
-    pub fn is_empty(&self) -> bool
-        ensures { result ≡ (length self.now == 0) }
+    /// Nothing is left over.
+    pub fn end(&self) -> Result<(), LoadError>
+        ensures { result ≡ (if length self.now == 0 then Ok tt else Err LeftOver) }
     {
-        self.rest.is_empty()
+        if !self.rest.is_empty() {
+            return Err(LoadError::LeftOver);
+        }
+        Ok(())
     }
 
     /// One byte.

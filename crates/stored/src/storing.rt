@@ -13,7 +13,7 @@ use crate::writer::Writer;
 use record::refusal::Refusal;
 use record::types::{Device, Settings};
 
-// The newest, which is written: it has a class (RULES, Class 2).
+/// The newest version, which is written: it has a class (RULES, Class 2).
 pub const VERSION: u8 = 3;
 
 // No form is longer, so memory that has room for it is not measured.

@@ -11,6 +11,7 @@ ghost use Rattle.stored.specs.Puts.{Puts};
 use numbers::highest;
 use record::types::{InputName, Text};
 
+/// The memory that is written, and how many bytes have been put.
 #[derive(Drop)]
 pub struct Writer<'a> {
     out: &'a mut [u8],

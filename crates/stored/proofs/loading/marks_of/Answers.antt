@@ -2,7 +2,7 @@ use Rattle.std.proofs.Common.{false, map, sym, ◌∙◌, arith}
 use Rattle.std.proofs.lemmas.List.{length-map}
 use Rattle.std.proofs.Math.ListN.{get_or-map}
 use Rattle.record.specs.Limits.{lamps_most}
-use Rattle.record.proofs.Kept.{one_copied, all_copied}
+use Rattle.text.proofs.RoomsFilled.{one_copied, all_copied}
 use Rattle.stored.specs.Loading.{is_marked}
 use Rattle.stored.proofs.Marks.{kept_in_room}
 use Rattle.stored.proofs.loading.marks_of.Goals as goal

@@ -1,7 +1,7 @@
 -- Each byte passed is kept as its mark, in a room without marks.
 use Rattle.std.proofs.Common.{false, map}
 use Rattle.record.specs.Limits.{lamps_most}
-use Rattle.record.proofs.Kept.{IsCopied}
+use Rattle.text.proofs.RoomsFilled.{IsCopied}
 use Rattle.stored.specs.Loading.{is_marked}
 use Rattle.stored.proofs.loading.marks_of.Given as goal
 

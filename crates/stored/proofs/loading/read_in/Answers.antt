@@ -1,6 +1,6 @@
 use Rattle.std.proofs.Common.{sym, ap, ◌∙◌}
 use Rattle.stored.specs.Reading.{form}
-use Rattle.stored.proofs.Cases.{loaded_whole}
+use Rattle.stored.proofs.Cases.{loaded_whole, none_over}
 use Rattle.stored.proofs.loading.read_in.Goals as goal
 
 pub returns : goal.returns
@@ -9,4 +9,4 @@ returns c =
     c.load_in.ensures
     ∙ sym
     (loaded_whole c.args.bytes.now ours (ap form (sym c.new-reader.ensures) ∙ c.in_ok-form.ensures)
-    (sym c.is_empty.ensures ∙ c.if-not-is_empty.false))
+    (none_over _ _ c.in_ok-end.ensures))

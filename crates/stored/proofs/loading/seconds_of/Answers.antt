@@ -1,6 +1,7 @@
 use Rattle.std.proofs.Common.{◌∙◌, ◌/◌, length, arith}
 use Rattle.record.specs.Limits.{lamps_most}
-use Rattle.record.proofs.Kept.{all_copied, kept_in_room}
+use Rattle.text.proofs.RoomsFilled.{all_copied}
+use Rattle.record.proofs.Kept.{kept_in_room}
 use Rattle.stored.specs.Reading.{seconds_in}
 use Rattle.stored.proofs.Fields.{length-seconds_in}
 use Rattle.stored.proofs.loading.seconds_of.Goals as goal

@@ -1,7 +1,7 @@
 -- Each lamp passed has its seconds in a cleared room.
 use Rattle.std.proofs.Common.{◌/◌, length}
 use Rattle.record.specs.Limits.{lamps_most}
-use Rattle.record.proofs.Kept.{IsCopied}
+use Rattle.text.proofs.RoomsFilled.{IsCopied}
 use Rattle.stored.specs.Reading.{seconds_in}
 use Rattle.stored.proofs.loading.seconds_of.Given as goal
 
