@@ -5,6 +5,7 @@ ghost use Rattle.clock.specs.Second.{connection_second, times};
 use record::connection::AGE_END;
 use record::types::Connection;
 
+/// The connection n seconds later: awaiting or failed it ages, and closes at 30 seconds (RULES, Connection).
 pub fn age(c: &mut Connection, n: u32)
     ensures { c.new ≡ times connection_second n c.old }
 {

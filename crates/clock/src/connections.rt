@@ -5,6 +5,7 @@ ghost use Rattle.clock.specs.Second.{connection_second, times};
 use crate::connection;
 use record::types::{Connection, PLACES};
 
+/// The connections n seconds later.
 pub fn age(connections: &mut [Connection; PLACES], n: u32)
     ensures { connections.new ≡ map (times connection_second n) connections.old }
 {

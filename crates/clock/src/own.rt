@@ -54,6 +54,7 @@ fn burn(lamps: &mut [u32; LAMPS_MOST], enabled: &[bool; LAMPS_MOST], count: usiz
     }
 }
 
+/// The projector's own part n seconds later: its power, and the seconds of the lamps that burn (RULES, Time).
 #[tactic(auto, using(crate::proofs::InOneGo::own_passes))]
 pub fn pass(s: &Settings, o: &mut Own, n: u32)
     ensures { o.new ≡ times (own_second s.now) n o.old }

@@ -20,7 +20,8 @@ fn add(p: Buffer, q: Buffer) -> Buffer
     }
 }
 
-// The rest of the crate goes by this contract alone, so that another way through a block moves nothing else.
+/// The buffer after one block. The rest of the crate goes by this contract alone, so that another way through a block
+/// moves nothing else.
 pub fn block(s: &[u8], q: Buffer) -> Buffer
     requires { length s.now ≡ 64 }
     ensures { result ≡ block_of s.now q }
@@ -30,7 +31,7 @@ pub fn block(s: &[u8], q: Buffer) -> Buffer
     add(q, p)
 }
 
-// Every whole block of s.
+/// Every whole block of s.
 pub fn blocks(s: &[u8], q: Buffer) -> Buffer
     ensures { result ≡ whole_blocks s.now q }
 {

@@ -21,6 +21,7 @@ fn two(x: u8) -> [u8; 2]
     [digit(w, 0x10), digit(w, 1)]
 }
 
+/// The eight digits of a number, the highest first.
 pub fn eight(x: u32) -> [u8; 8]
     ensures { result ≡ hex_digits 8 x }
 {
@@ -36,7 +37,7 @@ pub fn eight(x: u32) -> [u8; 8]
     ]
 }
 
-// The digits of 16 bytes.
+/// The digits of 16 bytes.
 pub fn all(b: &[u8; 16]) -> [u8; 32]
     ensures { result ≡ hex_of b.now }
 {
@@ -51,16 +52,16 @@ pub fn all(b: &[u8; 16]) -> [u8; 32]
 fn worth(b: u8) -> u32
     ensures { result ≡ hex_worth b }
 {
-    if (b'0' <= b) & (b <= b'9') {
+    if b'0' <= b && b <= b'9' {
         return (b - b'0') as u32;
     }
-    if (b'a' <= b) & (b <= b'f') {
+    if b'a' <= b && b <= b'f' {
         return (b - b'a') as u32 + 10;
     }
     0
 }
 
-// The number whose digits are s; a byte that is none counts as 0.
+/// The number whose digits are s; a byte that is none counts as 0.
 pub fn value(s: &[u8]) -> u32
     requires { length s.now ≤ 8 }
     ensures { result ≡ hex_value s.now }

@@ -1,19 +1,12 @@
 // The last line that is printed for a log: power, and the seconds of each lamp.
-ghost use Rattle.std.specs.Prelude.{◌≡◌, ◌+◌, ◌*◌, ◌≤◌, ◌++◌, [], length, take};
+ghost use Rattle.std.specs.Prelude.{◌≡◌, ◌+◌, ◌*◌, ◌≤◌, ◌++◌, [], length};
 ghost use Rattle.arrayvec.specs.ArrayVec.{array_vec_len};
 ghost use Rattle.floorlog.specs.Outcomes.{printed_most};
 ghost use Rattle.floorlog.specs.LastLine.{lamps_shown, last_device_line};
 
 use crate::outcome::{Printed, put_text};
-use record::types::{Device, LAMPS_MOST};
-
-// The seconds of so many lamps.
-fn first(lamps: &[u32; LAMPS_MOST], count: usize) -> &[u32]
-    ensures first { result.now ≡ take count lamps.now }
-    ensures eight_at_most { length result.now ≤ 8 }
-{
-    &lamps[..count.min(LAMPS_MOST)]
-}
+use record::types::Device;
+use text::rooms;
 
 // A space and the seconds of each lamp.
 #[tactic(auto, using(crate::proofs::Outcomes::line_lengths))]
@@ -36,6 +29,6 @@ pub fn put_last(d: &Device, out: &mut Printed)
     put_text(b"power ", out);
     numbers::put_number(d.own.power as u32, out);
     put_text(b" lamps", out);
-    put_lamps(first(&d.own.lamps, d.settings.lamp_count), out);
+    put_lamps(rooms::first(&d.own.lamps, d.settings.lamp_count), out);
     out.push(b'\n');
 }

@@ -27,7 +27,7 @@ const SECONDS_MOST: u64 = 4294967295;
 fn is_hex_digit(b: u8) -> bool
     ensures { result ≡ is_hex_digit b }
 {
-    ((b'0' <= b) & (b <= b'9')) | ((b'a' <= b) & (b <= b'f'))
+    (b'0' <= b && b <= b'9') || (b'a' <= b && b <= b'f')
 }
 
 fn are_hex_digits(s: &[u8]) -> bool

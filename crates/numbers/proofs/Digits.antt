@@ -4,11 +4,11 @@ use Rattle.std.proofs.lemmas.Grind.{common_steps}
 use Rattle.std.specs.List.{list_all}
 use Rattle.std.proofs.Common.{ℕ, zero, suc, ◌+◌, ◌/◌, ◌^◌, ◌<◌, ◌≤◌, ◌≡◌, refl, sym, ap, ◌∙◌, true, not, List}
 use Rattle.std.proofs.Common.{[], ◌∷◌, ◌++◌, pow-suc, suc-add, zero-add, arith, length, slice_index_or, length-append}
-use Rattle.std.proofs.Common.{nat_le, lt-ltb, le-ltb, le-leb, leb-true}
+use Rattle.std.proofs.Common.{lt-ltb, le-ltb, le-leb}
 use Rattle.std.proofs.Math.Nat.{pow-le-pow_right}
 use Prim.Native.Char.{Char, code}
 use Rattle.text.specs.Words.{◌is◌}
-use Rattle.text.proofs.Choices.{both, both_right}
+use Rattle.text.proofs.Choices.{both}
 use Rattle.text.proofs.Scanning.{list_all-append, list_all_at, list_all_implies}
 use Rattle.numbers.specs.Decimal.{last_digit, digits_in, digits, long_digits, is_digit}
 
@@ -108,9 +108,6 @@ digits_at_most_5 n h = digits_at_most 4 n (omega arith) h
 
 pub digit_is_digit : (b : ℕ) → code "0" ≤ b → b ≤ code "9" → is_digit b ≡ true
 digit_is_digit b l h = simp (le-leb (code "0") b l, le-leb b (code "9") h)
-
-pub digit_to : (b : ℕ) → is_digit b ≡ true → b ≤ code "9"
-digit_to b e = leb-true b (code "9") (both_right (nat_le (code "0") b) (nat_le b (code "9")) e)
 
 last_is_digit : (n : ℕ) → list_all is_digit (last_digit n ∷ []) ≡ true
 last_is_digit n = both (digit_is_digit (last_digit n) (omega arith) (omega arith)) refl

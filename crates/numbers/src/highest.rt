@@ -15,6 +15,7 @@ fn low(x: u32) -> u8
     (x % 256) as u8
 }
 
+/// The number of the two bytes from the place p on.
 pub fn two_at(s: &[u8], p: usize) -> u32
     requires { p + 2 ≤ length s.now }
     ensures { result ≡ number_in (take 2 (drop p s.now)) }
@@ -22,6 +23,7 @@ pub fn two_at(s: &[u8], p: usize) -> u32
     wide(s[p]) * 256 + wide(s[p + 1])
 }
 
+/// The number of the four bytes from the place p on.
 pub fn four_at(s: &[u8], p: usize) -> u32
     requires { p + 4 ≤ length s.now }
     ensures { result ≡ number_in (take 4 (drop p s.now)) }

@@ -56,7 +56,7 @@ pub fn put_number<const N: usize>(n: u32, out: &mut ArrayVec<u8, N>)
 pub fn is_digit(b: u8) -> bool
     ensures { result ≡ is_digit b }
 {
-    (b'0' <= b) & (b <= b'9')
+    b'0' <= b && b <= b'9'
 }
 
 /// The number that all of s spells, in at most ten digits; none where a byte is no digit.

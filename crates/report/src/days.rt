@@ -78,7 +78,7 @@ fn put_row<W: ByteSink>(out: &mut W, lamps: u64, day: u64) -> io::Result<()>
     put_bands(out, lamps)
 }
 
-// Rows up to that of the day `last`, where there are so many; how many there are then.
+/// Rows up to that of the day `last`, where there are so many; how many there are then.
 pub fn open_to<W: ByteSink>(out: &mut W, lamps: u64, rows: u64, last: u64) -> io::Result<u64>
     requires { lamps ≤ 8 }
     ensures rows { IfOk result (λ n. n ≡ max rows last) }
@@ -178,7 +178,7 @@ fn put_bars_in<W: ByteSink>(out: &mut W, day: u64, lit: &[bool], s: Stretch) -> 
     )
 }
 
-// Rows up to that of the day, and in it what of the stretch lies there; how many rows there are then.
+/// Rows up to that of the day, and in it what of the stretch lies there; how many rows there are then.
 pub fn draw_in<W: ByteSink>(
     out: &mut W,
     rows: u64,

@@ -8,6 +8,7 @@ use std::io;
 use textio::forms::fill;
 use textio::writer::{ByteSink, put};
 
+/// The document's head, its title and a line of help.
 pub fn put_head<W: ByteSink>(out: &mut W) -> io::Result<()>
     ensures { WritesText W.fails_with (W.contents out.old) (W.contents out.new) result head }
 {
@@ -33,7 +34,7 @@ pub fn put_head<W: ByteSink>(out: &mut W) -> io::Result<()>
     )
 }
 
-// The hours along the top.
+/// The hours along the top.
 pub fn put_hours<W: ByteSink>(out: &mut W) -> io::Result<()>
     ensures { WritesText W.fails_with (W.contents out.old) (W.contents out.new) result hours }
 {
@@ -77,6 +78,7 @@ fn put_totals<W: ByteSink>(out: &mut W, t: Totals) -> io::Result<()>
     Ok(())
 }
 
+/// The table of totals: the row of each lamp.
 pub fn put_table<W: ByteSink>(out: &mut W, t: Totals) -> io::Result<()>
     requires { t.count ≤ 8 }
     ensures { WritesText W.fails_with (W.contents out.old) (W.contents out.new) result

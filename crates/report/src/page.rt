@@ -12,6 +12,7 @@ use crate::{days, frame};
 use std::io;
 use textio::writer::{ByteSink, put};
 
+/// The seconds of a day.
 pub(crate) const DAY: u64 = 86400;
 
 /// A stretch that lamps burnt, in seconds since the log began; the second `to` is not in it.

@@ -91,7 +91,7 @@ fn row(m: &[u8], i: u32, t: [u32; 4], q: Buffer) -> Buffer
     operate(m, i + 3, t[3], q)
 }
 
-// Rounds 1 and 2. (All 64 operations in one function are more facts than a search looks at.)
+/// Rounds 1 and 2. (All 64 operations in one function are more facts than a search looks at.)
 #[tactic(auto, unfolding(crate::specs::Rounds::table_t, crate::specs::Rounds::constant_of))]
 pub fn first_two(m: &[u8], q: Buffer) -> Buffer
     requires { length m.now ≡ 64 }
@@ -107,7 +107,7 @@ pub fn first_two(m: &[u8], q: Buffer) -> Buffer
     row(m, 28, [0xa9e3e905, 0xfcefa3f8, 0x676f02d9, 0x8d2a4c8a], q)
 }
 
-// Rounds 3 and 4.
+/// Rounds 3 and 4.
 #[tactic(auto, unfolding(crate::specs::Rounds::table_t, crate::specs::Rounds::constant_of))]
 pub fn last_two(m: &[u8], q: Buffer) -> Buffer
     requires { length m.now ≡ 64 }
