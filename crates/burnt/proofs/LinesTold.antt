@@ -1,7 +1,7 @@
 -- A log told line by line: what a line gives, and what the log gives that follows it, are what the log with it gives.
 -- Assumes nothing.
 use Rattle.std.proofs.Common.{None, Some, IfSome, ℕ, ◌+◌, ◌^◌, ◌≤◌, ◌≡◌, refl, sym, subst, ap, ◌∙◌, Bool, ◌&&◌}
-use Rattle.std.proofs.Common.{append_assoc, List, [], ◌∷◌, ◌++◌, map, ◌⊎◌, ⊎_elim, arith, length, inl, inr}
+use Rattle.std.proofs.Common.{List, [], ◌∷◌, ◌++◌, map, ◌⊎◌, ⊎_elim, arith, length, inl, inr}
 use Rattle.std.proofs.lemmas.Option.{IfSome_then}
 use Rattle.std.specs.declared.option.Option.{Option}
 use Rattle.std.specs.Io.KnownBytes.{Appends}
@@ -21,9 +21,11 @@ use Rattle.watch.proofs.LinesKept.{floor_events_kept}
 use Rattle.watch.proofs.TellingsSpelt.{after_none, after_more, seconds_together-cons, seconds_most_lem}
 use Rattle.report.specs.Reports.{report_new, begun_text}
 use Rattle.report.specs.declared.Report.{Report}
-use Rattle.burnt.specs.Told.{tellings_text, report_after, told_from, log_told, IsUntold, IsToldSoFar}
+use Rattle.burnt.specs.Told.{tellings_text, report_after, told_from, told_within, log_told, IsUntold}
+use Rattle.burnt.specs.Told.{IsToldSoFar}
 use Rattle.burnt.specs.declared.telling.Teller.{Teller}
-use Rattle.burnt.proofs.TellingsTold.{told_more}
+use Rattle.burnt.proofs.TellingsTold.{told_more, told_then, report_within, report_within_none}
+use Rattle.std.proofs.lemmas.List.{append_cancel_right, map-append}
 
 module _ (s : Watching) (e : FloorEvent) (es : List FloorEvent) where
   -- the seconds of a line cannot be counted
@@ -50,6 +52,13 @@ module _ (s : Watching) (e : FloorEvent) (es : List FloorEvent) where
           ∙ (λ i. let ts = sym told_is i in
           tellings_text r ts ++ told_from starts (report_after r ts) (sym w.state i) es)
           ∙ ap (λ (q : Report). tellings_text r (telling_if ended after) ++ told_from starts q after es) (sym told)
+
+      pub line_reported : {then last : Report} → then ≡ report_after r (telling_if ended after)
+          → last ≡ report_after then (told_within after es) → last ≡ report_after r (told_within s (e ∷ es))
+      line_reported told h =
+          h ∙ (λ i. report_after (told i) (told_within after es))
+          ∙ (λ i. report_after (report_after r (told_is i)) (told_within (w.state i) es))
+          ∙ sym (report_within r s e es)
 
       -- only some of what ended with it could be told
       pub line_cut : {old new : Option (List ℕ)} → WritesFront old new (tellings_text r (telling_if ended after))
@@ -105,6 +114,7 @@ pub told_so_far : {begun : Device} {drawn : Bool} {t after : Teller} {log left :
     → Appends old mid (begun_text (report_new drawn))
     → BreaksOff (λ (x : Teller) ls. told_from x.starts x.report (state_of x.watch) (map floor_event ls))
     (λ (x : Teller) ls (last : Teller). (last.starts ≡ x.starts)
+    × (last.report ≡ report_after x.report (told_within (state_of x.watch) (map floor_event ls)))
     × (state_of last.watch ≡ after_log (state_of x.watch) (map floor_event ls)))
     t after log left mid now
     → IsToldSoFar begun drawn log left old now
@@ -113,19 +123,31 @@ told_so_far {begun} {drawn} {t} {after} {log} {left} {old} {mid} {now} starts re
   part = b.part;
   one_line = b.one_line;
   lines = b.lines;
-  report = after.report;
-  text = begun_text (report_new drawn) ++ b.text;
-  written = Appends-trans old mid now _ _ w b.written;
-  then = λ ls.
-      ap (λ (x : List ℕ). begun_text (report_new drawn) ++ x)
-      ((λ i. told_from (sym starts i) (sym report i) (sym watch i) (map floor_event (b.told ++ ls))) ∙ b.then ls
-      ∙ (λ i. b.text ++ told_from ((at.0 ∙ starts) i) after.report
-      ((at.1 ∙ ap (λ (s : Watching). after_log s es) watch) i) (map floor_event ls)))
-      ∙ sym (append_assoc (begun_text (report_new drawn)) b.text _);
+  printed = Appends-trans old mid now _ _ w (subst (Appends mid now) (text_is ∙ from_begun) b.written);
 }
   where
     es : List FloorEvent
     es = map floor_event b.told
 
-    at : (after.starts ≡ t.starts) × (state_of after.watch ≡ after_log (state_of t.watch) es)
-    at = b.leaves after (refl, sym (after_none (state_of after.watch)))
+    s : Watching
+    s = state_of t.watch
+
+    at : (after.starts ≡ t.starts) × (after.report ≡ report_after t.report (told_within s es))
+        × (state_of after.watch ≡ after_log s es)
+    at =
+        b.leaves after
+        (refl, sym (report_within_none after.report (state_of after.watch)), sym (after_none (state_of after.watch)))
+
+    later : List ℕ
+    later = told_from t.starts (report_after t.report (told_within s es)) (after_log s es) []
+
+    text_is : b.text ≡ tellings_text t.report (told_within s es)
+    text_is = append_cancel_right b.text _ later
+        ((λ i. b.text ++ told_from (sym at.0 i) (sym at.1 i) (sym at.2 i) [])
+        ∙ sym (b.then [])
+        ∙ ap (λ (l : List FloorEvent). told_from t.starts t.report s l) (map-append floor_event b.told [])
+        ∙ told_then t.starts t.report s es [])
+
+    from_begun : tellings_text t.report (told_within s es)
+        ≡ tellings_text (report_new drawn) (told_within (watching_from begun) es)
+    from_begun = (λ i. tellings_text (report i) (told_within (watch i) es))

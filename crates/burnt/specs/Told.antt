@@ -1,13 +1,14 @@
 -- What `burnt` writes of a log (RULES, Floor log).
 --   tellings_text r ts       what is written of stretches that end one after the other, where the report stands at r
 --   report_after r ts        how the report stands then
+--   told_within s es         the stretches that end with the events es, from the state s on, and not with the log
 --   totals_text r starts s   what stands at the end of a log that began with these seconds of its lamps and leaves the
 --                            state s
 --   told_from starts r s es  what is written of the events es, from the state s on, and at their end
 --   log_told d drawn log     what is written of a whole log that begins with the device d, on a page or as lines
 --   IsUntold log             a log has more lines, or more bytes in one, or lets more seconds pass, than 64 bits count
 --   IsToldSoFar d drawn log left ..   the sink got what is told by the lines that have ended in what was read of the
---                            log, where this is left: whatever comes after them, the rest of what is told comes of it
+--                            log, where this is left
 -- Assumes nothing.
 use Rattle.std.specs.Prelude.{ℕ, ◌≡◌, ◌≢◌, ◌⊎◌, min, Bool, List, [], ◌∷◌, ◌++◌, All, map}
 use Rattle.std.specs.declared.option.Option.{Option}
@@ -17,8 +18,8 @@ use Rattle.clock.specs.Second.{marks_in}
 use Rattle.textio.specs.Lines.{IsTooLong}
 use Rattle.floorlog.specs.Kept.{kept_lines}
 use Rattle.watch.specs.Marking.{FloorEvent, floor_event}
-use Rattle.watch.specs.Watching.{Watching, watching_from, burnt_by}
-use Rattle.watch.specs.Telling.{floor_events, Telling, tellings, after_log, IsUncounted}
+use Rattle.watch.specs.Watching.{Watching, watching_from, watched_on, burnt_by}
+use Rattle.watch.specs.Telling.{floor_events, Telling, told_on, tellings, after_log, IsUncounted}
 use Rattle.report.specs.Reports.{report_new, begun_text, report_told, told_text, ended_text}
 use Rattle.report.specs.declared.Report.{Report}
 
@@ -30,6 +31,10 @@ tellings_text r (t ∷ ts) =
 unfoldable pub report_after : Report → List Telling → Report
 report_after r [] = r
 report_after r (t ∷ ts) = report_after (report_told r t.from t.to) ts
+
+unfoldable pub told_within : Watching → List FloorEvent → List Telling
+told_within s [] = []
+told_within s (e ∷ es) = told_on s e ++ told_within (watched_on s e) es
 
 abbrev pub totals_text : Report → List ℕ → Watching → List ℕ
 totals_text r starts s =
@@ -51,9 +56,5 @@ pub record IsToldSoFar (d : Device) (drawn : Bool) (log left : List ℕ) (old ne
   pub part : List ℕ
   pub one_line : All (λ b. b ≢ 10) part
   pub lines : kept_lines log ≡ told ++ kept_lines (part ++ left)
-  pub report : Report
-  pub text : List ℕ
-  pub written : Appends old new text
-  pub then : (ls : List (List ℕ)) → let r = report_new drawn in
-      begun_text r ++ told_from d.own.lamps r (watching_from d) (map floor_event (told ++ ls))
-      ≡ text ++ told_from d.own.lamps report (after_log (watching_from d) (map floor_event told)) (map floor_event ls)
+  pub printed : let r = report_new drawn in Appends old new (begun_text r
+      ++ tellings_text r (told_within (watching_from d) (map floor_event told)))

@@ -1,5 +1,5 @@
 // A log read to its end, of which is told which lamp burnt when.
-ghost use Rattle.std.specs.Prelude.{[], ◌≡◌, ◌≢◌, ◌+◌, ◌≤◌, ◌<◌, ◌^◌, map, take, length, Err};
+ghost use Rattle.std.specs.Prelude.{[], ◌≡◌, ◌≢◌, ◌+◌, ◌≤◌, ◌<◌, ◌^◌, map, length, Err};
 ghost use Rattle.std.specs.Prelude.{IfErr, OnOk, IfSome};
 ghost use Rattle.std.specs.Io.KnownBytes.{Appends};
 ghost use Rattle.textio.specs.Fronts.{WritesFront, WritesText};
@@ -9,7 +9,7 @@ ghost use Rattle.watch.specs.Marking.{floor_event};
 ghost use Rattle.watch.specs.Telling.{seconds_together, telling_if, after_log};
 ghost use Rattle.watch.specs.States.{state_of};
 ghost use Rattle.burnt.specs.Told.{tellings_text, report_after, totals_text, told_from, log_told, IsUntold};
-ghost use Rattle.burnt.specs.Told.{IsToldSoFar};
+ghost use Rattle.burnt.specs.Told.{told_within, IsToldSoFar};
 
 use floorlog::kept::KeptLine;
 use floorlog::observer;
@@ -19,18 +19,11 @@ use report::Report;
 use report::lamps::{LAMPS, Totals};
 use report::page::Stretch;
 use std::io;
+use text::rooms;
 use textio::lines::Failure;
 use textio::reader::{ByteSource, Reader};
 use textio::writer::ByteSink;
 use watch::Watch;
-
-// The marks of so many lamps.
-fn first(marks: &[bool; LAMPS], count: usize) -> &[bool]
-    ensures value { result.now ≡ take count marks.now }
-    ensures eight_at_most { length result.now ≤ 8 }
-{
-    &marks[..count.min(LAMPS)]
-}
 
 // The stretches that ended, if any did.
 #[tactic(auto, unfolding(crate::specs::Told::tellings_text, crate::specs::Told::report_after))]
@@ -48,7 +41,7 @@ fn tell_ended<W: ByteSink>(
         return Ok(());
     }
     let device = watch.device();
-    let lit = first(&device.own.enabled, device.settings.lamp_count);
+    let lit = rooms::first(&device.own.enabled, device.settings.lamp_count);
     let stretch = Stretch {
         from: watch.from(),
         to: watch.time(),
@@ -88,6 +81,7 @@ impl Observer for Teller {
     ghost output = { λ t ls. told_from t.starts t.report (state_of t.watch) (map floor_event ls) };
 
     ghost leaves = { λ t ls last. (last.starts ≡ t.starts)
+        × (last.report ≡ report_after t.report (told_within (state_of t.watch) (map floor_event ls)))
         × (state_of last.watch ≡ after_log (state_of t.watch) (map floor_event ls)) };
 
     ghost overflows = { λ t ls. 2 ^ 64 ≤ t.watch.time + seconds_together (map floor_event ls) };
@@ -105,8 +99,9 @@ impl Observer for Teller {
 
     // The stretches that are under way end with the log.
     fn end<W: ByteSink>(&mut self, to: &mut W) -> io::Result<()> {
-        tell_ended(self.watch.is_underway(), &mut self.report, &self.watch, to)?;
-        tell_totals(self.report, &self.watch, self.starts, to)
+        let mut report = self.report;
+        tell_ended(self.watch.is_underway(), &mut report, &self.watch, to)?;
+        tell_totals(report, &self.watch, self.starts, to)
     }
 }
 

@@ -3,7 +3,7 @@ use Rattle.textio.specs.Fronts.{WritesText}
 use Rattle.textio.proofs.Fronts.{writes_then, writes_fails}
 use Rattle.watch.specs.States.{state_of}
 use Rattle.watch.proofs.TellingsSpelt.{after_none}
-use Rattle.burnt.proofs.TellingsTold.{told_none}
+use Rattle.burnt.proofs.TellingsTold.{told_none, report_within_none}
 use Rattle.burnt.proofs.telling.TellerObserver.end.Goals as goal
 
 pub returns-in_err-tell_ended-clause-text : goal.returns-in_err-tell_ended-clause-text
@@ -20,4 +20,4 @@ returns-clause-text g c =
     (rw (c.in_ok-tell_ended.ensures.report, c.is_underway.ensures) at c.tell_totals.ensures))
 
 pub returns-clause-left : goal.returns-clause-left
-returns-clause-left g c = grind (arith, after_none)
+returns-clause-left g c = grind (arith, after_none, report_within_none)

@@ -3,7 +3,7 @@ use Rattle.std.proofs.Common.{map, ◌∙◌}
 use Rattle.floorlog.specs.KeptText.{kept_text}
 use Rattle.watch.specs.Marking.{floor_event}
 use Rattle.watch.specs.States.{state_of}
-use Rattle.burnt.proofs.LinesTold.{line_uncounted, line_counted, line_told, line_cut, line_left}
+use Rattle.burnt.proofs.LinesTold.{line_uncounted, line_counted, line_told, line_cut, line_left, line_reported}
 use Rattle.burnt.proofs.telling.TellerObserver.line.Goals as goal
 
 pub returns-in_default-clause-err : goal.returns-in_default-clause-err
@@ -22,7 +22,11 @@ returns-in-Ok-clause-ok g c =
       text = _;
       written = c.in-Ok.ensures.text.whole;
       then = λ ls. line_told s e (map floor_event ls) watched t.starts t.report c.in-Ok.ensures.report;
-      leaves = λ ls last h. (h.0, h.1 ∙ line_left s e (map floor_event ls) watched);
+      leaves = λ ls last h. (
+        h.0,
+        line_reported s e (map floor_event ls) watched t.starts t.report c.in-Ok.ensures.report h.1,
+        h.2 ∙ line_left s e (map floor_event ls) watched,
+      );
       overflows = λ ls h. line_counted s e (map floor_event ls) watched h;
     }
 
