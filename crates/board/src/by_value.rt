@@ -31,6 +31,7 @@ fn set_up(wanted: &Wanted<'_>) -> Changed
     changed
 }
 
+/// Set-up of Class 1, by value: 3, then 8; with either the blank record.
 #[unsafe(no_mangle)]
 pub extern "C" fn pj_set_up<'a>(
     name: &'a [u8],
@@ -61,6 +62,8 @@ pub extern "C" fn pj_set_up<'a>(
     })
 }
 
+/// Set-up of Class 2, by value: the names one after the other, each of its length. 3, then 8; with either the blank
+/// record.
 #[unsafe(no_mangle)]
 pub extern "C" fn pj_set_up_2<'a>(
     name: &'a [u8],
@@ -103,6 +106,7 @@ pub extern "C" fn pj_set_up_2<'a>(
     })
 }
 
+/// Whether the record is legal, by value.
 #[unsafe(no_mangle)]
 pub extern "C" fn pj_legal(d: Device) -> bool
     ensures { result ≡ is_legal d }
@@ -110,6 +114,7 @@ pub extern "C" fn pj_legal(d: Device) -> bool
     d.is_legal()
 }
 
+/// A new connection, greeted, by value: 1, 2 and 6 in that order.
 #[unsafe(no_mangle)]
 pub extern "C" fn pj_open(d: Device, random: u32, out: &mut [u8]) -> Opened
     ensures says { result ≡ opened_of (place_taken d (length out.old))
@@ -131,6 +136,7 @@ pub extern "C" fn pj_open(d: Device, random: u32, out: &mut [u8]) -> Opened
     }
 }
 
+/// The connection at a place closed, by value: 1, 3 and 4 in that order.
 #[unsafe(no_mangle)]
 pub extern "C" fn pj_close(d: Device, place: usize) -> Changed
     ensures { result ≡ changed_of (closing_given (closed_by d place)) }
@@ -140,6 +146,7 @@ pub extern "C" fn pj_close(d: Device, place: usize) -> Changed
     Changed { number, device }
 }
 
+/// Bytes from the network at a place, by value: 1, 2, 3 and 4 in that order.
 #[unsafe(no_mangle)]
 pub extern "C" fn pj_receive(d: Device, place: usize, bytes: &[u8], out: &mut [u8]) -> Received
     ensures says { result ≡ received_of (received_at d place bytes.now (length out.old)) }
@@ -160,6 +167,7 @@ pub extern "C" fn pj_receive(d: Device, place: usize, bytes: &[u8], out: &mut [u
     }
 }
 
+/// The fault mark, by value: 1.
 #[unsafe(no_mangle)]
 pub extern "C" fn pj_set_fault(d: Device, mark: bool) -> Changed
     ensures { result ≡ changed_of (given_by d (fault_set d mark)) }
@@ -169,6 +177,7 @@ pub extern "C" fn pj_set_fault(d: Device, mark: bool) -> Changed
     Changed { number, device }
 }
 
+/// The six error digits, by value: 1 and 3 in that order.
 #[unsafe(no_mangle)]
 pub extern "C" fn pj_set_errors(d: Device, digits: &[u8]) -> Changed
     ensures { result ≡ changed_of (given_by d (errors_set d digits.now)) }
@@ -178,6 +187,7 @@ pub extern "C" fn pj_set_errors(d: Device, digits: &[u8]) -> Changed
     Changed { number, device }
 }
 
+/// A lamp's enabled mark, by value: 1, 3 and 7 in that order.
 #[unsafe(no_mangle)]
 pub extern "C" fn pj_set_mark(d: Device, lamp: usize, enabled: bool) -> Changed
     ensures { result ≡ changed_of (given_by d (mark_set d lamp enabled)) }
@@ -187,6 +197,7 @@ pub extern "C" fn pj_set_mark(d: Device, lamp: usize, enabled: bool) -> Changed
     Changed { number, device }
 }
 
+/// So many seconds pass, by value: 1.
 #[unsafe(no_mangle)]
 pub extern "C" fn pj_pass(d: Device, seconds: u32) -> Changed
     ensures { result ≡ changed_of (given_by d (time_passed d seconds)) }

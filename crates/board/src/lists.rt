@@ -7,23 +7,27 @@ ghost use Rattle.board.specs.Lent.{day_lists};
 use day::{JOBS_MOST, Job, Placement, RIGS_MOST, Rig};
 use service::Reading;
 
+/// All zero: the job at the places of an array that a call does not fill.
 pub const NO_JOB: Job = Job {
     start: 0,
     length: 0,
     allowed: 0,
 };
 
+/// All zero: the rig at the places of an array that a call does not fill.
 pub const NO_RIG: Rig = Rig {
     warm_up: 0,
     cooling: 0,
     life: 0,
 };
 
+/// `NO_JOB` on the first rig: the placement at the places of an array that a call does not fill.
 pub const NO_PLACEMENT: Placement = Placement {
     job: NO_JOB,
     rig: 0,
 };
 
+/// All zero: the reading at the places of an array that a call does not fill.
 pub const NO_READING: Reading = Reading {
     earlier: 0,
     later: 0,

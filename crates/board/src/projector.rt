@@ -23,7 +23,7 @@ use record::refusal;
 use record::types::Device;
 use setup::wanted::{Class, Names, Wanted};
 
-// Sets the host's record up, and tells the number: where it is refused, the record is the blank one.
+/// Sets the host's record up, and tells the number: where it is refused, the record is the blank one.
 pub fn set_up_in(device: &mut Device, wanted: &Wanted<'_>) -> u32
     ensures number { result ≡ set_up_number (set_up (wanted_settings wanted.now)) }
     ensures device { device.new ≡ left_by blank (set_up (wanted_settings wanted.now)) }

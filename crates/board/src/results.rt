@@ -72,6 +72,7 @@ pub struct Changed {
 }
 
 impl Receiving {
+    /// The outcome of receiving in numbers; of a refusal its number, and all else 0.
     pub fn of(outcome: Result<calls::Received, Refusal>) -> Receiving
         ensures { result ≡ receiving_of (receiving_told outcome) }
     {
@@ -91,6 +92,7 @@ impl Receiving {
 }
 
 impl Opening {
+    /// The outcome of opening in numbers; of a refusal its number, and all else 0.
     pub fn of(outcome: Result<calls::Opened, Refusal>) -> Opening
         ensures { result ≡ opening_of (opening_told outcome) (opened_place outcome) }
     {

@@ -4,6 +4,7 @@ ghost use Rattle.digest.specs.Md5.{md5_of};
 
 use digest::Digest;
 
+/// The MD5 digest of the bytes (RFC 1321).
 #[unsafe(no_mangle)]
 pub extern "C" fn pj_md5(bytes: &[u8]) -> Digest
     ensures { result.bytes ≡ md5_of bytes.now }

@@ -30,7 +30,7 @@ use Rattle.record.proofs.Spelt.{closed_spelt}
 use Rattle.record.proofs.ConnectionTold.{held_most_awaiting}
 use Rattle.clock.specs.Second.{times, connection_second}
 use Rattle.clock.proofs.ConnectionsAge.{connection_then}
-use Rattle.stream.specs.declared.Gathered.{Gathered}
+use Rattle.stream.specs.Collecting.{Gathered}
 use Rattle.stream.specs.Collecting.{empty_line, collected_all, gathered_from}
 use Rattle.stream.proofs.UpToTheEnd.{Cut, cut}
 use Rattle.stream.proofs.GatheredOn.{plain_gathered}

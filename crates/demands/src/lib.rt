@@ -15,7 +15,7 @@ ghost use Rattle.demands.specs.BoardSwap.{BoardSwap};
 ghost use Rattle.demands.specs.ClassOne.{ClassOneKept};
 ghost use Rattle.demands.specs.Beside.{RandomKept, UnheardThroughout, UnheardAnyhow};
 
-// Nothing is done: that it has this contract is that the theorems stand.
+/// Our board keeps the demands. Nothing is done: that it has this contract is that the theorems stand.
 pub fn ours_keeps_the_demands()
     ensures keeps_running { KeepsRunning ours }
     ensures speaks_pjlink { SpeaksPjlink ours }

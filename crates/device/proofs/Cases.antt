@@ -1,12 +1,10 @@
 -- The calls, case by case: one law a call, and the equation of what it does.
 -- Assumes nothing.
-use Rattle.std.proofs.Common.{arith, ℕ, ◌≤◌, ◌<◌, ◌≡◌, refl, ap, Bool, true, false, not, List, [], ◌∷◌, le-ltb}
-use Rattle.std.proofs.Common.{if◌then◌else◌}
-use Rattle.std.specs.List.{list_all}
-use Rattle.std.proofs.lemmas.Bool.{lt-leb, eqb-false, not-true}
-use Rattle.text.specs.Rows.{Row, by_rows, NoneOf, is_numbered}
+use Rattle.std.proofs.Common.{arith, ℕ, ◌≤◌, ◌<◌, ◌≡◌, ap, true, false, not, List, le-ltb}
+use Rattle.std.proofs.lemmas.Bool.{lt-leb}
+use Rattle.text.specs.Rows.{NoneOf}
 use Rattle.text.proofs.ByRows.{rows_done}
-use Rattle.text.proofs.Choices.{if_yes, if_no, both_left, both_right}
+use Rattle.text.proofs.Choices.{if_yes, if_no}
 use Rattle.digest.specs.Hex.{hex_digits}
 use Rattle.pjlink.specs.Forms.{greeting_open, greeting_secured}
 use Rattle.record.specs.Limits.{places_count, awaiting, opened}
@@ -37,25 +35,6 @@ module _ (d : Device) (p : ℕ) (bs : List ℕ) (room : ℕ) where
       → received_at d p bs room ≡ accepted_taken d p (takes d p bs)
   unfolding received_at
   received_taken legal enough there live = grind arith
-
--- two results by one table: refused both, or done both
-rows_both : {R S : Type 0} (P : R → S → Type 0) {refuse : ℕ → R} {decline : ℕ → S} {done : R} {granted : S}
-    → ((n : ℕ) → (n ≡ 0 → ⊥) → P (refuse n) (decline n)) → (rows : List Row) → list_all is_numbered rows ≡ true
-    → (NoneOf rows → P done granted) → P (by_rows rows refuse done) (by_rows rows decline granted)
-rows_both P refused [] numbered does = does tt
-rows_both P {refuse} {decline} {done} {granted} refused (row ∷ rows) numbered does =
-    by row.applies refl
-    (λ none. rows_both P refused rows (both_right (is_numbered row) (list_all is_numbered rows) numbered) none)
-  where
-    some : row.number ≡ 0 → ⊥
-    some = eqb-false row.number 0 (not-true _ (both_left (is_numbered row) (list_all is_numbered rows) numbered))
-
-    by : (t : Bool) → row.applies ≡ t
-        → ((NoneOf rows → P done granted) → P (by_rows rows refuse done) (by_rows rows decline granted))
-        → P (if t then refuse row.number else by_rows rows refuse done)
-        (if t then decline row.number else by_rows rows decline granted)
-    by true e on = refused row.number some
-    by false e on = on (λ none. does (e, none))
 
 -- opening: refused, or the greeting at the lowest closed place
 module _ (d : Device) (r room : ℕ) where

@@ -15,7 +15,7 @@ use Rattle.record.specs.declared.types.Settings.{Settings}
 use Rattle.record.specs.declared.types.Connection.{Connection}
 use Rattle.record.proofs.Kept.{room_first}
 use Rattle.record.proofs.ConnectionTold.{held_most_awaiting}
-use Rattle.stream.specs.declared.Gathered.{Gathered}
+use Rattle.stream.specs.Collecting.{Gathered}
 use Rattle.stream.specs.Collecting.{line_of, empty_line, overlong_line, collected_all, gathered_from}
 use Rattle.stream.proofs.LinesSpelt.{overlong_marked}
 use Rattle.stream.proofs.CollectedOn.{collected_whole, collected_overlong}

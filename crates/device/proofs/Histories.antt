@@ -26,7 +26,7 @@ use Rattle.record.proofs.LegalTold.{legal_connection, legal_places}
 use Rattle.record.proofs.ConnectionsTold.{placed_here, placed_either}
 use Rattle.record.proofs.ConnectionTold.{closed_holds_none, held_within, held_most_none}
 use Rattle.record.proofs.FactsTold.{connection_is}
-use Rattle.stream.specs.declared.Gathered.{Gathered}
+use Rattle.stream.specs.Collecting.{Gathered}
 use Rattle.stream.specs.Collecting.{line_text, empty_line, gathered_from}
 use Rattle.meaning.specs.Meaning.{answer_for, after_request}
 use Rattle.meaning.proofs.Done.{Keeps}

@@ -10,7 +10,7 @@ use Rattle.record.specs.declared.types.Settings.{Settings}
 use Rattle.record.specs.declared.types.Own.{Own}
 use Rattle.record.specs.declared.types.Line.{Line}
 use Rattle.record.specs.declared.types.Connection.{Connection}
-use Rattle.stream.specs.declared.Gathered.{Gathered}
+use Rattle.stream.specs.Collecting.{Gathered}
 use Rattle.stream.specs.Collecting.{line_text, gathered_from}
 use Rattle.device.specs.Answering.{Answered, line_answer, command_answer, line_swallowed}
 use Rattle.device.specs.Receiving.{Ended, Taken, is_match, digest_long, no_reply, served_line}

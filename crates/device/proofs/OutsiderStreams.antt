@@ -17,7 +17,7 @@ use Rattle.record.specs.declared.types.Connection.{Connection}
 use Rattle.record.specs.declared.types.Device.{Device}
 use Rattle.record.proofs.LegalTold.{legal_places}
 use Rattle.record.proofs.ConnectionsTold.{placed_here, placed_elsewhere}
-use Rattle.stream.specs.declared.Gathered.{Gathered}
+use Rattle.stream.specs.Collecting.{Gathered}
 use Rattle.stream.specs.Collecting.{gathered_from}
 use Rattle.stream.specs.Machine.{Out, Took, without_reply, reply_then, run_over, handed_parts, stream_of}
 use Rattle.stream.proofs.GatheredOn.{gathered_whole}

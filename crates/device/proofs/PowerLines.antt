@@ -56,21 +56,10 @@ module _ (s : Settings) (o : Own) where
 abbrev pub is_power_okay : List ℕ → Bool
 is_power_okay r = same_by upper_of r (codes "%1POWR=OK\r")
 
-four_and : (x y z w t : Bool) → (x && (y && (z && (w && t)))) ≡ ((x && (y && (z && (w && true)))) && t)
-four_and x y z w t = grind arith
-
 module _ (a b c d : ℕ) (p : List ℕ) where
   okay_by_parts : is_power_okay (reply_line (code "1") (a ∷ b ∷ c ∷ d ∷ []) p)
       ≡ (is_body 1 (a ∷ b ∷ c ∷ d ∷ []) Powr && same_by upper_of (p ++ (code "\r" ∷ [])) (codes "OK\r"))
   okay_by_parts = grind arith
-
-  other_reply : is_body 1 (a ∷ b ∷ c ∷ d ∷ []) Powr ≡ false
-      → is_power_okay (reply_line (code "1") (a ∷ b ∷ c ∷ d ∷ []) p) ≡ false
-  other_reply e = grind arith
-
-  other_said : same_by upper_of (p ++ (code "\r" ∷ [])) (codes "OK\r") ≡ false
-      → is_power_okay (reply_line (code "1") (a ∷ b ∷ c ∷ d ∷ []) p) ≡ false
-  other_said e = grind arith
 
 reply_line-said_bytes : (h : ℕ) (s : List ℕ) (m : Said) → m ≡ okay
     → reply_line h s (said_bytes m) ≡ reply_line h s (codes "OK")

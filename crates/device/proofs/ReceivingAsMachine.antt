@@ -14,7 +14,7 @@ use Rattle.record.specs.declared.types.Settings.{Settings}
 use Rattle.record.specs.declared.types.Own.{Own}
 use Rattle.record.specs.declared.types.Line.{Line}
 use Rattle.record.specs.declared.types.Connection.{Connection}
-use Rattle.stream.specs.declared.Gathered.{Gathered}
+use Rattle.stream.specs.Collecting.{Gathered}
 use Rattle.stream.specs.Collecting.{line_after, gathered_from}
 use Rattle.stream.specs.Machine.{Out, Took, took_bytes, one_call}
 use Rattle.stream.proofs.OneCallGathers.{finished, call_finishes}

@@ -1,7 +1,8 @@
 // Receiving, on settings, the projector's own part and one connection.
-ghost use Rattle.std.specs.Prelude.{◌≡◌, take};
+ghost use Rattle.std.specs.Prelude.{◌≡◌};
 ghost use Rattle.device.specs.Ready.{IsReady};
-ghost use Rattle.device.specs.Receiving.{is_match, line_ended, keeping_line, taken_in};
+ghost use Rattle.device.specs.Receiving.{is_match, line_ended, phase_start, keeping_line, taken_in};
+ghost use Rattle.record.specs.Limits.{failed};
 ghost use Rattle.record.specs.Updates.{with_line};
 ghost use Rattle.record.specs.Views.{with_phase};
 ghost use Rattle.stream.specs.Collecting.{empty_line};
@@ -9,6 +10,7 @@ ghost use Rattle.stream.specs.Collecting.{empty_line};
 use crate::answering;
 use record::types::{Connection, Line, Own, Settings};
 use record::views::Phase;
+use text::rooms;
 use words::codec;
 
 const DIGEST_LONG: usize = 32;
@@ -29,11 +31,12 @@ pub(crate) fn turn(c: &mut Connection, phase: Phase)
     c.line = Connection::CLOSED.line;
 }
 
-// The first `n` of the bytes, or all.
-fn first<const N: usize>(bytes: &[u8; N], n: usize) -> &[u8]
-    ensures { result.now ≡ take n bytes.now }
+// The first line has not the matching digest.
+fn fail(c: &mut Connection)
+    ensures { c.new ≡ phase_start c.old failed }
 {
-    &bytes[..n.min(N)]
+    let random = c.random;
+    turn(c, Phase::Failed { age: 0, random });
 }
 
 // Whether the line starts with the digest of the random number and the password.
@@ -45,7 +48,7 @@ fn matches(s: &Settings, c: &Connection, l: &Line) -> bool
         && DIGEST_LONG <= l.held
         && text::same(
             &l.bytes[..DIGEST_LONG],
-            &digest::leading_digest(c.random, first(&s.password.bytes, s.password.len)),
+            &digest::leading_digest(c.random, rooms::first(&s.password.bytes, s.password.len)),
         )
 }
 
@@ -62,16 +65,16 @@ fn end_line(s: &Settings, o: &mut Own, c: &mut Connection, l: &Line) -> codec::L
         Phase::Open { random } => {
             turn(c, Phase::Open { random });
             if !l.overlong {
-                reply = answering::answer_line(s, o, first(&l.bytes, l.held));
+                reply = answering::answer_line(s, o, rooms::first(&l.bytes, l.held));
             }
         }
         Phase::Awaiting { random, .. } => {
             if matches(s, c, l) {
                 turn(c, Phase::Open { random });
-                let (_, line) = first(&l.bytes, l.held).split_at(DIGEST_LONG);
+                let (_, line) = rooms::first(&l.bytes, l.held).split_at(DIGEST_LONG);
                 reply = answering::answer_line(s, o, line);
             } else {
-                turn(c, Phase::Failed { age: 0, random });
+                fail(c);
                 codec::put_all(b"PJLINK ERRA\r", &mut reply);
             }
         }
@@ -90,7 +93,7 @@ fn keep(c: &mut Connection, l: &Line)
     }
 }
 
-// Takes the bytes up to and including the first CR, or all.
+/// Takes the bytes up to and including the first CR, or all.
 #[tactic(auto, using(record::proofs::PhaseSeen::phase_tests), unfolding(crate::specs::Receiving::taken_in))]
 pub fn take_in(s: &Settings, o: &mut Own, c: &mut Connection, bytes: &[u8]) -> Taken
     requires { IsReady s.now o.old }

@@ -60,6 +60,7 @@ fn set_level(o: &mut Own, v: Volume, up: bool)
     }
 }
 
+/// The own part as the command leaves it; a query changes nothing.
 pub fn carry_out(s: &Settings, o: &mut Own, c: Command)
     ensures { o.new ≡ after_command s.now o.old c }
 {

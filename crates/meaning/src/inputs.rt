@@ -50,6 +50,7 @@ pub fn place_of(s: &Settings, i: Input) -> usize
         .unwrap_or(inputs.len())
 }
 
+/// Whether the input is in the set-up.
 pub fn is_listed(s: &Settings, i: Input) -> bool
     ensures { result ≡ is_listed s.now i }
 {

@@ -2,17 +2,17 @@
 ghost use Rattle.std.specs.Prelude.{◌≡◌, take, slice_index_or};
 ghost use Rattle.pjlink.specs.Carried.{value_said};
 ghost use Rattle.record.specs.Record.{blank_name};
-ghost use Rattle.meaning.specs.Meaning.{power_said, lamps_said, name_bytes, query_answer, table_answer};
+ghost use Rattle.meaning.specs.Meaning.{power_said, lamp_said, lamps_said, name_bytes, query_answer};
+ghost use Rattle.meaning.specs.Meaning.{table_answer};
 
 use crate::inputs;
 use arrayvec::ArrayVec;
 use pjlink::answer::Answer;
 use pjlink::body::Body;
 use pjlink::command::Command;
-use record::types::{
-    INPUT_NAME_MOST, INPUTS_MOST, InputName, LAMPS_MOST, Own, Settings, TEXT_ROOM, Text,
-};
+use record::types::{INPUTS_MOST, InputName, LAMPS_MOST, Own, Settings, Text};
 use record::views;
+use text::rooms;
 use words::input::Input;
 use words::lamp::LampHours;
 use words::mutes::Mutes;
@@ -31,7 +31,17 @@ fn power_said(power: views::Power) -> Power
     }
 }
 
-// The first `count` lamps, by whole hours.
+// A lamp by its whole hours.
+fn lamp_said(lit: bool, seconds: u32) -> LampHours
+    ensures { result ≡ lamp_said lit seconds }
+{
+    LampHours {
+        hours: seconds / HOUR,
+        lit,
+    }
+}
+
+// The first `count` lamps.
 #[tactic(auto, using(crate::proofs::LampsSaid::none_said, crate::proofs::LampsSaid::one_more_said))]
 fn lamps_said(
     seconds: &[u32; LAMPS_MOST],
@@ -44,10 +54,7 @@ fn lamps_said(
     let mut lamps = ArrayVec::new();
     let most = count.min(LAMPS_MOST);
     for k in 0..most {
-        lamps.push(LampHours {
-            hours: seconds[k] / HOUR,
-            lit: lit & marks[k],
-        });
+        lamps.push(lamp_said(lit & marks[k], seconds[k]));
     }
     lamps
 }
@@ -55,13 +62,13 @@ fn lamps_said(
 fn text_of(t: &Text) -> &[u8]
     ensures { result.now ≡ take t.now.len t.now.bytes }
 {
-    &t.bytes[..t.len.min(TEXT_ROOM)]
+    rooms::first(&t.bytes, t.len)
 }
 
 fn name_of(n: &InputName) -> &[u8]
     ensures { result.now ≡ name_bytes n.now }
 {
-    &n.bytes[..n.len.min(INPUT_NAME_MOST)]
+    rooms::first(&n.bytes, n.len)
 }
 
 // The name at a place; past the list there is none.

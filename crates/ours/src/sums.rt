@@ -4,6 +4,7 @@ ghost use Rattle.ours.specs.Board.{ours};
 
 use digest::Digest;
 
+/// `digest::md5` gives the bytes that `ours.md5` says.
 pub fn md5(bytes: &[u8]) -> Digest
     ensures { result.bytes ≡ ours.md5 bytes.now }
 {

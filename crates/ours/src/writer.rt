@@ -8,6 +8,7 @@ use controller::writing;
 use controller::writing::Unwritten;
 use pjlink::command::Command;
 
+/// `writing::write_command` gives and writes what `ours.write` says.
 pub fn write(
     c: Command,
     secured: bool,

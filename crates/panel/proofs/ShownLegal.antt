@@ -2,12 +2,11 @@
 -- was.
 -- Assumes nothing.
 use Rattle.std.specs.List.{list_all}
-use Rattle.std.proofs.Common.{ℕ, ◌+◌, ◌≤◌, ◌≡◌, refl, sym, ap, subst, ◌∙◌, Bool, true, false, not, ◌&&◌, List, [], ◌++◌}
-use Rattle.std.proofs.Common.{map, arith, length, drop, replicate, nat_le, ◌==◌}
-use Rattle.std.proofs.lemmas.List.{length-map, length-replicate}
-use Rattle.std.proofs.Math.Seq.{sets-eq}
+use Rattle.std.proofs.Common.{ℕ, ◌≤◌, ◌≡◌, refl, sym, subst, Bool, true, false, not, ◌&&◌, List, []}
+use Rattle.std.proofs.Common.{map, arith, length, nat_le, ◌==◌}
+use Rattle.std.proofs.lemmas.List.{length-map}
 use Rattle.text.specs.Rooms.{filled_room, Uses}
-use Rattle.text.proofs.RoomsTold.{rest_kept, uses_told, kept_used}
+use Rattle.text.proofs.RoomsTold.{uses_told, kept_used}
 use Rattle.text.proofs.Scanning.{list_all-map}
 use Rattle.words.specs.Inputs.{is_input}
 use Rattle.words.specs.declared.input.Source.{Source}
@@ -20,7 +19,7 @@ use Rattle.pjlink.specs.Said.{Said, chosen_is}
 use Rattle.pjlink.specs.Carried.{lamps_carried}
 use Rattle.pjlink.specs.CanSay.{CanSay, power, input, lamps}
 use Rattle.codes.specs.Commands.{source_number}
-use Rattle.codes.specs.Readings.{filled_to, hours_of, lit_of, power_at_face}
+use Rattle.codes.specs.Readings.{hours_of, lit_of, power_at_face}
 use Rattle.panel.specs.Entries.{Shown, nothing_shown}
 use Rattle.panel.specs.Showing.{showing}
 use Rattle.panel.specs.LegalPanels.{is_power_shown, is_input_shown, is_lamp_count, is_hours, is_hours_room, is_lit_room}
@@ -54,30 +53,24 @@ is_input_shown-source_number s n h = grind arith
 -- a cleared room that is filled from its start keeps these things
 room_used : {A : Type 0} (blank : A → Bool) (x : A) (rule : List A → Bool) (xs : List A) {n : ℕ} → n ≡ length xs
     → length xs ≤ lamps_carried → blank x ≡ true → rule xs ≡ true
-    → Uses blank lamps_carried rule (filled_to lamps_carried x xs) n
-room_used blank x rule xs {n} long few blanks follows =
-    let size : length (replicate lamps_carried x) ≡ lamps_carried = length-replicate lamps_carried x in
-    let from : 0 + length xs ≡ length xs = omega arith in
-    let stands : filled_to lamps_carried x xs ≡ filled_room x lamps_carried xs
-    = sets-eq xs (replicate lamps_carried x) 0 (omega arith)
-    ∙ ap (λ (m : ℕ). xs ++ drop m (replicate lamps_carried x)) from ∙ rest_kept x xs lamps_carried in
-    subst (Uses blank lamps_carried rule (filled_to lamps_carried x xs)) (sym long)
-    (subst (λ s. Uses blank lamps_carried rule s (length xs)) (sym stands)
-    (kept_used blank x lamps_carried rule xs few blanks follows))
+    → Uses blank lamps_carried rule (filled_room x lamps_carried xs) n
+room_used blank x rule xs long few blanks follows =
+    subst (Uses blank lamps_carried rule (filled_room x lamps_carried xs)) (sym long)
+    (kept_used blank x lamps_carried rule xs few blanks follows)
 
 module _ (n : ℕ) (few : n ≤ lamps_carried) where
-  lit_shown : (bs : List Bool) → n ≡ length bs → is_lit_room (filled_to lamps_carried false bs) n ≡ true
+  lit_shown : (bs : List Bool) → n ≡ length bs → is_lit_room (filled_room false lamps_carried bs) n ≡ true
   unfolding is_lit_room
   lit_shown bs long =
       (room_told not lamps_carried _ n).1 (room_used not false (λ _. true) bs long (omega arith) refl refl)
 
   hours_shown : (hs : List ℕ) → n ≡ length hs → is_hours hs ≡ true
-      → is_hours_room (filled_to lamps_carried 0 hs) n ≡ true
+      → is_hours_room (filled_room 0 lamps_carried hs) n ≡ true
   hours_shown hs long e = (uses_told _ _ _ _ _).1 (room_used (λ x. x == 0) 0 is_hours hs long (omega arith) refl e)
 
 lamps_shown : (ls : List LampHours) → 1 ≤ length ls → length ls ≤ lamps_carried → list_all is_lamp_hours ls ≡ true
-    → shows_lamps true (length ls) (filled_to lamps_carried 0 (map hours_of ls))
-    (filled_to lamps_carried false (map lit_of ls)) ≡ true
+    → shows_lamps true (length ls) (filled_room 0 lamps_carried (map hours_of ls))
+    (filled_room false lamps_carried (map lit_of ls)) ≡ true
 unfolding shows_lamps is_lamp_count
 lamps_shown ls low high e = grind (arith, hours_shown, length-map, list_all-map, lit_shown)
 

@@ -7,7 +7,8 @@ use Rattle.std.specs.Prelude.{ℕ, Bool, true, false, List, map, length}
 use Rattle.pjlink.specs.Said.{Said, power_is, chosen_is, lamps_are}
 use Rattle.pjlink.specs.Carried.{lamps_carried}
 use Rattle.codes.specs.Commands.{source_number}
-use Rattle.codes.specs.Readings.{filled_to, hours_of, lit_of, power_at_face}
+use Rattle.text.specs.Rooms.{filled_room}
+use Rattle.codes.specs.Readings.{hours_of, lit_of, power_at_face}
 use Rattle.panel.specs.Entries.{Shown}
 
 module _ (s : Shown) where
@@ -53,6 +54,6 @@ module _ (s : Shown) where
   abbrev pub showing : Said → Shown
   showing (power_is p) = with_power_shown (power_at_face p)
   showing (chosen_is i) = with_input_shown (source_number i.source) i.number
-  showing (lamps_are ls) = with_lamps_shown (length ls) (filled_to lamps_carried 0 (map hours_of ls))
-      (filled_to lamps_carried false (map lit_of ls))
+  showing (lamps_are ls) = with_lamps_shown (length ls) (filled_room 0 lamps_carried (map hours_of ls))
+      (filled_room false lamps_carried (map lit_of ls))
   showing m = s

@@ -1,7 +1,7 @@
 -- A panel, one of whose projectors is a device of ours, to which it is connected at one of the device's four places
 -- (RULES, Places), and what happens in the workroom: any of this, in any order.
 --   cut_at ns l         the bytes l in parts: the first n bytes, for the first n of ns, and so on; the rest is the last
---                       part. `stream_of` joins them again, and no cutting is left out (proofs/Cuts)
+--                       part. `stream_of` joins them again, and no cutting is left out (`any_cuts`)
 --   Workroom            the panel, and the device
 --   asks k there back   the panel sends the command k: its line comes there in the cuts `there`, each part handed on
 --                       until it is taken; the reply comes back in the cuts `back`. Of a refused command nothing is

@@ -1,6 +1,6 @@
 // What the two sides keep together: what is read at the face of C, and the panel joined with our projector. Nothing is
 // done here: that these functions have their contracts is that the theorems stand.
-ghost use Rattle.std.specs.Prelude.{◌≡◌, ◌<◌, ◌≤◌, ◌^◌, ℕ, true, List, false, length, Some, Ok};
+ghost use Rattle.std.specs.Prelude.{◌≡◌, ◌<◌, ◌≤◌, ◌^◌, ℕ, true, List, ◌∷◌, false, length, Some, Ok};
 ghost use Rattle.record.specs.declared.types.Device.{Device};
 ghost use Rattle.record.specs.Limits.{places_count, opened, awaiting};
 ghost use Rattle.record.specs.Legal.{is_legal};
@@ -21,6 +21,8 @@ ghost use Rattle.demands.specs.Greeted.{greeted_on};
 ghost use Rattle.workroom.specs.AnyPanel.{ours_panel};
 ghost use Rattle.workroom.specs.PanelDemand.{PanelDemand};
 ghost use Rattle.workroom.specs.ShowsWhatWasMeant.{ShowsWhatWasMeant};
+ghost use Rattle.workroom.specs.Workroom.{cut_at};
+ghost use Rattle.stream.specs.Machine.{stream_of};
 ghost use Rattle.workroom.specs.WrongPanels.{takes_foreign, ends_on_malformed, keeps_after_erra};
 ghost use Rattle.workroom.specs.WrongPanels.{stray_count_wraps, shows_late, counts_nothing, shows_no_reply};
 
@@ -51,10 +53,12 @@ pub fn the_face_reads_back()
         ≡ flat_greeting (greeted_on (connection_at o.device (place_taken d room))) }
 {}
 
-/// Our panel keeps what RULES, Panel, asks of any, and shows what the projector meant.
+/// Our panel keeps what RULES, Panel, asks of any, and shows what the projector meant, in any cuts: none is left out.
 pub fn our_panel_keeps_its_demand()
     ensures panel { PanelDemand ours_panel }
     ensures shows_what_was_meant { ShowsWhatWasMeant ours_panel }
+    ensures any_cuts { (p : List ℕ) (ps : List (List ℕ))
+        → (ns : List ℕ) × (cut_at ns (stream_of (p ∷ ps)) ≡ p ∷ ps) }
 {}
 
 /// The wrong panels, each ours but for what the clause's name says of it: none keeps what it was made against.

@@ -8,6 +8,7 @@ use codes::command::Coded;
 use panel::refusal::Refusal;
 use panel::types::Panel;
 
+/// `Panel::add` gives and leaves what `ours_panel.add` says.
 pub fn adds(p: &mut Panel, password: &[u8]) -> Result<(), Refusal>
     ensures number { panel_outcome_number result ≡ (ours_panel.add p.old password.now).number }
     ensures panel { p.new ≡ (ours_panel.add p.old password.now).panel }
@@ -15,6 +16,7 @@ pub fn adds(p: &mut Panel, password: &[u8]) -> Result<(), Refusal>
     p.add(password)
 }
 
+/// `Panel::send` gives, writes and leaves what `ours_panel.command` says.
 pub fn commands(p: &mut Panel, projector: usize, k: Coded, out: &mut [u8]) -> Result<usize, Refusal>
     ensures number { panel_outcome_number result
         ≡ (ours_panel.command p.old projector k (length out.old)).number }
@@ -27,6 +29,7 @@ pub fn commands(p: &mut Panel, projector: usize, k: Coded, out: &mut [u8]) -> Re
     p.send(projector, k, out)
 }
 
+/// `Panel::hear` gives and leaves what `ours_panel.hear` says.
 pub fn hears(p: &mut Panel, projector: usize, line: &[u8]) -> Result<(), Refusal>
     ensures number { panel_outcome_number result ≡ (ours_panel.hear p.old projector line.now).number }
     ensures panel { p.new ≡ (ours_panel.hear p.old projector line.now).panel }
@@ -34,6 +37,7 @@ pub fn hears(p: &mut Panel, projector: usize, line: &[u8]) -> Result<(), Refusal
     p.hear(projector, line)
 }
 
+/// `Panel::lose` gives and leaves what `ours_panel.lose` says.
 pub fn loses(p: &mut Panel, projector: usize) -> Result<(), Refusal>
     ensures number { panel_outcome_number result ≡ (ours_panel.lose p.old projector).number }
     ensures panel { p.new ≡ (ours_panel.lose p.old projector).panel }
