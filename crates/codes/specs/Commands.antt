@@ -1,4 +1,4 @@
--- The commands by their code_rows (include/ceiling.h), a code and two numbers each.
+-- The commands by their codes (include/ceiling.h), a code and two numbers each.
 --   code_rows              what each code stands for, and which of the two numbers it uses
 --   coded_by n rows        what the code n stands for by these rows, and which numbers it uses
 --   switch_at n, input_at type number, half_at n     what the numbers of a command stand for, or nothing

@@ -17,7 +17,7 @@ use Rattle.pjlink.proofs.ReadsBack.{reads_back as parameter-reads-back}
 use Rattle.controller.specs.Reading.{ReadAs, Outcome, means_it, meaning, saying, read_reply}
 use Rattle.controller.proofs.Cases.{reply_said}
 
--- list_all answer that a command can have means something
+-- every answer that a command can have means something
 pub can_mean : {c : Command} {m : Said} → CanSay c m → (saying m).outcome ≡ means_it
 can_mean {m = nothing} can = absurd (cannot_say_nothing can)
 can_mean {m = m} can = refl

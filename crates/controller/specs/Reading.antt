@@ -7,8 +7,7 @@
 --   saying m                   the reading of a parameter that says m: it is not allowed where it says nothing, its
 --                              outcome by `outcome_said`
 --   read_reply c l             what the line l, with its CR, says to the command c: the ERRA line, then the form of a
---                              reply of
---                              the command's class (RULES, Class 2), then the body, then the parameter
+--                              reply of the command's class (RULES, Class 2), then the body, then the parameter
 --   outcome_of m               why a line says nothing, as an outcome
 --   read_as r                  what the code returns, seen so
 --   LineSays c l m             the line l, with its CR, says m in reply to c: by its form, its body and its parameter

@@ -7,10 +7,9 @@
 -- of a command and the text of lamps (pjlink/specs: Commands, Said; words/specs/Lamps; numbers/specs/Decimal);
 -- ours/specs/Board; here Calls, CallsDone, and `BetweenLines` of SpeaksPjlink, `meaning` of controller/specs/Reading.
 --   Beginning            a history begins with a set-up, or with the load of a stored form (RULES, Stored form:
---                        "Loading
---                        is a fresh set-up, so the history of demand 3 begins there with the stored seconds"), of the
---                        newest version with its marks, or of an older one, which loads as Class 1: version 2 with its
---                        marks (RULES, Class 2), version 1 with none (RULES, Lamps)
+--                        "Loading is a fresh set-up, so the history of demand 3 begins there with the stored seconds"),
+--                        of the newest version with its marks, or of an older one, which loads as Class 1: version 2
+--                        with its marks (RULES, Class 2), version 1 with none (RULES, Lamps)
 --   start_marks b w      the marks that it begins with: all set, or "after a load, as the form has them"
 --   IsAccepted B b w     the board accepts the settings w there
 --   history_of B b w cs  what someone outside sees of the calls cs since then

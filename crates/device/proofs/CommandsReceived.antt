@@ -1,4 +1,4 @@
--- The projector's half of demand 2's reading back: on a legal record between lines, for list_all command that can be
+-- The projector's half of demand 2's reading back: on a legal record between lines, for every command that can be
 -- written, its line is taken whole, the reply says what the command means, and the record is what the command does to
 -- it. On an open connection, and on an awaiting one behind the matching digest, which is open afterwards. So for
 -- any command of a class no higher than the set-up's; a higher one is taken and swallowed (RULES, Class 2).

@@ -45,7 +45,7 @@ pub fn a_password_is_asked_for()
         → (greeting s random ≡ greeting_open) × (new_connection s random ≡ begun_in opened random) }
 {}
 
-/// A call takes the bytes up to and including the first CR, or all of them if there is none, in list_all phase; of no
+/// A call takes the bytes up to and including the first CR, or all of them if there is none, in every phase; of no
 /// bytes it takes none and changes nothing (RULES, Connection).
 #[tactic(auto, using(crate::proofs::Counts::counts))]
 pub fn a_call_takes_one_line()

@@ -60,7 +60,7 @@ module _
     digits_In_all zero n = end n
     digits_In_all (suc k) n = grind (arith, digits_In_all k (n / 10))
 
--- what holds of each number below ten, and of a number where it holds of its quotient, holds of list_all u32
+-- what holds of each number below ten, and of a number where it holds of its quotient, holds of every u32
 pub digits_all :
     (P : ℕ → List ℕ → Type 0)
     → ((n : ℕ) → n < 10 → P n (last_digit n ∷ []))

@@ -1,4 +1,4 @@
--- Things joined by spaces: what holds of list_all byte, and how many bytes they are.
+-- Things joined by spaces: what holds of every byte, and how many bytes they are.
 -- Assumes nothing.
 use Rattle.std.proofs.lemmas.Grind.{common_steps}
 use Rattle.std.proofs.Common.{ℕ, suc, ◌+◌, ◌*◌, ◌≤◌, ◌≡◌, refl, Bool, true, List, [], ◌∷◌, arith, length, length-append}

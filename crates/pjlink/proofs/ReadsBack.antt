@@ -1,4 +1,4 @@
--- THE LAW: for list_all command and list_all answer that it can have, reading a writing of the answer gives the answer
+-- THE LAW: for every command and every answer that it can have, reading a writing of the answer gives the answer
 -- back;
 -- and so its bytes, which are a writing.
 -- Assumes nothing.

@@ -1,5 +1,5 @@
 -- The connections of a legal record: as many as there are places, each legal by itself; what is put in a place stands
--- there, and list_all other place is as it was (RULES, Places).
+-- there, and every other place is as it was (RULES, Places).
 -- Assumes nothing.
 use Rattle.std.proofs.lemmas.Grind.{common_steps}
 use Rattle.std.specs.List.{list_all}

@@ -8,13 +8,11 @@
 --   each_named k s         s is pairs, each of which names an input of the class k
 --   input_place a b        the place of the input a b, at which the code marks it
 --   is_inputs k s          there is a class k (RULES, Class 2), and s are 1 to 32 inputs of it, two characters each,
---                          all
---                          different
+--                          all different
 --   is_lamp x              a lamp's seconds are at most the limit
 --   is_lamps xs            0 to 8 lamps
 --   is_marks n ms          the enabled marks of n lamps (RULES, Lamps): none past them, and one at least where there
---                          are
---                          lamps
+--                          are lamps
 --   is_stretch n           1 to 600 seconds, of warm-up or of cooling
 --   is_error_list ds       six error digits, each 0 to 2
 --   are_names n ns         the names of n inputs (RULES, Class 2)

@@ -1,8 +1,8 @@
 -- Set-up (RULES, The legal record; number 3 of "The numbers a call gives"; number 8 of RULES, Passwords): which device
--- it gives, or why none, for list_all input.
+-- it gives, or why none, for every input.
 --   settings_in_order         the settings, in the order in which set-up is lent them
 --   is_setting_in_range w s   the setting s is in its range: a password of 1 to 7 characters is in its
---   is_in_range w             each setting is: list_all 3 is ruled out
+--   is_in_range w             each setting is: every 3 is ruled out
 --   is_set_up w               and the password is long enough
 --   first_failing f l         the first of l whose rule f is not met, or none
 --   first_out_of_range w      the first setting out of its range, or none

@@ -8,7 +8,7 @@
 --   section_of width     items of so many bytes each, after their count in one byte;    text    of one byte each
 --   texts n              so many texts, one after the other
 --   seconds_in n s       the first n numbers of four bytes in s
---   ClassPart            the class, and what Class 2 alone has;    alone k    the class k, which has nothing more
+--   ClassPart            the class, and what Class 2 alone has;    class_alone k    the class k, which has no more
 --   class_part n         both, where there are n inputs;    class_in v n    in the version v: the older are of Class 1
 --   marks_of v n         the bytes of n lamps' marks: each 1 in the version that has none
 --   FormSaid             what a form says: the settings, the lamps' seconds among them, and the bytes of the marks

@@ -1,4 +1,4 @@
--- Things written one after the other: two lists, one thing more, how long, and what holds of list_all element.
+-- Things written one after the other: two lists, one thing more, how long, and what holds of every element.
 -- Assumes nothing.
 use Rattle.std.specs.List.{list_all}
 use Rattle.std.proofs.Common.{ℕ, ◌+◌, ◌*◌, ◌<◌, ◌≡◌, refl, sym, ap, ◌∙◌, Bool, true, List, [], ◌∷◌, ◌++◌, append_assoc}
