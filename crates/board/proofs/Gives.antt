@@ -2,14 +2,15 @@
 -- Assumes nothing.
 use Rattle.std.proofs.Common.{◌≡◌, ap, ◌∙◌, Result, OnErr}
 use Rattle.record.specs.Given.{gives, left_by}
-use Rattle.record.specs.Refusals.{outcome_number}
+use Rattle.text.specs.Outcomes.{outcome_number}
+use Rattle.record.specs.Refusals.{refusal_number}
 use Rattle.record.specs.declared.refusal.Refusal.{Refusal}
 use Rattle.record.specs.declared.types.Device.{Device}
 use Rattle.record.proofs.GivenTold.{number_given, device_given}
 
 module _ (d e : Device) (r : Result (Unit {0}) Refusal) (given : Result Device Refusal) (p : gives r e ≡ given) where
-  pub number_as : outcome_number r ≡ outcome_number given
-  number_as = number_given e r ∙ ap outcome_number p
+  pub number_as : outcome_number refusal_number r ≡ outcome_number refusal_number given
+  number_as = number_given e r ∙ ap (outcome_number refusal_number) p
 
   pub device_as : OnErr r (e ≡ d) → e ≡ left_by d given
   device_as kept = device_given d e r kept ∙ ap (left_by d) p

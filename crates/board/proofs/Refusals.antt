@@ -8,7 +8,8 @@ use Rattle.pjlink.specs.Forms.{reply_parameter}
 use Rattle.pjlink.specs.declared.command.Command.{Command}
 use Rattle.pjlink.specs.Said.{Said}
 use Rattle.pjlink.specs.Reading.{read_parameter}
-use Rattle.controller.specs.Writing.{nothing_written, command_room}
+use Rattle.text.specs.Outcomes.{nothing_written}
+use Rattle.controller.specs.Writing.{command_room}
 use Rattle.controller.specs.Reading.{reading_outcome_number, saying, read_reply}
 use Rattle.controller.proofs.Cases.{reply_by}
 use Rattle.controller.proofs.Refusals.{refusal_writes_nothing, written_number}

@@ -1,47 +1,34 @@
 // The stored form: settings that survive a board swap (RULES, Stored form).
 ghost use Rattle.std.specs.Prelude.{◌≡◌, length};
 ghost use Rattle.text.specs.Words.{over};
+ghost use Rattle.text.specs.Outcomes.{told_written};
 ghost use Rattle.stored.specs.Form.{stored_by};
-ghost use Rattle.stored.specs.Told.{told_stored, storing_told};
 ghost use Rattle.stored.specs.Loading.{loaded_from};
-ghost use Rattle.board.specs.Results.{changed_of, storing_of};
+ghost use Rattle.board.specs.Results.{changed_of, writing_of};
 
 use crate::results::Changed;
 use crate::writer::Written;
 use record::fresh;
-use record::refusal::Refusal;
 use record::types::Device;
 use stored::{loading, storing};
-
-// What storing gives, in numbers.
-fn told(outcome: Result<usize, Refusal>) -> Written
-    ensures { result ≡ storing_of (storing_told outcome) }
-{
-    match outcome {
-        Ok(length) => Written { number: 0, length },
-        Err(refusal) => Written {
-            number: refusal.number(),
-            length: 0,
-        },
-    }
-}
+use text::numbered;
 
 /// The record's form into the lent memory: 1 and 2 in that order.
 #[unsafe(no_mangle)]
 pub extern "C" fn pj_store_in_place(device: &Device, out: &mut [u8]) -> Written
-    ensures says { result ≡ storing_of (told_stored (stored_by device.now (length out.old))) }
+    ensures says { result ≡ writing_of (told_written (stored_by device.now (length out.old))) }
     ensures written { out.new ≡ over (stored_by device.now (length out.old)).bytes out.old }
 {
-    told(storing::store(device, out))
+    Written::of(storing::store(device, out))
 }
 
 /// The same, of a record that is given by value.
 #[unsafe(no_mangle)]
 pub extern "C" fn pj_store(d: Device, out: &mut [u8]) -> Written
-    ensures says { result ≡ storing_of (told_stored (stored_by d (length out.old))) }
+    ensures says { result ≡ writing_of (told_written (stored_by d (length out.old))) }
     ensures written { out.new ≡ over (stored_by d (length out.old)).bytes out.old }
 {
-    told(storing::store(&d, out))
+    Written::of(storing::store(&d, out))
 }
 
 /// The device that the form is of, into the record; the blank one where it is refused, with 20 to 23.
@@ -50,10 +37,7 @@ pub extern "C" fn pj_load_in_place(device: &mut Device, bytes: &[u8]) -> u32
     ensures number { result ≡ (loaded_from bytes.now).number }
     ensures device { device.new ≡ (loaded_from bytes.now).device }
 {
-    match loading::load_in(device, bytes) {
-        Ok(()) => 0,
-        Err(error) => error.number(),
-    }
+    numbered::number_of(loading::load_in(device, bytes))
 }
 
 /// The same, by value.

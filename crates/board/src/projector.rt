@@ -2,13 +2,14 @@
 // refused call leaves the record as it was; a refused set-up leaves the blank one.
 ghost use Rattle.std.specs.Prelude.{◌≡◌, length};
 ghost use Rattle.text.specs.Words.{over};
+ghost use Rattle.text.specs.Outcomes.{outcome_number};
 ghost use Rattle.record.specs.Legal.{is_legal};
 ghost use Rattle.record.specs.Wanted.{wanted_of, wanted_of_2, names_in};
 ghost use Rattle.record.specs.SetUp.{set_up};
 ghost use Rattle.record.specs.HostCalls.{fault_set, errors_set, mark_set};
 ghost use Rattle.record.specs.Record.{blank};
-ghost use Rattle.record.specs.Refusals.{outcome_number};
-ghost use Rattle.record.specs.SetUpErrors.{set_up_number};
+ghost use Rattle.record.specs.Refusals.{refusal_number};
+ghost use Rattle.record.specs.SetUpErrors.{set_up_error_number};
 ghost use Rattle.record.specs.Given.{left_by};
 ghost use Rattle.setup.specs.Lent.{wanted_settings};
 ghost use Rattle.clock.specs.Passing.{time_passed};
@@ -19,19 +20,16 @@ ghost use Rattle.board.specs.Results.{receiving_of, opening_of};
 use crate::results::{Opening, Receiving};
 use clock::pass;
 use device::calls;
-use record::refusal;
 use record::types::Device;
 use setup::wanted::{Class, Names, Wanted};
+use text::numbered;
 
 /// Sets the host's record up, and tells the number: where it is refused, the record is the blank one.
 pub fn set_up_in(device: &mut Device, wanted: &Wanted<'_>) -> u32
-    ensures number { result ≡ set_up_number (set_up (wanted_settings wanted.now)) }
+    ensures number { result ≡ outcome_number set_up_error_number (set_up (wanted_settings wanted.now)) }
     ensures device { device.new ≡ left_by blank (set_up (wanted_settings wanted.now)) }
 {
-    match setup::set_up_in(device, wanted) {
-        Ok(()) => 0,
-        Err(error) => error.number(),
-    }
+    numbered::number_of(setup::set_up_in(device, wanted))
 }
 
 /// Set-up of Class 1 into the record: 3, then 8.
@@ -48,8 +46,8 @@ pub extern "C" fn pj_set_up_in_place<'a>(
     warm: u32,
     cool: u32,
 ) -> u32
-    ensures number { result ≡ set_up_number (set_up (wanted_of name.now maker.now model.now other.now
-        password.now inputs.now lamps.now warm cool)) }
+    ensures number { result ≡ outcome_number set_up_error_number (set_up (wanted_of name.now maker.now model.now
+        other.now password.now inputs.now lamps.now warm cool)) }
     ensures device { device.new ≡ left_by blank (set_up (wanted_of name.now maker.now model.now other.now
         password.now inputs.now lamps.now warm cool)) }
 {
@@ -89,8 +87,8 @@ pub extern "C" fn pj_set_up_2_in_place<'a>(
     names: &'a [u8],
     lengths: &'a [usize],
 ) -> u32
-    ensures number { result ≡ set_up_number (set_up (wanted_of_2 name.now maker.now model.now other.now
-        password.now inputs.now lamps.now warm cool serial.now
+    ensures number { result ≡ outcome_number set_up_error_number (set_up (wanted_of_2 name.now maker.now model.now
+        other.now password.now inputs.now lamps.now warm cool serial.now
         version.now (names_in lengths.now names.now))) }
     ensures device { device.new ≡ left_by blank (set_up (wanted_of_2 name.now maker.now model.now other.now
         password.now inputs.now lamps.now warm cool serial.now
@@ -147,7 +145,7 @@ pub extern "C" fn pj_close_in_place(device: &mut Device, place: usize) -> u32
     ensures number { result ≡ (closed_by device.old place).number }
     ensures device { device.new ≡ (closed_by device.old place).device }
 {
-    refusal::number_of(calls::close(device, place))
+    numbered::number_of(calls::close(device, place))
 }
 
 /// Bytes from the network at a place: 1, 2, 3 and 4 in that order.
@@ -171,38 +169,38 @@ pub extern "C" fn pj_receive_in_place(
 #[unsafe(no_mangle)]
 #[tactic(auto, using(crate::proofs::Gives::number_as, crate::proofs::Gives::device_as))]
 pub extern "C" fn pj_set_fault_in_place(device: &mut Device, mark: bool) -> u32
-    ensures number { result ≡ outcome_number (fault_set device.old mark) }
+    ensures number { result ≡ outcome_number refusal_number (fault_set device.old mark) }
     ensures device { device.new ≡ left_by device.old (fault_set device.old mark) }
 {
-    refusal::number_of(device.set_fault(mark))
+    numbered::number_of(device.set_fault(mark))
 }
 
 /// The six error digits: 1 and 3 in that order.
 #[unsafe(no_mangle)]
 #[tactic(auto, using(crate::proofs::Gives::number_as, crate::proofs::Gives::device_as))]
 pub extern "C" fn pj_set_errors_in_place(device: &mut Device, digits: &[u8]) -> u32
-    ensures number { result ≡ outcome_number (errors_set device.old digits.now) }
+    ensures number { result ≡ outcome_number refusal_number (errors_set device.old digits.now) }
     ensures device { device.new ≡ left_by device.old (errors_set device.old digits.now) }
 {
-    refusal::number_of(device.set_errors(digits))
+    numbered::number_of(device.set_errors(digits))
 }
 
 /// A lamp's enabled mark: 1, 3 and 7 in that order.
 #[unsafe(no_mangle)]
 #[tactic(auto, using(crate::proofs::Gives::number_as, crate::proofs::Gives::device_as))]
 pub extern "C" fn pj_set_mark_in_place(device: &mut Device, lamp: usize, enabled: bool) -> u32
-    ensures number { result ≡ outcome_number (mark_set device.old lamp enabled) }
+    ensures number { result ≡ outcome_number refusal_number (mark_set device.old lamp enabled) }
     ensures device { device.new ≡ left_by device.old (mark_set device.old lamp enabled) }
 {
-    refusal::number_of(device.set_mark(lamp, enabled))
+    numbered::number_of(device.set_mark(lamp, enabled))
 }
 
 /// So many seconds pass: 1.
 #[unsafe(no_mangle)]
 #[tactic(auto, using(crate::proofs::Gives::number_as, crate::proofs::Gives::device_as))]
 pub extern "C" fn pj_pass_in_place(device: &mut Device, seconds: u32) -> u32
-    ensures number { result ≡ outcome_number (time_passed device.old seconds) }
+    ensures number { result ≡ outcome_number refusal_number (time_passed device.old seconds) }
     ensures device { device.new ≡ left_by device.old (time_passed device.old seconds) }
 {
-    refusal::number_of(pass::pass(device, seconds))
+    numbered::number_of(pass::pass(device, seconds))
 }

@@ -7,6 +7,7 @@ use device::calls;
 use panel::types::Panel;
 use record::refusal::Refusal;
 use record::types::Device;
+use text::numbered::Numbered;
 
 /// What receiving gives beside the record: its number, the bytes taken, the length of the reply.
 #[repr(C)]

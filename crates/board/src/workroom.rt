@@ -6,9 +6,10 @@ ghost use Rattle.panel.specs.PanelCalls.{panel_made, no_panel, added_to, command
 ghost use Rattle.board.specs.Results.{panel_changed_of, panel_sent_of};
 
 use crate::results::{PanelChanged, PanelSent};
+use crate::writer::Written;
 use codes::command::Coded;
-use panel::refusal;
 use panel::types::Panel;
+use text::numbered;
 
 /// The panel of no projector.
 #[unsafe(no_mangle)]
@@ -27,7 +28,7 @@ pub extern "C" fn pj_panel_add(p: Panel, password: &[u8]) -> PanelChanged
     ensures { result ≡ panel_changed_of (added_to p password.now) }
 {
     let mut panel = p;
-    let number = refusal::number_of(panel.add(password));
+    let number = numbered::number_of(panel.add(password));
     PanelChanged { number, panel }
 }
 
@@ -44,10 +45,7 @@ pub extern "C" fn pj_panel_command(
         out.old }
 {
     let mut panel = p;
-    let (number, length) = match panel.send(projector, k, out) {
-        Ok(length) => (0, length),
-        Err(refusal) => (refusal.number(), 0),
-    };
+    let Written { number, length } = Written::of(panel.send(projector, k, out));
     PanelSent {
         number,
         length,
@@ -61,7 +59,7 @@ pub extern "C" fn pj_panel_line(p: Panel, projector: usize, line: &[u8]) -> Pane
     ensures { result ≡ panel_changed_of (stepped_at p projector line.now) }
 {
     let mut panel = p;
-    let number = refusal::number_of(panel.hear(projector, line));
+    let number = numbered::number_of(panel.hear(projector, line));
     PanelChanged { number, panel }
 }
 
@@ -71,6 +69,6 @@ pub extern "C" fn pj_panel_lost(p: Panel, projector: usize) -> PanelChanged
     ensures { result ≡ panel_changed_of (lost_at p projector) }
 {
     let mut panel = p;
-    let number = refusal::number_of(panel.lose(projector));
+    let number = numbered::number_of(panel.lose(projector));
     PanelChanged { number, panel }
 }

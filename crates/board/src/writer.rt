@@ -1,7 +1,7 @@
 // The controller's writer.
 ghost use Rattle.std.specs.Prelude.{◌≡◌, length};
 ghost use Rattle.text.specs.Words.{over};
-ghost use Rattle.controller.specs.Writing.{told_written, writing_told};
+ghost use Rattle.text.specs.Outcomes.{told_written, written_told};
 ghost use Rattle.codes.specs.Commands.{coded_command};
 ghost use Rattle.codes.specs.ByCode.{none_written, written_by};
 ghost use Rattle.board.specs.Results.{writing_of};
@@ -9,8 +9,9 @@ ghost use Rattle.board.specs.Results.{writing_of};
 use codes::command::Coded;
 use controller::writing;
 use controller::writing::{COMMAND_ROOM, Unwritten};
+use text::numbered::Numbered;
 
-/// What writing a command gives: its number, and the length of the line (`pj_written`).
+/// What writing a command or a form gives: its number, and the length of what is written (`pj_written`).
 #[repr(C)]
 #[derive(Clone, Copy)]
 pub struct Written {
@@ -19,9 +20,9 @@ pub struct Written {
 }
 
 impl Written {
-    /// The writer's answer in numbers.
-    pub fn of(outcome: Result<usize, Unwritten>) -> Written
-        ensures { result ≡ writing_of (writing_told outcome) }
+    /// In numbers what a call gives that writes so many bytes, or refuses.
+    pub fn of<E: Numbered>(outcome: Result<usize, E>) -> Written
+        ensures { result ≡ writing_of (written_told E.number outcome) }
     {
         match outcome {
             Ok(length) => Written { number: 0, length },

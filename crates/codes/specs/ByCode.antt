@@ -6,7 +6,8 @@
 -- Assumes nothing.
 use Rattle.std.specs.Prelude.{ℕ, Bool, List, if◌then◌else◌, Option, Some, None, nat_lt}
 use Rattle.pjlink.specs.declared.command.Command.{Command}
-use Rattle.controller.specs.Writing.{WrittenAs, nothing_written, command_room, written_command}
+use Rattle.text.specs.Outcomes.{WrittenAs, nothing_written}
+use Rattle.controller.specs.Writing.{command_room, written_command}
 use Rattle.controller.specs.Reading.{read_reply}
 use Rattle.codes.specs.Readings.{no_reading, flat_reading}
 use Rattle.codes.specs.declared.readings.FlatReading.{FlatReading}

@@ -11,6 +11,7 @@ ghost use Rattle.codes.specs.Readings.{flat_reading};
 use controller::greeting::Greeting;
 use controller::reading::{Misread, Reading};
 use pjlink::answer::{Answer, INPUTS_MOST, LAMPS_MOST};
+use text::numbered::Numbered;
 use words::input::Source;
 use words::power::Power;
 

@@ -13,7 +13,8 @@ use Rattle.pjlink.specs.Forms.{erra_line, greeting_open, greeting_secured, is_re
 use Rattle.pjlink.specs.declared.command.Command.{Command}
 use Rattle.pjlink.specs.Bodies.{is_body}
 use Rattle.pjlink.specs.Reading.{read_parameter}
-use Rattle.controller.specs.Writing.{WrittenAs, nothing_written, command_room, is_writable, led_by, written_command}
+use Rattle.text.specs.Outcomes.{WrittenAs, nothing_written}
+use Rattle.controller.specs.Writing.{command_room, is_writable, led_by, written_command}
 use Rattle.controller.specs.Reading.{ReadAs, outcome_alone, saying, read_reply, erra_said, not_a_line, other_command}
 use Rattle.controller.specs.Greetings.{greets, random_in, read_greeting}
 use Rattle.controller.specs.declared.greeting.Greeting.{Greeting}

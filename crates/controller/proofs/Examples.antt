@@ -7,7 +7,8 @@ use Rattle.pjlink.specs.declared.command.Command.TheVariants.{PowerSet, Query}
 use Rattle.pjlink.specs.Said.{okay, power_is}
 use Rattle.words.specs.declared.power.Power.TheVariants.{WarmUp}
 use Rattle.digest.specs.Computing.{computing as digest}
-use Rattle.controller.specs.Writing.{nothing_written, written_command}
+use Rattle.text.specs.Outcomes.{nothing_written}
+use Rattle.controller.specs.Writing.{written_command}
 use Rattle.controller.specs.Reading.{meaning, outcome_alone, read_reply, not_a_line, other_command, disallowed}
 use Rattle.controller.specs.Greetings.{read_greeting}
 use Rattle.controller.specs.Computing.{computing}

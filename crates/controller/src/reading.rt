@@ -1,10 +1,12 @@
 //! Reading a reply, told the command that it answers.
+ghost use Rattle.std.proofs.Common.{arith};
 ghost use Rattle.std.specs.Prelude.{◌≡◌};
 ghost use Rattle.controller.specs.Reading.{outcome_of, reading_outcome_number, read_reply, read_as};
 
 use pjlink::answer::Reply;
 use pjlink::command::Command;
 use pjlink::{form, reply};
+use text::numbered::Numbered;
 
 /// What a line says.
 #[derive(Drop)]
@@ -26,11 +28,12 @@ pub enum Misread {
     NotAllowed,
 }
 
-impl Misread {
-    /// Its number in the table of numbers.
-    pub fn number(self) -> u32
-        ensures { result ≡ reading_outcome_number (outcome_of self) }
-    {
+impl Numbered for Misread {
+    ghost number = { λ why. reading_outcome_number (outcome_of why) };
+
+    ghost refuses = { λ why. Prim.grind arith };
+
+    fn number(self) -> u32 {
         match self {
             Misread::NotALine => 10,
             Misread::OtherCommand => 11,

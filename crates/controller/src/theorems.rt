@@ -2,8 +2,9 @@
 // is that the theorems stand.
 ghost use Rattle.std.specs.Prelude.{◌≡◌, Bool, ℕ, List, Option, Result, length};
 ghost use Rattle.pjlink.specs.declared.command.Command.{Command};
-ghost use Rattle.controller.specs.Writing.{WriteTold, written_command, told_written};
+ghost use Rattle.controller.specs.Writing.{written_command};
 ghost use Rattle.text.specs.Words.{over};
+ghost use Rattle.text.specs.Outcomes.{WrittenTold, told_written};
 ghost use Rattle.controller.specs.declared.reading.Reading.{Reading};
 ghost use Rattle.controller.specs.declared.reading.Misread.{Misread};
 ghost use Rattle.controller.specs.Reading.{read_as, read_reply};
@@ -14,7 +15,7 @@ ghost use Rattle.controller.specs.Greetings.{read_greeting};
 #[tactic(auto, using(text::proofs::OneResult::one_result))]
 pub fn one_result()
     ensures command_written { (c : Command) (secured : Bool) (random : ℕ) (password out : List ℕ)
-        (r s : WriteTold) (m n : List ℕ)
+        (r s : WrittenTold) (m n : List ℕ)
         → let w = written_command c secured random password (length out) in
         (r ≡ told_written w) × (m ≡ over w.bytes out)
         → (s ≡ told_written w) × (n ≡ over w.bytes out) → (r ≡ s) × (m ≡ n) }

@@ -1,11 +1,13 @@
 //! Writing a command, led on request by the digest that opens a secured connection.
 ghost use Rattle.std.specs.Prelude.{◌≡◌, ◌+◌, ◌≤◌, ◌++◌, length};
 ghost use Rattle.arrayvec.specs.ArrayVec.{array_vec_len};
+ghost use Rattle.std.proofs.Common.{arith};
 ghost use Rattle.text.specs.Words.{over};
-ghost use Rattle.controller.specs.Writing.{is_writable, led_by, written_command, told_written, unwritten_number};
-ghost use Rattle.controller.specs.Writing.{writing_told};
+ghost use Rattle.text.specs.Outcomes.{told_written, written_told};
+ghost use Rattle.controller.specs.Writing.{is_writable, led_by, written_command, unwritten_number};
 
 use pjlink::command::Command;
+use text::numbered::Numbered;
 use words::codec::{LINE_MOST, Line};
 use words::{codec, texts};
 
@@ -21,11 +23,12 @@ pub enum Unwritten {
     OutOfRange,
 }
 
-impl Unwritten {
-    /// Its number in the table of numbers.
-    pub fn number(self) -> u32
-        ensures { result ≡ unwritten_number self }
-    {
+impl Numbered for Unwritten {
+    ghost number = { unwritten_number };
+
+    ghost refuses = { λ why. Prim.grind arith };
+
+    fn number(self) -> u32 {
         match self {
             Unwritten::NoRoom => 2,
             Unwritten::OutOfRange => 3,
@@ -60,7 +63,7 @@ pub fn write_command(
     password: &[u8],
     out: &mut [u8],
 ) -> Result<usize, Unwritten>
-    ensures told { writing_told result ≡ told_written (written_command c secured random password.now
+    ensures told { written_told unwritten_number result ≡ told_written (written_command c secured random password.now
         (length out.old)) }
     ensures written { out.new ≡ over (written_command c secured random password.now
         (length out.old)).bytes out.old }

@@ -31,7 +31,8 @@ use Rattle.device.proofs.CommandsReceived.{command_result, command_received, com
 use Rattle.device.proofs.CommandsReceived.{higher_received, higher_received_secured}
 use Rattle.device.proofs.Legal.{line_legal}
 use Rattle.controller.specs.Reading.{meaning, read_reply}
-use Rattle.controller.specs.Writing.{WrittenAs, command_room, written_command, led_by}
+use Rattle.text.specs.Outcomes.{WrittenAs}
+use Rattle.controller.specs.Writing.{command_room, written_command, led_by}
 use Rattle.controller.proofs.Cases.{written_plain, written_led, written_by}
 use Rattle.controller.proofs.ReadsBack.{reply_read}
 use Rattle.record.specs.declared.types.Settings.{Settings}

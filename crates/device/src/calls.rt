@@ -2,7 +2,8 @@
 // memory as they were where it refuses. The record is tested here, once a call; `on_legal` does the rest.
 ghost use Rattle.std.specs.Prelude.{◌≡◌, length};
 ghost use Rattle.text.specs.Words.{over};
-ghost use Rattle.record.specs.Refusals.{outcome_number};
+ghost use Rattle.text.specs.Outcomes.{outcome_number};
+ghost use Rattle.record.specs.Refusals.{refusal_number};
 ghost use Rattle.device.specs.Calls.{received_at, opened_by, place_taken, closed_by};
 ghost use Rattle.device.specs.Outcomes.{result_told, receiving_told, opening_told, opened_place};
 
@@ -64,7 +65,7 @@ pub fn open(device: &mut Device, random: u32, out: &mut [u8]) -> Result<Opened, 
 /// The connection at a place closed. Refused: `NotLegal`, `OutOfRange` for no such place, `Closed`, in that order.
 #[tactic(auto, unfolding(crate::specs::Calls::closed_by))]
 pub fn close(device: &mut Device, place: usize) -> Result<(), Refusal>
-    ensures number { outcome_number result ≡ (closed_by device.old place).number }
+    ensures number { outcome_number refusal_number result ≡ (closed_by device.old place).number }
     ensures device { device.new ≡ (closed_by device.old place).device }
 {
     if !device.is_legal() {

@@ -3,7 +3,8 @@
 ghost use Rattle.std.specs.Prelude.{◌≡◌, true, ◌≤◌, length};
 ghost use Rattle.text.specs.Words.{over};
 ghost use Rattle.record.specs.Legal.{is_legal};
-ghost use Rattle.record.specs.Refusals.{outcome_number};
+ghost use Rattle.text.specs.Outcomes.{outcome_number};
+ghost use Rattle.record.specs.Refusals.{refusal_number};
 ghost use Rattle.device.specs.Calls.{received_at, opened_by, place_taken, closed_by, greeting, new_connection};
 ghost use Rattle.device.specs.Outcomes.{result_told, receiving_told, opening_told, opened_place};
 
@@ -120,7 +121,7 @@ pub fn open(device: &mut Device, random: u32, out: &mut [u8]) -> Result<Opened, 
 #[tactic(auto, unfolding(crate::specs::Calls::closed_by))]
 pub fn close(device: &mut Device, place: usize) -> Result<(), Refusal>
     requires { is_legal device.old ≡ true }
-    ensures number { outcome_number result ≡ (closed_by device.old place).number }
+    ensures number { outcome_number refusal_number result ≡ (closed_by device.old place).number }
     ensures device { device.new ≡ (closed_by device.old place).device }
 {
     if PLACES <= place {

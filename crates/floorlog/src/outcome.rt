@@ -7,6 +7,7 @@ ghost use Rattle.floorlog.specs.Outcomes.{outcome_text, IsReplyWithin, reply_tex
 use arrayvec::ArrayVec;
 use device::on_legal::REPLY_ROOM;
 use record::refusal::Refusal;
+use text::numbered::Numbered;
 
 /// The most bytes of a printed line: twenty digits, a space, a reply and LF.
 pub const PRINTED_MOST: usize = 158;

@@ -14,6 +14,7 @@ use std::io::{Error, Read, Write};
 use std::{env, io};
 use stored::error::LoadError;
 use stored::loading;
+use text::numbered::Numbered;
 use textio::lines::Failure;
 use textio::writer::ByteSink;
 

@@ -16,11 +16,12 @@ use Rattle.record.specs.Given.{Given, given_by, set_up_given}
 use Rattle.record.specs.Wanted.{Wanted}
 use Rattle.record.specs.SetUp.{set_up}
 use Rattle.record.specs.HostCalls.{fault_set, errors_set, mark_set}
-use Rattle.stored.specs.Form.{StoredAs, stored_by}
+use Rattle.stored.specs.Form.{stored_by}
 use Rattle.stored.specs.Loading.{loaded_from}
 use Rattle.clock.specs.Passing.{time_passed}
 use Rattle.device.specs.Calls.{Result, opened_by, place_taken, closed_by, received_at}
-use Rattle.controller.specs.Writing.{WrittenAs, written_command}
+use Rattle.text.specs.Outcomes.{WrittenAs}
+use Rattle.controller.specs.Writing.{written_command}
 use Rattle.controller.specs.Reading.{ReadAs, read_reply}
 use Rattle.controller.specs.Greetings.{read_greeting}
 use Rattle.controller.specs.declared.greeting.Greeting.{Greeting}
@@ -81,9 +82,6 @@ lent_by r m = record {
 abbrev pub wrote_by : WrittenAs → List ℕ → Wrote
 wrote_by w m = record { number = w.number; length = length w.bytes; memory = over w.bytes m }
 
-abbrev pub form_by : StoredAs → List ℕ → Wrote
-form_by s m = record { number = s.number; length = length s.bytes; memory = over s.bytes m }
-
 abbrev pub ours : Board
 ours = record {
   Record = Device;
@@ -106,7 +104,7 @@ ours = record {
   -- record::types::Device::set_mark (record/src/host.rt)
   set_mark = λ d lamp mark. given_by d (mark_set d lamp mark);
   -- stored::storing::store
-  store = λ d m. form_by (stored_by d (length m)) m;
+  store = λ d m. wrote_by (stored_by d (length m)) m;
   -- stored::loading::load
   load = λ s. loaded_from s;
   -- digest::md5

@@ -1,26 +1,21 @@
 -- What the product's calls give, as `Board` has it, field by field. The functions of this crate promise with these that
 -- what a call gives is what `ours` says (src/).
 --   lent_as t d m      what the call says, the record that it leaves, the memory that it leaves
---   wrote_as r m       the same of the controller's writer
---   wrote_form r m     the same of storing
+--   wrote_as r m       the same of the controller's writer, and of storing
 --   given_as n d       a number, and the record where it lies
 -- Assumes nothing.
 use Rattle.std.specs.Prelude.{ℕ, List}
 use Rattle.record.specs.declared.types.Device.{Device}
-use Rattle.stored.specs.Told.{StoreTold}
+use Rattle.text.specs.Outcomes.{WrittenTold}
 use Rattle.device.specs.Outcomes.{Told}
-use Rattle.controller.specs.Writing.{WriteTold}
 use Rattle.record.specs.Given.{Given}
 use Rattle.ours.specs.Board.{Lent, Wrote}
 
 abbrev pub lent_as : Told → Device → List ℕ → Lent Device
 lent_as t d m = record { number = t.number; taken = t.taken; length = t.length; memory = m; device = d }
 
-abbrev pub wrote_as : WriteTold → List ℕ → Wrote
+abbrev pub wrote_as : WrittenTold → List ℕ → Wrote
 wrote_as r m = record { number = r.number; length = r.length; memory = m }
-
-abbrev pub wrote_form : StoreTold → List ℕ → Wrote
-wrote_form r m = record { number = r.number; length = r.length; memory = m }
 
 abbrev pub given_as : ℕ → Device → Given Device
 given_as n d = record { number = n; device = d }

@@ -1,7 +1,8 @@
 // `ours`'s set-up, opening with its place, closing, receiving, passing time, fault mark, error digits
 // and lamps' marks. Of a record that is lent: what the call says, what lies there afterwards, and the memory.
 ghost use Rattle.std.specs.Prelude.{◌≡◌};
-ghost use Rattle.record.specs.Refusals.{outcome_number};
+ghost use Rattle.text.specs.Outcomes.{outcome_number};
+ghost use Rattle.record.specs.Refusals.{refusal_number};
 ghost use Rattle.setup.specs.Lent.{wanted_settings};
 ghost use Rattle.record.specs.Given.{set_up_given};
 ghost use Rattle.device.specs.Outcomes.{receiving_told, opening_told, opened_place};
@@ -34,7 +35,7 @@ pub fn open(device: &mut Device, random: u32, out: &mut [u8]) -> Result<Opened, 
 
 /// `calls::close` gives and leaves what `ours.closing` says.
 pub fn close(device: &mut Device, place: usize) -> Result<(), Refusal>
-    ensures { given_as (outcome_number result) device.new ≡ ours.closing device.old place }
+    ensures { given_as (outcome_number refusal_number result) device.new ≡ ours.closing device.old place }
 {
     calls::close(device, place)
 }
@@ -55,7 +56,7 @@ pub fn receive(
 /// `pass::pass` gives and leaves what `ours.pass` says.
 #[tactic(auto, using(record::proofs::GivenTold::told_given))]
 pub fn pass(device: &mut Device, seconds: u32) -> Result<(), Refusal>
-    ensures { given_as (outcome_number result) device.new ≡ ours.pass device.old seconds }
+    ensures { given_as (outcome_number refusal_number result) device.new ≡ ours.pass device.old seconds }
 {
     pass::pass(device, seconds)
 }
@@ -63,7 +64,7 @@ pub fn pass(device: &mut Device, seconds: u32) -> Result<(), Refusal>
 /// `Device::set_fault` gives and leaves what `ours.set_fault` says.
 #[tactic(auto, using(record::proofs::GivenTold::told_given))]
 pub fn set_fault(device: &mut Device, mark: bool) -> Result<(), Refusal>
-    ensures { given_as (outcome_number result) device.new ≡ ours.set_fault device.old mark }
+    ensures { given_as (outcome_number refusal_number result) device.new ≡ ours.set_fault device.old mark }
 {
     device.set_fault(mark)
 }
@@ -71,7 +72,7 @@ pub fn set_fault(device: &mut Device, mark: bool) -> Result<(), Refusal>
 /// `Device::set_errors` gives and leaves what `ours.set_errors` says.
 #[tactic(auto, using(record::proofs::GivenTold::told_given))]
 pub fn set_errors(device: &mut Device, digits: &[u8]) -> Result<(), Refusal>
-    ensures { given_as (outcome_number result) device.new ≡ ours.set_errors device.old digits.now }
+    ensures { given_as (outcome_number refusal_number result) device.new ≡ ours.set_errors device.old digits.now }
 {
     device.set_errors(digits)
 }
@@ -79,7 +80,7 @@ pub fn set_errors(device: &mut Device, digits: &[u8]) -> Result<(), Refusal>
 /// `Device::set_mark` gives and leaves what `ours.set_mark` says.
 #[tactic(auto, using(record::proofs::GivenTold::told_given))]
 pub fn set_mark(device: &mut Device, lamp: usize, mark: bool) -> Result<(), Refusal>
-    ensures { given_as (outcome_number result) device.new ≡ ours.set_mark device.old lamp mark }
+    ensures { given_as (outcome_number refusal_number result) device.new ≡ ours.set_mark device.old lamp mark }
 {
     device.set_mark(lamp, mark)
 }

@@ -4,7 +4,8 @@ ghost use Rattle.std.specs.Prelude.{◌≡◌, length};
 ghost use Rattle.text.specs.Words.{over};
 ghost use Rattle.panel.specs.Entries.{entry_of, no_talk, nothing_shown};
 ghost use Rattle.panel.specs.PanelCalls.{no_panel, added_to, command_at, stepped_at, lost_at};
-ghost use Rattle.panel.specs.Refusals.{panel_outcome_number, length_sent};
+ghost use Rattle.text.specs.Outcomes.{outcome_number, length_written};
+ghost use Rattle.panel.specs.Refusals.{panel_refusal_number};
 
 use crate::refusal::Refusal;
 use crate::talk::Awaits;
@@ -54,7 +55,7 @@ impl Panel {
     /// not 0 to 32 letters and digits and for a ninth projector.
     #[tactic(auto, unfolding(crate::specs::PanelCalls::added_to), using(words::proofs::TextsTold::password_long))]
     pub fn add(&mut self, password: &[u8]) -> Result<(), Refusal>
-        ensures number { panel_outcome_number result ≡ (added_to self.old password.now).number }
+        ensures number { outcome_number panel_refusal_number result ≡ (added_to self.old password.now).number }
         ensures panel { self.new ≡ (added_to self.old password.now).panel }
     {
         if !self.is_legal() {
@@ -73,9 +74,9 @@ impl Panel {
     /// before the greeting or over another command, in that order.
     #[tactic(auto, using(crate::proofs::PanelsTold::projectors_there), unfolding(crate::specs::PanelCalls::command_at))]
     pub fn send(&mut self, projector: usize, coded: Coded, out: &mut [u8]) -> Result<usize, Refusal>
-        ensures number { panel_outcome_number result
+        ensures number { outcome_number panel_refusal_number result
             ≡ (command_at self.old projector coded (length out.old)).number }
-        ensures length { length_sent result
+        ensures length { length_written result
             ≡ length (command_at self.old projector coded (length out.old)).line }
         ensures panel { self.new ≡ (command_at self.old projector coded (length out.old)).panel }
         ensures line { out.new ≡ over (command_at self.old projector coded (length out.old)).line
@@ -103,7 +104,7 @@ impl Panel {
     /// projector.
     #[tactic(auto, using(crate::proofs::PanelsTold::few_projectors), unfolding(crate::specs::PanelCalls::stepped_at))]
     pub fn hear(&mut self, projector: usize, line: &[u8]) -> Result<(), Refusal>
-        ensures number { panel_outcome_number result ≡ (stepped_at self.old projector line.now).number }
+        ensures number { outcome_number panel_refusal_number result ≡ (stepped_at self.old projector line.now).number }
         ensures panel { self.new ≡ (stepped_at self.old projector line.now).panel }
     {
         if !self.is_legal() {
@@ -119,7 +120,7 @@ impl Panel {
     /// The connection to a projector is gone. Refused: `NotLegal`, then `OutOfRange` for no such projector.
     #[tactic(auto, using(crate::proofs::PanelsTold::few_projectors), unfolding(crate::specs::PanelCalls::lost_at))]
     pub fn lose(&mut self, projector: usize) -> Result<(), Refusal>
-        ensures number { panel_outcome_number result ≡ (lost_at self.old projector).number }
+        ensures number { outcome_number panel_refusal_number result ≡ (lost_at self.old projector).number }
         ensures panel { self.new ≡ (lost_at self.old projector).panel }
     {
         if !self.is_legal() {

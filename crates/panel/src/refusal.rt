@@ -1,6 +1,8 @@
 // Why a call on a panel is refused (RULES, The numbers a call gives).
-ghost use Rattle.std.specs.Prelude.{◌≡◌};
-ghost use Rattle.panel.specs.Refusals.{panel_refusal_number, panel_outcome_number};
+ghost use Rattle.std.proofs.Common.{arith};
+ghost use Rattle.panel.specs.Refusals.{panel_refusal_number};
+
+use text::numbered::Numbered;
 
 /// Why a call on a panel is refused. The panel, and the memory lent for a line, are then as they were.
 #[derive(Clone, Copy)]
@@ -15,26 +17,17 @@ pub enum Refusal {
     NotReady,
 }
 
-impl Refusal {
-    /// The number that a host is given.
-    pub fn number(self) -> u32
-        ensures { result ≡ panel_refusal_number self }
-    {
+impl Numbered for Refusal {
+    ghost number = { panel_refusal_number };
+
+    ghost refuses = { λ why. Prim.grind arith };
+
+    fn number(self) -> u32 {
         match self {
             Refusal::NotLegal => 1,
             Refusal::NoRoom => 2,
             Refusal::OutOfRange => 3,
             Refusal::NotReady => 9,
         }
-    }
-}
-
-/// The number of a call that gives nothing else: 0 where it was served.
-pub fn number_of(outcome: Result<(), Refusal>) -> u32
-    ensures { result ≡ panel_outcome_number outcome }
-{
-    match outcome {
-        Ok(()) => 0,
-        Err(refusal) => refusal.number(),
     }
 }

@@ -10,7 +10,8 @@ use Rattle.record.specs.Wanted.{Wanted}
 use Rattle.record.specs.Rules.{is_long_enough, is_error_list}
 use Rattle.record.specs.Limits.{off}
 use Rattle.record.specs.Record.{blank}
-use Rattle.record.specs.Refusals.{outcome_number}
+use Rattle.text.specs.Outcomes.{outcome_number}
+use Rattle.record.specs.Refusals.{refusal_number}
 use Rattle.record.specs.Given.{left_by, given_by, set_up_given}
 use Rattle.record.specs.Legal.{is_legal}
 use Rattle.record.specs.SetUp.{is_in_range, first_out_of_range, set_up}
@@ -82,5 +83,5 @@ module _ (d : Device) where
   mark_number k m = grind arith
 
   -- a refused call leaves the record that it was given
-  pub refusal_leaves : (r : Result Device Refusal) → (outcome_number r ≡ 0 → ⊥) → left_by d r ≡ d
+  pub refusal_leaves : (r : Result Device Refusal) → (outcome_number refusal_number r ≡ 0 → ⊥) → left_by d r ≡ d
   refusal_leaves r h = grind arith

@@ -8,9 +8,10 @@
 --   set_up_given r     the same of set-up: a refused one leaves the blank record
 -- Assumes nothing.
 use Rattle.std.specs.Prelude.{ℕ, Result, Ok, Err}
+use Rattle.text.specs.Outcomes.{outcome_number}
 use Rattle.record.specs.Record.{blank}
-use Rattle.record.specs.Refusals.{outcome_number}
-use Rattle.record.specs.SetUpErrors.{set_up_number}
+use Rattle.record.specs.Refusals.{refusal_number}
+use Rattle.record.specs.SetUpErrors.{set_up_error_number}
 use Rattle.record.specs.declared.refusal.Refusal.{Refusal}
 use Rattle.record.specs.declared.set_up_error.SetUpError.{SetUpError}
 use Rattle.record.specs.declared.types.Device.{Device}
@@ -34,7 +35,7 @@ left_by d (Ok e) = e
 left_by d (Err e) = d
 
 abbrev pub given_by : Device → Result Device Refusal → Given Device
-given_by d r = record { number = outcome_number r; device = left_by d r }
+given_by d r = record { number = outcome_number refusal_number r; device = left_by d r }
 
 abbrev pub set_up_given : Result Device SetUpError → Given Device
-set_up_given r = record { number = set_up_number r; device = left_by blank r }
+set_up_given r = record { number = outcome_number set_up_error_number r; device = left_by blank r }

@@ -1,8 +1,7 @@
 -- Why a call is refused, and the number that it then gives (RULES, The numbers a call gives).
 --   refusal_number r     the number of a refusal
---   outcome_number result     that of a call: 0 where it was served
 -- Assumes nothing.
-use Rattle.std.specs.Prelude.{ℕ, Result, Ok, Err}
+use Rattle.std.specs.Prelude.{ℕ}
 use Rattle.record.specs.declared.refusal.Refusal.{Refusal}
 use Rattle.record.specs.declared.refusal.Refusal.TheVariants.{NotLegal, NoRoom, OutOfRange, Closed, NoPlace, NotOff}
 
@@ -13,7 +12,3 @@ refusal_number OutOfRange = 3
 refusal_number Closed = 4
 refusal_number NoPlace = 6
 refusal_number NotOff = 7
-
-abbrev pub outcome_number : {A : Type 0} → Result A Refusal → ℕ
-outcome_number (Ok a) = 0
-outcome_number (Err r) = refusal_number r

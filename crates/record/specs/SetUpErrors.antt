@@ -1,6 +1,5 @@
 -- Why set-up refuses (RULES, The numbers a call gives and Passwords).
 --   set_up_error_number e    3 where a setting is out of its range, 8 where the password is too short
---   set_up_number r          the number that a host is given: 0 where nothing is refused
 --   setting_of e             the setting for which it refuses
 --   setting_told r           the same of what set-up gives, or none
 --   check_of r               what set-up gives, but for the device
@@ -14,10 +13,6 @@ use Rattle.record.specs.declared.set_up_error.SetUpError.TheVariants.{OutOfRange
 abbrev pub set_up_error_number : SetUpError → ℕ
 set_up_error_number (OutOfRange s) = 3
 set_up_error_number ShortPassword = 8
-
-abbrev pub set_up_number : {A : Type 0} → Result A SetUpError → ℕ
-set_up_number (Ok x) = 0
-set_up_number (Err e) = set_up_error_number e
 
 abbrev pub setting_of : SetUpError → Setting
 setting_of (OutOfRange s) = s

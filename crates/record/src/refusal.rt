@@ -1,6 +1,8 @@
 // Why a call is refused (RULES, The numbers a call gives).
-ghost use Rattle.std.specs.Prelude.{◌≡◌};
-ghost use Rattle.record.specs.Refusals.{refusal_number, outcome_number};
+ghost use Rattle.std.proofs.Common.{arith};
+ghost use Rattle.record.specs.Refusals.{refusal_number};
+
+use text::numbered::Numbered;
 
 /// Why a call on a device record is refused. The record, and the reply memory, are then as they were.
 #[derive(Clone, Copy)]
@@ -19,11 +21,12 @@ pub enum Refusal {
     NotOff,
 }
 
-impl Refusal {
-    /// The number that a host is given.
-    pub fn number(self) -> u32
-        ensures { result ≡ refusal_number self }
-    {
+impl Numbered for Refusal {
+    ghost number = { refusal_number };
+
+    ghost refuses = { λ why. Prim.grind arith };
+
+    fn number(self) -> u32 {
         match self {
             Refusal::NotLegal => 1,
             Refusal::NoRoom => 2,
@@ -32,15 +35,5 @@ impl Refusal {
             Refusal::NoPlace => 6,
             Refusal::NotOff => 7,
         }
-    }
-}
-
-/// The number of a call that gives nothing else: 0 where it was served.
-pub fn number_of(outcome: Result<(), Refusal>) -> u32
-    ensures { result ≡ outcome_number outcome }
-{
-    match outcome {
-        Ok(()) => 0,
-        Err(refusal) => refusal.number(),
     }
 }

@@ -1,8 +1,10 @@
 // Why a set-up is refused (RULES, The numbers a call gives and Passwords).
+ghost use Rattle.std.proofs.Common.{arith};
 ghost use Rattle.std.specs.Prelude.{◌≡◌};
 ghost use Rattle.record.specs.SetUpErrors.{set_up_error_number, setting_of};
 
 use crate::types::Setting;
+use text::numbered::Numbered;
 
 /// Why a set-up is refused: the first that holds.
 #[derive(Clone, Copy)]
@@ -13,17 +15,20 @@ pub enum SetUpError {
     ShortPassword,
 }
 
-impl SetUpError {
-    /// The number that a host is given.
-    pub fn number(self) -> u32
-        ensures { result ≡ set_up_error_number self }
-    {
+impl Numbered for SetUpError {
+    ghost number = { set_up_error_number };
+
+    ghost refuses = { λ why. Prim.grind arith };
+
+    fn number(self) -> u32 {
         match self {
             SetUpError::OutOfRange(_) => 3,
             SetUpError::ShortPassword => 8,
         }
     }
+}
 
+impl SetUpError {
     /// The setting that is to be changed.
     pub fn setting(self) -> Setting
         ensures { result ≡ setting_of self }

@@ -18,7 +18,8 @@ use Rattle.record.specs.declared.types.Device.{Device}
 use Rattle.record.proofs.LegalTold.{own_of_legal}
 use Rattle.record.proofs.HostKept.{is_legal-with_own}
 use Rattle.record.proofs.Started.{started_parts, started_legal}
-use Rattle.stored.specs.Form.{form_version, stored_form, StoredAs, nothing_stored, storing_rows, stored_by}
+use Rattle.text.specs.Outcomes.{WrittenAs, nothing_written}
+use Rattle.stored.specs.Form.{form_version, stored_form, storing_rows, stored_by}
 use Rattle.stored.specs.Reading.{FormSaid, form}
 use Rattle.stored.specs.Told.{loading_told}
 use Rattle.stored.specs.declared.error.LoadError.{LoadError}
@@ -85,12 +86,12 @@ module _ (d : Device) (room : ℕ) where
   unfolding stored_by
   storing_number = grind arith
 
-  pub record StoredTold (r : StoredAs) : Type 0 where
+  pub record StoredTold (r : WrittenAs) : Type 0 where
     pub legal : is_legal d ≡ true
     pub fits : length (stored_form d) ≤ room
     pub form : r.bytes ≡ stored_form d
 
-  pub storing_by : (P : StoredAs → Type 0) → ((n : ℕ) → (n ≡ 0 → ⊥) → P (nothing_stored n))
+  pub storing_by : (P : WrittenAs → Type 0) → ((n : ℕ) → (n ≡ 0 → ⊥) → P (nothing_written n))
       → (is_legal d ≡ true → length (stored_form d) ≤ room
       → P (record { number = 0; bytes = stored_form d }))
       → P (stored_by d room)

@@ -5,8 +5,7 @@
 -- the class after C in one byte, and in Class 2 a serial number, a version and a name for each input, each after its
 -- count (RULES, Class 2).
 --   form_version               the version byte of the newest form. Still loaded: marked_version, which has marks and
---                              no
---                              class; old_version, which has neither
+--                              no class; old_version, which has neither
 --   section count items        a section: its count, then what is section_of
 --   text_section s             of a text, whose items are its bytes
 --   seconds_bytes xs           the seconds of each lamp, four bytes a lamp
@@ -25,8 +24,6 @@
 --   stored_of d                what is stored of a record: its settings, and each lamp's seconds as they are now
 --   marks_stored d             and each lamp's mark
 --   stored_form d              the form of both
---   StoredAs                   what storing gives: its number, and the bytes from the start of the lent memory
---   nothing_stored n           a refusal: the number n, and no bytes
 --   storing_rows d room        when it is refused, and with which number: memory is short by this form's own length
 --   stored_by d room           refused with no byte, or the form
 -- Assumes nothing.
@@ -34,6 +31,7 @@ use Rattle.std.specs.Prelude.{ℕ, ◌*◌, ◌/◌, Bool, true, false, not, Lis
 use Rattle.std.specs.Prelude.{if◌then◌else◌, nat_lt, ◌==◌}
 use Rattle.text.specs.InTurn.{each_in_turn}
 use Rattle.text.specs.Rows.{Row, ◌when◌, by_rows}
+use Rattle.text.specs.Outcomes.{WrittenAs, nothing_written}
 use Rattle.numbers.specs.HighestFirst.{highest_first}
 use Rattle.record.specs.Limits.{only_in_2}
 use Rattle.record.specs.Wanted.{Wanted}
@@ -133,15 +131,8 @@ marks_stored d = take d.settings.lamp_count d.own.enabled
 abbrev pub stored_form : Device → List ℕ
 stored_form d = form_of (stored_of d) (marks_stored d)
 
-pub record StoredAs : Type 0 where
-  pub number : ℕ
-  pub bytes : List ℕ
-
-abbrev pub nothing_stored : ℕ → StoredAs
-nothing_stored n = record { number = n; bytes = [] }
-
 abbrev pub storing_rows : Device → ℕ → List Row
 storing_rows d room = (1 when not (is_legal d)) ∷ (2 when nat_lt room (length (stored_form d))) ∷ []
 
-unfoldable pub stored_by : Device → ℕ → StoredAs
-stored_by d room = by_rows (storing_rows d room) nothing_stored (record { number = 0; bytes = stored_form d })
+unfoldable pub stored_by : Device → ℕ → WrittenAs
+stored_by d room = by_rows (storing_rows d room) nothing_written (record { number = 0; bytes = stored_form d })

@@ -1,6 +1,8 @@
 // Why a stored form does not load (RULES, Stored form).
-ghost use Rattle.std.specs.Prelude.{◌≡◌};
+ghost use Rattle.std.proofs.Common.{arith};
 ghost use Rattle.stored.specs.Told.{load_error_number};
+
+use text::numbered::Numbered;
 
 /// Why a stored form does not load: the first that holds. Nothing of it is then kept.
 #[derive(Clone, Copy)]
@@ -15,11 +17,12 @@ pub enum LoadError {
     NotLegal,
 }
 
-impl LoadError {
-    /// The number that a host is given.
-    pub fn number(self) -> u32
-        ensures { result ≡ load_error_number self }
-    {
+impl Numbered for LoadError {
+    ghost number = { load_error_number };
+
+    ghost refuses = { λ why. Prim.grind arith };
+
+    fn number(self) -> u32 {
         match self {
             LoadError::OtherVersion => 20,
             LoadError::CutShort => 21,

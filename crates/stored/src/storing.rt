@@ -2,11 +2,12 @@
 // enabled mark. The parts stand in the order of the form.
 ghost use Rattle.std.specs.Prelude.{◌≡◌, ◌∷◌, map, ◌+◌, ◌^◌, ◌<◌, ◌≤◌, length, take};
 ghost use Rattle.text.specs.Words.{over};
+ghost use Rattle.text.specs.Outcomes.{told_written, written_told};
 ghost use Rattle.record.specs.Limits.{only_in_2};
+ghost use Rattle.record.specs.Refusals.{refusal_number};
 ghost use Rattle.record.specs.Legal.{is_legal};
 ghost use Rattle.record.specs.Facts.{IsSettings, IsLegal};
 ghost use Rattle.stored.specs.Form.{text_stored, name_stored, class_part_text, stored_form, stored_by};
-ghost use Rattle.stored.specs.Told.{told_stored, storing_told};
 ghost use Rattle.stored.specs.Puts.{Puts};
 
 use crate::writer::Writer;
@@ -88,7 +89,7 @@ fn put_form(d: &Device, out: &mut [u8]) -> usize
 /// for memory shorter than the form; then nothing is written.
 #[tactic(auto, using(crate::proofs::FormMost::stored_fits), unfolding(crate::specs::Form::stored_by))]
 pub fn store(d: &Device, out: &mut [u8]) -> Result<usize, Refusal>
-    ensures told { storing_told result ≡ told_stored (stored_by d.now (length out.old)) }
+    ensures told { written_told refusal_number result ≡ told_written (stored_by d.now (length out.old)) }
     ensures written { out.new ≡ over (stored_by d.now (length out.old)).bytes out.old }
 {
     if !d.is_legal() {

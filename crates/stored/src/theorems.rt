@@ -10,13 +10,14 @@ ghost use Rattle.record.specs.Wanted.{Wanted};
 ghost use Rattle.record.specs.SetUp.{is_set_up};
 ghost use Rattle.record.specs.Given.{Given, acceptance_of};
 ghost use Rattle.text.specs.Words.{over};
+ghost use Rattle.text.specs.Outcomes.{WrittenTold, told_written};
 ghost use Rattle.stored.specs.Form.{form_of, marked_form_of, old_form_of, stored_form, form_most, stored_by};
 ghost use Rattle.stored.specs.Form.{old_version, version_form, stored_of, marks_stored};
 ghost use Rattle.stored.specs.Loading.{loaded_from};
 ghost use Rattle.record.specs.declared.types.Device.{Device};
 ghost use Rattle.record.specs.Legal.{is_legal};
 ghost use Rattle.stored.specs.declared.error.LoadError.{LoadError};
-ghost use Rattle.stored.specs.Told.{StoreTold, told_stored, loading_told};
+ghost use Rattle.stored.specs.Told.{loading_told};
 
 /// A form of any version that is cut anywhere is 21, and one with more after it 22.
 pub fn a_form_is_whole()
@@ -63,10 +64,10 @@ pub fn a_form_is_short()
 /// Two results that meet the promise of a call are equal, lent memory included.
 #[tactic(auto, using(crate::proofs::Results::one_outcome))]
 pub fn one_result()
-    ensures storing { (d : Device) (out : List ℕ) (r s : StoreTold) (m n : List ℕ)
+    ensures storing { (d : Device) (out : List ℕ) (r s : WrittenTold) (m n : List ℕ)
         → let w = stored_by d (length out) in
-        (r ≡ told_stored w) × (m ≡ over w.bytes out)
-        → (s ≡ told_stored w) × (n ≡ over w.bytes out) → (r ≡ s) × (m ≡ n) }
+        (r ≡ told_written w) × (m ≡ over w.bytes out)
+        → (s ≡ told_written w) × (n ≡ over w.bytes out) → (r ≡ s) × (m ≡ n) }
     ensures number_and_record { (bs : List ℕ) (r s : Given Device) → r ≡ loaded_from bs → s ≡ loaded_from bs → r ≡ s }
     ensures outcome { (bs : List ℕ) (r s : Result Device LoadError)
         → loading_told r ≡ loaded_from bs → loading_told s ≡ loaded_from bs → r ≡ s }

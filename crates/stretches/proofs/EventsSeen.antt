@@ -7,7 +7,8 @@ use Rattle.std.proofs.Common.{ℕ, ◌≡◌, refl, sym, ap, subst, ◌∙◌, B
 use Rattle.std.proofs.Common.{replicate, ◌==◌, ne_eqb}
 use Rattle.std.proofs.lemmas.List.{length-replicate}
 use Rattle.std.specs.Prelude.{Result as Outcome, if◌then◌else◌}
-use Rattle.record.specs.Refusals.{outcome_number}
+use Rattle.text.specs.Outcomes.{outcome_number}
+use Rattle.record.specs.Refusals.{refusal_number}
 use Rattle.record.specs.declared.refusal.Refusal.{Refusal}
 use Rattle.text.proofs.Choices.{if_yes, if_no, if_all}
 use Rattle.record.specs.Limits.{off}
@@ -98,8 +99,8 @@ module _ (w : Wanted) (g : Stage) (ms : List Bool) (n : ℕ → ℕ) (stream : S
         (if_all (Seen g 0) _ (one_or_none (Seen g 0) _ _ (nothing refl) (λ wanted. power wanted refl)) (nothing refl))
     event_seen (logged (passes k)) =
         one_call (logged (passes k)) (passesBy k) refl (sym (done_passing d k))
-        (subst (Seen g k) (sym
-        (if_yes _ _ (ap (λ (r : Outcome Device Refusal). outcome_number r == 0) (passed_accepted d k legal)))) time)
+        (subst (Seen g k) (sym (if_yes _ _
+        (ap (λ (r : Outcome Device Refusal). outcome_number refusal_number r == 0) (passed_accepted d k legal)))) time)
     event_seen (logged closes) =
         one_call (logged closes) (closes_at log_place) refl (sym (done_closing d)) (nothing refl)
     event_seen (logged no_such) = no_call (logged no_such) refl (done_nothing d) refl

@@ -1,6 +1,7 @@
 // Text in memory: put into lent bytes, and compared; and arrays of which so many places are used.
 #![tactic(auto)]
 
+pub mod numbered;
 pub mod rooms;
 
 ghost use Rattle.std.specs.Prelude.{◌≡◌, ◌+◌, ◌≤◌, length};

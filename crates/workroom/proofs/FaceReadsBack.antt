@@ -15,7 +15,8 @@ use Rattle.stream.specs.Collecting.{empty_line}
 use Rattle.meaning.specs.Meaning.{answer_for}
 use Rattle.device.specs.Receiving.{set_up_password}
 use Rattle.device.specs.Calls.{Result, reply_room, received_at, opened_by, place_taken}
-use Rattle.controller.specs.Writing.{WrittenAs, command_room}
+use Rattle.text.specs.Outcomes.{WrittenAs}
+use Rattle.controller.specs.Writing.{command_room}
 use Rattle.controller.specs.Greetings.{read_greeting}
 use Rattle.demands.specs.Greeted.{greeted_on}
 use Rattle.demands.proofs.WrittenAndRead.{TakenAndRead, written_reads_back, written_reads_back_secured}
