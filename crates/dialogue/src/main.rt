@@ -2,6 +2,9 @@
 // W = 20, C = 60, one lamp at 0 s, input 11, texts empty and no password.
 #![tactic(auto)]
 
+#[cfg(test)]
+mod first;
+
 use clock::pass;
 use device::calls;
 use record::types::{Device, PLACES};

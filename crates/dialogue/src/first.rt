@@ -1,0 +1,25 @@
+// README's first lines in Rattle, as they stand there; `.ci/host` compares them.
+use device::calls;
+use setup::wanted::{Class, Wanted};
+
+/// A projector is set up, a controller connects and sends a line: the reply's length, from the start of `memory` on;
+/// none where a call is refused.
+#[rattlefmt::skip]
+fn answer(line: &[u8], memory: &mut [u8]) -> Option<usize> {
+    let table = Wanted {
+        name: b"Table 3", maker: b"maker", model: b"model", other: b"", password: b"",
+        inputs: b"1132", lamps: &[7200], warm: 20, cool: 60, class: Class::One,
+    };
+    let mut device = setup::set_up(&table).ok()?;
+    let opened = calls::open(&mut device, 0, memory).ok()?;
+    let received = calls::receive(&mut device, opened.place, line, memory).ok()?;
+    Some(received.length)
+}
+
+#[test]
+fn the_first_lines(rt: HostRuntime) {
+    let mut memory = [0u8; 136];
+    let told = answer(b"%1LAMP ?\r", &mut memory);
+    assert_eq!(rt; told, Some(11));
+    assert!(rt; memory[0..11] == *b"%1LAMP=2 0\r");
+}
