@@ -13,9 +13,8 @@ use Rattle.words.specs.Codec.{whole_value}
 use Rattle.words.specs.Powers.{switch_read}
 use Rattle.words.specs.Inputs.{is_input_text, input_named, read_input, input_of}
 use Rattle.words.specs.declared.input.Input.{Input}
-use Rattle.pjlink.specs.Bodies.{row_of, has_query}
+use Rattle.pjlink.specs.Bodies.{row_of, body_named, has_query}
 use Rattle.words.specs.ClassOne.{read_input_1}
-use Rattle.pjlink.specs.declared.body.Row.{Row}
 use Rattle.pjlink.specs.declared.body.Body.{Body}
 use Rattle.pjlink.specs.declared.body.Body.TheVariants.{Powr, Inpt, Avmt, Erst, Lamp, Inst, Name, Inf1, Inf2}
 use Rattle.pjlink.specs.declared.body.Body.TheVariants.{Info, Clss}
@@ -68,10 +67,13 @@ input_asked_kept p = rw (input_by_two p) (by (length p == 2))
     by true = asked_as_lem (inputs_kept (p at 0) (p at 1))
     by false = as_before refl
 
+named_as_before : (s : List ℕ) → body_named 1 s ≡ body_named_1 s
+unfolding body_named_1
+named_as_before s = grind arith
+
 module _ (p : List ℕ) where
-  abbrev KeptOf : Option Row → Type 0
-  KeptOf m = KeptAs (body_request (option_map (λ (r : Row). r.body) m) p)
-      (body_request_1 (option_map (λ (r : Row). r.body) m) p)
+  abbrev KeptOf : Option Body → Type 0
+  KeptOf m = KeptAs (body_request m p) (body_request_1 m p)
 
   questioned : (b : Body) → has_query b ≡ true → KeptAs (or_unlisted b (set_of (row_of b).set p)) (set_asked_1 b p)
       → KeptAs (asked_of b p) (asked_of_1 b p)
@@ -86,15 +88,18 @@ module _ (p : List ℕ) where
 
   pub asked_kept : (s : List ℕ) → KeptAs (request_of 1 s p) (request_of_1 s p)
   unfolding request_of request_of_1 body_named_1
-  asked_kept s =
-      if_all KeptOf (is_body_1 s (row_of Powr)) (questioned Powr refl (as_before (power_kept p)))
-      (if_all KeptOf (is_body_1 s (row_of Inpt)) (questioned Inpt refl (input_asked_kept p))
-      (if_all KeptOf (is_body_1 s (row_of Avmt)) (questioned Avmt refl (as_before (or_unlisted-mute_of p)))
-      (if_all KeptOf (is_body_1 s (row_of Erst)) (questioned Erst refl (as_before refl))
-      (if_all KeptOf (is_body_1 s (row_of Lamp)) (questioned Lamp refl (as_before refl))
-      (if_all KeptOf (is_body_1 s (row_of Inst)) (questioned Inst refl (as_before refl))
-      (if_all KeptOf (is_body_1 s (row_of Name)) (questioned Name refl (as_before refl))
-      (if_all KeptOf (is_body_1 s (row_of Inf1)) (questioned Inf1 refl (as_before refl))
-      (if_all KeptOf (is_body_1 s (row_of Inf2)) (questioned Inf2 refl (as_before refl))
-      (if_all KeptOf (is_body_1 s (row_of Info)) (questioned Info refl (as_before refl))
-      (if_all KeptOf (is_body_1 s (row_of Clss)) (questioned Clss refl (as_before refl)) (as_before refl)))))))))))
+  asked_kept s = rw (named_as_before s) by_body
+    where
+      by_body : KeptOf (body_named_1 s)
+      by_body =
+          if_all KeptOf (is_body_1 s Powr) (questioned Powr refl (as_before (power_kept p)))
+          (if_all KeptOf (is_body_1 s Inpt) (questioned Inpt refl (input_asked_kept p))
+          (if_all KeptOf (is_body_1 s Avmt) (questioned Avmt refl (as_before (or_unlisted-mute_of p)))
+          (if_all KeptOf (is_body_1 s Erst) (questioned Erst refl (as_before refl))
+          (if_all KeptOf (is_body_1 s Lamp) (questioned Lamp refl (as_before refl))
+          (if_all KeptOf (is_body_1 s Inst) (questioned Inst refl (as_before refl))
+          (if_all KeptOf (is_body_1 s Name) (questioned Name refl (as_before refl))
+          (if_all KeptOf (is_body_1 s Inf1) (questioned Inf1 refl (as_before refl))
+          (if_all KeptOf (is_body_1 s Inf2) (questioned Inf2 refl (as_before refl))
+          (if_all KeptOf (is_body_1 s Info) (questioned Info refl (as_before refl))
+          (if_all KeptOf (is_body_1 s Clss) (questioned Clss refl (as_before refl)) (as_before refl)))))))))))

@@ -1,9 +1,9 @@
--- The bodies of both classes by the table of src/body.rt (`BODIES`), which stands there and nowhere else: under which
--- class a body is asked for, what it is called, how it is set and when it is refused all come from its row (RULES,
--- Commands and Class 2). INPT and INST are a body of each class, under one name.
---   bodies             every body, those of Class 1 in the order of RULES, then those of Class 2
+-- The bodies of both classes, a row for each: under which class a body is asked for, what it is called, how it is set
+-- and when it is refused all come from its row (RULES, Commands and Class 2; PJLink 1.04, 4.1 to 4.14). INPT and INST
+-- are a body of each class, under one name.
 --   row_of b           its class; its letters; what it sets; whether `?` asks it; whether it is defined only where
 --                      there are lamps (rule 1); whether it is available, set or query, only when on (rule 4)
+--   bodies, rows       every body, those of Class 1 in the order of RULES, then those of Class 2; their rows
 --   class_of b         the class of the line that asks for it
 --   is_named k s r      the bytes s name the body of the row r in a line of Class k, in any case of letters
 --   is_body k s b      they name the body b
@@ -12,51 +12,54 @@
 --   has_parameters b   it knows a parameter besides `?`: one that it does not know is out of parameter (rules 1 and 2)
 --   has_query b        `?` asks it
 -- Assumes nothing.
-use Rattle.std.specs.Prelude.{ℕ, Bool, true, false, ◌&&◌, List, [], map, find, Option, ◌==◌, slice_index_or}
+use Rattle.std.specs.Prelude.{ℕ, Bool, true, false, ◌&&◌, List, [], ◌∷◌, map, find, Option, ◌==◌, codes}
 use Rattle.std.specs.Option.{option_map}
 use Rattle.text.specs.Scans.{same_by}
 use Rattle.words.specs.Bytes.{upper_of}
 use Rattle.words.specs.Classes.{class_as_number}
-use Rattle.words.specs.declared.class.ClassNumber.TheVariants.{One}
-use Rattle.pjlink.specs.declared.body.TheConstants.{BODIES}
+use Rattle.words.specs.declared.class.ClassNumber.{ClassNumber}
+use Rattle.words.specs.declared.class.ClassNumber.TheVariants.{One, Two}
 use Rattle.pjlink.specs.declared.body.Row.{Row}
 use Rattle.pjlink.specs.declared.body.Body.{Body}
 use Rattle.pjlink.specs.declared.body.Body.TheVariants.{Powr, Inpt, Avmt, Erst, Lamp, Inst, Name, Inf1, Inf2, Info}
 use Rattle.pjlink.specs.declared.body.Body.TheVariants.{Clss, Frez, Svol, Mvol, Snum, Sver, Innm, Inpt2, Inst2}
 use Rattle.pjlink.specs.declared.body.Sets.{Sets}
-use Rattle.pjlink.specs.declared.body.Sets.TheVariants.{NamesInput, QueryOnly}
+use Rattle.pjlink.specs.declared.body.Sets.TheVariants.{SetsPower, SetsInput, SetsMute, SetsInput2, SetsFreeze}
+use Rattle.pjlink.specs.declared.body.Sets.TheVariants.{StepsSpeaker, StepsMicrophone, NamesInput, QueryOnly}
+
+abbrev row : Body → ClassNumber → List ℕ → Sets → Bool → Bool → Bool → Row
+row b k s set asks lamps on =
+    record { body = b; class = k; letters = s; set = set; asks = asks; lamps = lamps; on = on }
+
+-- class, letters, what is set, a query, lamps only, on only
+abbrev pub row_of : Body → Row
+row_of Powr = row Powr One (codes "POWR") SetsPower true false false
+row_of Inpt = row Inpt One (codes "INPT") SetsInput true false true
+row_of Avmt = row Avmt One (codes "AVMT") SetsMute true false true
+row_of Erst = row Erst One (codes "ERST") QueryOnly true false false
+row_of Lamp = row Lamp One (codes "LAMP") QueryOnly true true false
+row_of Inst = row Inst One (codes "INST") QueryOnly true false false
+row_of Name = row Name One (codes "NAME") QueryOnly true false false
+row_of Inf1 = row Inf1 One (codes "INF1") QueryOnly true false false
+row_of Inf2 = row Inf2 One (codes "INF2") QueryOnly true false false
+row_of Info = row Info One (codes "INFO") QueryOnly true false false
+row_of Clss = row Clss One (codes "CLSS") QueryOnly true false false
+row_of Frez = row Frez Two (codes "FREZ") SetsFreeze true false true
+row_of Svol = row Svol Two (codes "SVOL") StepsSpeaker false false true
+row_of Mvol = row Mvol Two (codes "MVOL") StepsMicrophone false false true
+row_of Snum = row Snum Two (codes "SNUM") QueryOnly true false false
+row_of Sver = row Sver Two (codes "SVER") QueryOnly true false false
+row_of Innm = row Innm Two (codes "INNM") NamesInput false false false
+row_of Inpt2 = row Inpt2 Two (codes "INPT") SetsInput2 true false true
+row_of Inst2 = row Inst2 Two (codes "INST") QueryOnly true false false
 
 abbrev pub bodies : List Body
-bodies = map (λ (r : Row). r.body) BODIES
+bodies =
+    Powr ∷ Inpt ∷ Avmt ∷ Erst ∷ Lamp ∷ Inst ∷ Name ∷ Inf1 ∷ Inf2 ∷ Info ∷ Clss
+    ∷ Frez ∷ Svol ∷ Mvol ∷ Snum ∷ Sver ∷ Innm ∷ Inpt2 ∷ Inst2 ∷ []
 
--- its place in the table
-abbrev pub row_place : Body → ℕ
-row_place Powr = 0
-row_place Inpt = 1
-row_place Avmt = 2
-row_place Erst = 3
-row_place Lamp = 4
-row_place Inst = 5
-row_place Name = 6
-row_place Inf1 = 7
-row_place Inf2 = 8
-row_place Info = 9
-row_place Clss = 10
-row_place Frez = 11
-row_place Svol = 12
-row_place Mvol = 13
-row_place Snum = 14
-row_place Sver = 15
-row_place Innm = 16
-row_place Inpt2 = 17
-row_place Inst2 = 18
-
--- no body lies past the table
-abbrev no_row : Body → Row
-no_row b = record { body = b; class = One; letters = []; set = QueryOnly; asks = false; lamps = false; on = false }
-
-abbrev pub row_of : Body → Row
-row_of b = slice_index_or BODIES (row_place b) (no_row b)
+abbrev pub rows : List Row
+rows = map row_of bodies
 
 abbrev pub class_of : Body → ℕ
 class_of b = class_as_number (row_of b).class
@@ -68,7 +71,7 @@ abbrev pub is_body : ℕ → List ℕ → Body → Bool
 is_body k s b = is_named k s (row_of b)
 
 abbrev pub body_named : ℕ → List ℕ → Option Body
-body_named k s = option_map (λ (r : Row). r.body) (find (is_named k s) BODIES)
+body_named k s = option_map (λ (r : Row). r.body) (find (is_named k s) rows)
 
 abbrev pub is_setting : Sets → Bool
 is_setting NamesInput = false

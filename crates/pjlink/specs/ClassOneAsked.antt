@@ -1,23 +1,21 @@
 -- What a line asks for, as it stood before Class 2 came (RULES, Class 2): word for word the definitions of Class 1,
 -- under names with a 1. Nothing is built on them; proofs/ClassOneAsked.antt has that a set-up of Class 1 goes by them
 -- still.
---   rows_1                the rows of the table that are of Class 1
+--   bodies_1              the bodies of Class 1
 --   request_of_1 s p      what the body s with the parameter p asks for
 -- Assumes nothing.
-use Rattle.std.specs.Prelude.{Bool, ◌&&◌, List, ℕ, length, filter, find, if◌then◌else◌}
+use Rattle.std.specs.Prelude.{Bool, ◌&&◌, List, [], ◌∷◌, ℕ, length, find, if◌then◌else◌}
 use Rattle.std.specs.Prelude.{Option, Some, None, Ok, Err, ◌==◌}
-use Rattle.std.specs.Option.{option_map}
 use Rattle.text.specs.Words.{◌is◌, ◌from◌to◌}
 use Rattle.text.specs.Scans.{same_by}
 use Rattle.words.specs.Bytes.{◌at◌, upper_of}
-use Rattle.words.specs.Classes.{class_as_number}
 use Rattle.words.specs.declared.input.Input.{Input}
 use Rattle.pjlink.specs.Bodies.{row_of}
 use Rattle.words.specs.ClassOne.{read_input_1}
-use Rattle.pjlink.specs.declared.body.TheConstants.{BODIES}
-use Rattle.pjlink.specs.declared.body.Row.{Row}
+use Rattle.pjlink.specs.Commands.{body_text}
 use Rattle.pjlink.specs.declared.body.Body.{Body}
-use Rattle.pjlink.specs.declared.body.Body.TheVariants.{Powr, Inpt, Avmt}
+use Rattle.pjlink.specs.declared.body.Body.TheVariants.{Powr, Inpt, Avmt, Erst, Lamp, Inst, Name, Inf1, Inf2, Info}
+use Rattle.pjlink.specs.declared.body.Body.TheVariants.{Clss}
 use Rattle.pjlink.specs.declared.command.Half.{Half}
 use Rattle.pjlink.specs.declared.command.Half.TheVariants.{VideoHalf, AudioHalf, BothHalves}
 use Rattle.pjlink.specs.declared.command.Command.TheVariants.{PowerSet, InputSet, MuteSet, Query}
@@ -26,14 +24,14 @@ use Rattle.pjlink.specs.declared.body.Sets.TheVariants.{SetsPower, SetsInput, Se
 use Rattle.pjlink.specs.Requests.{Request, is_question}
 use Rattle.pjlink.specs.declared.request.Unasked.TheVariants.{Unlisted, UnknownBody}
 
-abbrev pub rows_1 : List Row
-rows_1 = filter (λ (r : Row). class_as_number r.class == 1) BODIES
+abbrev pub bodies_1 : List Body
+bodies_1 = Powr ∷ Inpt ∷ Avmt ∷ Erst ∷ Lamp ∷ Inst ∷ Name ∷ Inf1 ∷ Inf2 ∷ Info ∷ Clss ∷ []
 
-abbrev pub is_body_1 : List ℕ → Row → Bool
-is_body_1 s r = same_by upper_of s r.letters
+abbrev pub is_body_1 : List ℕ → Body → Bool
+is_body_1 s b = same_by upper_of s (body_text b)
 
 unfoldable pub body_named_1 : List ℕ → Option Body
-body_named_1 s = option_map (λ (r : Row). r.body) (find (is_body_1 s) rows_1)
+body_named_1 s = find (is_body_1 s) bodies_1
 
 -- POWR: 0 or 1
 unfoldable pub power_asked_1 : List ℕ → Request
