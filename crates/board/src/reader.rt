@@ -1,20 +1,21 @@
 //! The controller's readers.
 ghost use Rattle.std.specs.Prelude.{◌≡◌};
-ghost use Rattle.controller.specs.Greetings.{read_greeting};
+ghost use Rattle.pjlink.specs.Greetings.{read_greeting};
 ghost use Rattle.codes.specs.Commands.{coded_command};
 ghost use Rattle.codes.specs.Readings.{flat_greeting};
 ghost use Rattle.codes.specs.ByCode.{read_by};
 
 use codes::command::Coded;
 use codes::readings::{FlatGreeting, FlatReading};
-use controller::{greeting, reading};
+use controller::reading;
+use pjlink::greeting::Greeting;
 
 /// What a projector greets with.
 #[unsafe(no_mangle)]
 pub extern "C" fn pj_read_greeting(line: &[u8]) -> FlatGreeting
     ensures { result ≡ flat_greeting (read_greeting line.now) }
 {
-    FlatGreeting::of(greeting::read_greeting(line))
+    FlatGreeting::of(Greeting::read(line))
 }
 
 /// What a reply to the command says; what is no command is 3 at once.

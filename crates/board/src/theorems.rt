@@ -10,7 +10,7 @@ ghost use Rattle.controller.specs.Writing.{command_room};
 ghost use Rattle.controller.specs.Reading.{reading_outcome_number, read_reply};
 ghost use Rattle.codes.specs.ByCode.{written_by, read_by};
 ghost use Rattle.codes.specs.Readings.{flat_greeting, no_reading};
-ghost use Rattle.controller.specs.Greetings.{read_greeting};
+ghost use Rattle.pjlink.specs.Greetings.{read_greeting};
 ghost use Rattle.day.specs.declared.check.CheckError.{CheckError};
 ghost use Rattle.day.specs.declared.plan.PlanError.{PlanError};
 ghost use Rattle.board.specs.Lists.{Lists};

@@ -14,10 +14,10 @@ use Rattle.pjlink.specs.Said.{text_is, class_is, freeze_is, nothing, parameter_m
 use Rattle.words.specs.declared.power.Power.{Power}
 use Rattle.words.specs.declared.power.Power.TheVariants.{Off, On, Cooling, WarmUp}
 use Rattle.words.specs.declared.lamp.LampHours.{LampHours}
-use Rattle.controller.specs.Greetings.{greeting_number}
+use Rattle.pjlink.specs.Greetings.{greeting_number}
 use Rattle.controller.specs.Reading.{ReadAs, Outcome, means_it, erra_said, disallowed, reading_outcome_number}
-use Rattle.controller.specs.declared.greeting.Greeting.{Greeting}
-use Rattle.controller.specs.declared.greeting.Greeting.TheVariants.{Open, Secured, Refused}
+use Rattle.pjlink.specs.declared.greeting.Greeting.{Greeting}
+use Rattle.pjlink.specs.declared.greeting.Greeting.TheVariants.{Open, Secured, Refused}
 use Rattle.codes.specs.Commands.{bit, source_number}
 use Rattle.codes.specs.declared.lists.FlatLamps.{FlatLamps}
 use Rattle.codes.specs.declared.readings.FlatGreeting.{FlatGreeting}

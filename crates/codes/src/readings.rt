@@ -8,9 +8,9 @@ ghost use Rattle.codes.specs.Commands.{bit, source_number};
 ghost use Rattle.codes.specs.Readings.{flat_greeting, no_reading, plain_reading, power_at_face, said_flat};
 ghost use Rattle.codes.specs.Readings.{flat_reading};
 
-use controller::greeting::Greeting;
 use controller::reading::{Misread, Reading};
 use pjlink::answer::{Answer, INPUTS_MOST, LAMPS_MOST};
+use pjlink::greeting::Greeting;
 use text::numbered::Numbered;
 use words::input::Source;
 use words::power::Power;

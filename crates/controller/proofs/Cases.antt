@@ -1,24 +1,19 @@
 -- The writer and the readers, case by case: the equation of each case.
 -- Assumes nothing.
-use Rattle.std.proofs.Common.{arith, ℕ, ◌≤◌, ◌<◌, ◌≡◌, ap, ◌∙◌, Bool, true, false, not, List, ◌++◌, length, le-ltb}
-use Rattle.std.specs.Prelude.{Option, None, Some}
+use Rattle.std.proofs.Common.{arith, ℕ, ◌≤◌, ◌<◌, ◌≡◌, ap, ◌∙◌, Bool, true, false, not, List, ◌++◌, le-ltb}
 use Rattle.std.proofs.lemmas.Bool.{not-true, not-false}
 use Rattle.text.specs.Scans.{same_by, itself}
 use Rattle.text.proofs.Choices.{if_yes, if_no, if_by}
-use Rattle.text.proofs.Scanning.{long_differs}
-use Rattle.digest.specs.Hex.{leading_digest, hex_digits}
+use Rattle.digest.specs.Hex.{leading_digest}
 use Rattle.words.specs.Texts.{is_password}
 use Rattle.pjlink.specs.Commands.{is_command, body_of, command_class, command_line}
-use Rattle.pjlink.specs.Forms.{erra_line, greeting_open, greeting_secured, is_reply_form, head_body, reply_parameter}
+use Rattle.pjlink.specs.Forms.{erra_line, is_reply_form, head_body, reply_parameter}
 use Rattle.pjlink.specs.declared.command.Command.{Command}
 use Rattle.pjlink.specs.Bodies.{is_body}
 use Rattle.pjlink.specs.Reading.{read_parameter}
 use Rattle.text.specs.Outcomes.{WrittenAs, nothing_written}
 use Rattle.controller.specs.Writing.{command_room, is_writable, led_by, written_command}
 use Rattle.controller.specs.Reading.{ReadAs, outcome_alone, saying, read_reply, erra_said, not_a_line, other_command}
-use Rattle.controller.specs.Greetings.{greets, random_in, read_greeting}
-use Rattle.controller.specs.declared.greeting.Greeting.{Greeting}
-use Rattle.controller.specs.declared.greeting.Greeting.TheVariants.{Open, Secured, Refused}
 
 -- writing: 2, 3, or the line
 module _ (c : Command) (secured : Bool) (random : ℕ) (password : List ℕ) (room : ℕ) where
@@ -90,35 +85,3 @@ module _ (c : Command) (l : List ℕ) where
           → read_reply c l ≡ saying (read_parameter c (reply_parameter l))
       unfolding read_reply
       reply_said b = if_no _ _ line ∙ if_no _ _ (ap not formed) ∙ if_no _ _ (ap not b)
-
--- reading a greeting: the open one, the ERRA line, the secured one, or none
-module _ (l : List ℕ) where
-  pub greeting_by : (P : Option Greeting → Type 0)
-      → (same_by itself l greeting_open ≡ true → P (Some Open))
-      → (same_by itself l erra_line ≡ true → P (Some Refused))
-      → (greets l (random_in l) ≡ true → P (Some (Secured (random_in l))))
-      → P None
-      → P (read_greeting l)
-  unfolding read_greeting
-  greeting_by P opens erra secured none = grind arith
-
-  pub greeting_open_lem : same_by itself l greeting_open ≡ true → read_greeting l ≡ Some Open
-  unfolding read_greeting
-  greeting_open_lem e = if_yes _ _ e
-
-  module _ (closed : same_by itself l greeting_open ≡ false) where
-    pub greeting_refused : same_by itself l erra_line ≡ true → read_greeting l ≡ Some Refused
-    unfolding read_greeting
-    greeting_refused e = if_no _ _ closed ∙ if_yes _ _ e
-
-    module _ (line : same_by itself l erra_line ≡ false) where
-      pub greeting_secured_lem : greets l (random_in l) ≡ true → read_greeting l ≡ Some (Secured (random_in l))
-      unfolding read_greeting
-      greeting_secured_lem e = if_no _ _ closed ∙ if_no _ _ line ∙ if_yes _ _ e
-
-      pub greeting_none : greets l (random_in l) ≡ false → read_greeting l ≡ None
-      unfolding read_greeting
-      greeting_none e = if_no _ _ closed ∙ if_no _ _ line ∙ if_no _ _ e
-
-      pub greeting_not_18 : (length l ≡ 18 → ⊥) → read_greeting l ≡ None
-      greeting_not_18 n = greeting_none (long_differs itself l (greeting_secured (hex_digits 8 (random_in l))) n)

@@ -1,6 +1,6 @@
 -- Lines written and read, by computing (PJLink 1.04, 4 and 5.1; RULES, Controller).
 -- Assumes nothing.
-use Rattle.std.proofs.Common.{◌≡◌, refl, true, false, [], codes, None, Some}
+use Rattle.std.proofs.Common.{◌≡◌, refl, true, false, [], codes}
 use Rattle.pjlink.specs.Computing.{computing as pjlink}
 use Rattle.pjlink.specs.declared.body.Body.TheVariants.{Powr, Name}
 use Rattle.pjlink.specs.declared.command.Command.TheVariants.{PowerSet, Query}
@@ -10,9 +10,7 @@ use Rattle.digest.specs.Computing.{computing as digest}
 use Rattle.text.specs.Outcomes.{nothing_written}
 use Rattle.controller.specs.Writing.{written_command}
 use Rattle.controller.specs.Reading.{meaning, outcome_alone, read_reply, not_a_line, other_command, disallowed}
-use Rattle.controller.specs.Greetings.{read_greeting}
 use Rattle.controller.specs.Computing.{computing}
-use Rattle.controller.specs.declared.greeting.Greeting.TheVariants.{Secured}
 
 power_on_written : written_command (PowerSet true) false 0 [] 168 ≡ record { number = 0; bytes = codes "%1POWR 1\r" }
 unfolding computing pjlink digest
@@ -41,12 +39,3 @@ another_body = refl
 without_cr : read_reply (Query Powr) (codes "%1POWR=3") ≡ outcome_alone not_a_line
 unfolding computing pjlink digest
 without_cr = refl
-
--- the specification's random number
-random_heard : read_greeting (codes "PJLINK 1 498e4a67\r") ≡ Some (Secured 1234061927)
-unfolding computing pjlink digest
-random_heard = refl
-
-upper_case_digits : read_greeting (codes "PJLINK 1 498E4A67\r") ≡ None
-unfolding computing pjlink digest
-upper_case_digits = refl

@@ -1,7 +1,6 @@
 pub mod Cases
 pub mod ReadsBack
 pub mod NamesRead
-pub mod GreetingsHeard
 pub mod Refusals
 pub mod ReadsSound
 pub mod ReadShort

@@ -2,8 +2,7 @@
 -- Assumes nothing.
 use Rattle.controller.specs.Writing.{written_command}
 use Rattle.controller.specs.Reading.{read_reply}
-use Rattle.controller.specs.Greetings.{random_in, read_greeting}
 
 unfoldable pub computing : Unit {0}
-unfolding written_command read_reply random_in read_greeting
+unfolding written_command read_reply
 computing = tt

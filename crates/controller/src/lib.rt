@@ -1,7 +1,6 @@
 // The other side of the wire: what a controller writes, and what it reads of a projector's lines (RULES, Controller).
 #![tactic(auto)]
 
-pub mod greeting;
 pub mod reading;
 pub mod theorems;
 pub mod writing;

@@ -5,7 +5,7 @@ ghost use Rattle.controller.specs.Reading.{outcome_of, reading_outcome_number, r
 
 use pjlink::answer::Reply;
 use pjlink::command::Command;
-use pjlink::{form, reply};
+use pjlink::{form, greeting, reply};
 use text::numbered::Numbered;
 
 /// What a line says.
@@ -47,7 +47,7 @@ impl Numbered for Misread {
 pub fn read_reply(c: Command, line: &[u8]) -> Result<Reading<'_>, Misread>
     ensures { read_as result ≡ read_reply c line.now }
 {
-    if text::same(line, b"PJLINK ERRA\r") {
+    if text::same(line, &greeting::ERRA) {
         return Ok(Reading::Erra);
     }
     let Some(line) = form::reply(c.class(), line) else {

@@ -1,6 +1,6 @@
 // What is proved beside the contracts of the functions. Nothing is done here: that these functions have their contracts
 // is that the theorems stand.
-ghost use Rattle.std.specs.Prelude.{◌≡◌, Bool, ℕ, List, Option, Result, length};
+ghost use Rattle.std.specs.Prelude.{◌≡◌, Bool, ℕ, List, Result, length};
 ghost use Rattle.pjlink.specs.declared.command.Command.{Command};
 ghost use Rattle.controller.specs.Writing.{written_command};
 ghost use Rattle.text.specs.Words.{over};
@@ -8,8 +8,6 @@ ghost use Rattle.text.specs.Outcomes.{WrittenTold, told_written};
 ghost use Rattle.controller.specs.declared.reading.Reading.{Reading};
 ghost use Rattle.controller.specs.declared.reading.Misread.{Misread};
 ghost use Rattle.controller.specs.Reading.{read_as, read_reply};
-ghost use Rattle.controller.specs.declared.greeting.Greeting.{Greeting};
-ghost use Rattle.controller.specs.Greetings.{read_greeting};
 
 /// Two results that meet the promise of a call are equal, lent memory included; two replies that are read say the same.
 #[tactic(auto, using(text::proofs::OneResult::one_result))]
@@ -21,5 +19,4 @@ pub fn one_result()
         → (s ≡ told_written w) × (n ≡ over w.bytes out) → (r ≡ s) × (m ≡ n) }
     ensures reply_read { (c : Command) (l : List ℕ) (r s : Result Reading Misread)
         → read_as r ≡ read_reply c l → read_as s ≡ read_reply c l → read_as r ≡ read_as s }
-    ensures greeting_read { (l : List ℕ) (r s : Option Greeting) → r ≡ read_greeting l → s ≡ read_greeting l → r ≡ s }
 {}

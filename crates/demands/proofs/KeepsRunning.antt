@@ -21,8 +21,8 @@ use Rattle.device.proofs.Cases.{received_by, opened_by_lem}
 use Rattle.device.proofs.Counts.{received_within}
 use Rattle.device.proofs.Short.{longest_greeting, receiving_short, opening_short}
 use Rattle.controller.specs.Writing.{led_by, written_command}
-use Rattle.controller.proofs.Cases.{written_by, greeting_open_lem, greeting_refused, greeting_secured_lem}
-use Rattle.controller.proofs.Cases.{greeting_none}
+use Rattle.controller.proofs.Cases.{written_by}
+use Rattle.pjlink.proofs.GreetingCases.{greeting_open_lem, greeting_refused, greeting_secured_lem, greeting_none}
 use Rattle.ours.specs.Board.{lent_by, ours}
 use Rattle.demands.specs.Calls.{Call, number_of, after}
 use Rattle.demands.specs.KeepsRunning.{Inside, WroteInside, StaysInside, rows_of, set_up_rows, writer_rows, reader_rows}
@@ -39,7 +39,7 @@ use Rattle.record.proofs.Results.{refusal_leaves, set_up_refusal}
 use Rattle.clock.proofs.Results.{time_passed-number, passed_refusal}
 use Rattle.device.proofs.Numbers.{received_at-number, opened_number, closed_number}
 use Rattle.controller.specs.Reading.{reading_outcome_number, means_it, erra_said, not_a_line, other_command, disallowed}
-use Rattle.controller.specs.Greetings.{greets, random_in, read_greeting, greeting_number}
+use Rattle.pjlink.specs.Greetings.{greets, random_in, read_greeting, greeting_number}
 use Rattle.controller.proofs.Refusals.{written_number, refusal_writes_nothing, number_means_nothing}
 use Rattle.controller.proofs.ReadsSound.{outcome_is_first}
 use Rattle.device.proofs.Refusals.{Refused, receiving_refused, opening_refused, closing_refused, opening_refused_place}

@@ -21,7 +21,7 @@ use Rattle.device.proofs.Cases.{opened_placed_by}
 use Rattle.demands.specs.CallsDone.{OpenedAs, Leaves}
 use Rattle.demands.proofs.KeepsRunning.{over_front}
 use Rattle.device.proofs.Short.{receiving_short}
-use Rattle.controller.proofs.GreetingsHeard.{heard_exactly}
+use Rattle.pjlink.proofs.GreetingsHeard.{heard_exactly}
 use Rattle.controller.proofs.ReadsSound.{means_what_was_written, what_was_written_is_meant, erra_exactly}
 use Rattle.demands.specs.Calls.{closes, marks, reports, enables}
 use Rattle.demands.specs.SpeaksPjlink.{SpeaksPjlink}

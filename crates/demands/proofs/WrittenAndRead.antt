@@ -38,9 +38,9 @@ use Rattle.controller.proofs.ReadsBack.{reply_read}
 use Rattle.record.specs.declared.types.Settings.{Settings}
 use Rattle.record.proofs.ConnectionsTold.{placed_here}
 use Rattle.device.proofs.Cases.{opened_greeted, opened_lowest, greeted_by_lem}
-use Rattle.controller.specs.Greetings.{read_greeting}
+use Rattle.pjlink.specs.Greetings.{read_greeting}
 use Rattle.demands.specs.Greeted.{greeted_on}
-use Rattle.controller.proofs.GreetingsHeard.{open_heard, secured_heard}
+use Rattle.pjlink.proofs.GreetingsHeard.{open_heard, secured_heard}
 use Rattle.text.proofs.Orders.{le_or_lt}
 use Rattle.record.proofs.LowestShut.{below_lowest}
 use Rattle.ours.specs.Board.{bytes_written, reply, wrote_by, ours}

@@ -4,8 +4,8 @@
 use Rattle.std.specs.Prelude.{if◌then◌else◌, ◌==◌, Option, Some}
 use Rattle.record.specs.Limits.{awaiting}
 use Rattle.record.specs.declared.types.Connection.{Connection}
-use Rattle.controller.specs.declared.greeting.Greeting.{Greeting}
-use Rattle.controller.specs.declared.greeting.Greeting.TheVariants.{Open, Secured}
+use Rattle.pjlink.specs.declared.greeting.Greeting.{Greeting}
+use Rattle.pjlink.specs.declared.greeting.Greeting.TheVariants.{Open, Secured}
 
 abbrev pub greeted_on : Connection → Option Greeting
 greeted_on c = Some (if c.phase == awaiting then Secured c.random else Open)

@@ -39,7 +39,7 @@ use Rattle.stored.specs.Loading.{load_rows}
 use Rattle.device.specs.Calls.{receiving_rows, opening_rows, closing_rows}
 use Rattle.controller.specs.Writing.{command_room, is_writable}
 use Rattle.controller.specs.Reading.{reading_outcome_number}
-use Rattle.controller.specs.Greetings.{greets, random_in, greeting_number}
+use Rattle.pjlink.specs.Greetings.{greets, random_in, greeting_number}
 use Rattle.ours.specs.Board.{Board, Lent, Wrote}
 use Rattle.demands.specs.Calls.{Call, opens, closes, receives, passes, marks, reports, enables, after, number_of}
 

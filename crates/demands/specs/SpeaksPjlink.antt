@@ -50,7 +50,7 @@ use Rattle.device.specs.Receiving.{phase_start, set_up_password, is_led_by}
 use Rattle.device.specs.Calls.{longest_reply, reply_room, has_password}
 use Rattle.controller.specs.Writing.{command_room, led_by}
 use Rattle.controller.specs.Reading.{meaning, LineSays, means_it, erra_said}
-use Rattle.controller.specs.Greetings.{Exactly}
+use Rattle.pjlink.specs.Greetings.{Exactly}
 use Rattle.demands.specs.Greeted.{greeted_on}
 use Rattle.ours.specs.Board.{Board, Lent, Wrote, reply, bytes_written}
 use Rattle.demands.specs.Calls.{Call, opens, closes, receives, passes, after}

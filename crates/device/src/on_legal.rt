@@ -11,10 +11,10 @@ ghost use Rattle.device.specs.Outcomes.{result_told, receiving_told, opening_tol
 use crate::calls::{Opened, Received};
 use crate::receiving::Taken;
 use crate::{places, receiving};
+use pjlink::greeting::Greeting;
 use record::refusal::Refusal;
 use record::types::{Connection, Device, PLACES, Settings};
 use record::views::Phase;
-use words::codec;
 use words::codec::Line;
 
 /// Room for the longest reply that the standard allows.
@@ -71,14 +71,13 @@ fn lend(line: &Line, out: &mut [u8]) -> usize
 fn greeting(s: &Settings, random: u32) -> Line
     ensures { result.items ≡ greeting s.now random }
 {
+    let greeting = if s.password.len == 0 {
+        Greeting::Open
+    } else {
+        Greeting::Secured(random)
+    };
     let mut line = Line::new();
-    if s.password.len == 0 {
-        codec::put_all(b"PJLINK 0\r", &mut line);
-        return line;
-    }
-    codec::put_all(b"PJLINK 1 ", &mut line);
-    codec::put_all(&digest::hex8(random), &mut line);
-    line.push(b'\r');
+    greeting.put(&mut line);
     line
 }
 

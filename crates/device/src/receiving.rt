@@ -8,6 +8,7 @@ ghost use Rattle.record.specs.Views.{with_phase};
 ghost use Rattle.stream.specs.Collecting.{empty_line};
 
 use crate::answering;
+use pjlink::greeting::Greeting;
 use record::types::{Connection, Line, Own, Settings};
 use record::views::Phase;
 use text::rooms;
@@ -75,7 +76,7 @@ fn end_line(s: &Settings, o: &mut Own, c: &mut Connection, l: &Line) -> codec::L
                 reply = answering::answer_line(s, o, line);
             } else {
                 fail(c);
-                codec::put_all(b"PJLINK ERRA\r", &mut reply);
+                Greeting::Refused.put(&mut reply);
             }
         }
         Phase::Closed | Phase::Failed { .. } => (),

@@ -23,8 +23,8 @@ use Rattle.device.specs.Calls.{Result, opened_by, place_taken, closed_by, receiv
 use Rattle.text.specs.Outcomes.{WrittenAs}
 use Rattle.controller.specs.Writing.{written_command}
 use Rattle.controller.specs.Reading.{ReadAs, read_reply}
-use Rattle.controller.specs.Greetings.{read_greeting}
-use Rattle.controller.specs.declared.greeting.Greeting.{Greeting}
+use Rattle.pjlink.specs.Greetings.{read_greeting}
+use Rattle.pjlink.specs.declared.greeting.Greeting.{Greeting}
 
 pub record Lent (R : Type 0) : Type 0 where
   pub number : ℕ
@@ -113,6 +113,6 @@ ours = record {
   write = λ c secured random password m. wrote_by (written_command c secured random password (length m)) m;
   -- controller::reading::read_reply
   read_reply = read_reply;
-  -- controller::greeting::read_greeting
+  -- pjlink::greeting::Greeting::read
   read_greeting = read_greeting;
 }

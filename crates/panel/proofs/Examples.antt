@@ -8,7 +8,8 @@ use Rattle.pjlink.specs.Commands.{command_class}
 use Rattle.pjlink.specs.Forms.{erra_line, greeting_open, greeting_secured, is_reply_form}
 use Rattle.pjlink.specs.declared.command.Command.{Command}
 use Rattle.controller.specs.Reading.{ReadAs, reading_outcome_number}
-use Rattle.controller.proofs.Cases.{reply_unformed, greeting_refused}
+use Rattle.controller.proofs.Cases.{reply_unformed}
+use Rattle.pjlink.proofs.GreetingCases.{greeting_refused}
 use Rattle.panel.specs.Entries.{ungreeted}
 use Rattle.panel.specs.Stepping.{with_stray, heard_line}
 use Rattle.panel.specs.StepTable.{IsUnderWay, malformed}

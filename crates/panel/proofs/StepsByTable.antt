@@ -7,11 +7,11 @@ use Rattle.std.specs.Prelude.{Option, Some, None, is_some}
 use Rattle.text.proofs.Choices.{if_yes, if_no, if_by}
 use Rattle.pjlink.specs.declared.command.Command.{Command}
 use Rattle.pjlink.specs.Said.{Said}
-use Rattle.controller.specs.Greetings.{read_greeting}
+use Rattle.pjlink.specs.Greetings.{read_greeting}
 use Rattle.controller.specs.Reading.{ReadAs, read_reply, reading_outcome_number, Outcome, means_it, erra_said}
 use Rattle.controller.specs.Reading.{not_a_line, other_command, disallowed}
-use Rattle.controller.specs.declared.greeting.Greeting.{Greeting}
-use Rattle.controller.specs.declared.greeting.Greeting.TheVariants.{Open, Secured}
+use Rattle.pjlink.specs.declared.greeting.Greeting.{Greeting}
+use Rattle.pjlink.specs.declared.greeting.Greeting.TheVariants.{Open, Secured}
 use Rattle.controller.proofs.Refusals.{erra_read}
 use Rattle.controller.proofs.ReadsSound.{erra_exactly}
 use Rattle.codes.specs.Commands.{coded_command}

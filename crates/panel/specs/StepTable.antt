@@ -8,10 +8,10 @@ use Rattle.std.specs.Prelude.{ℕ, ◌≡◌, Bool, true, false, List, Option, S
 use Rattle.pjlink.specs.Forms.{erra_line}
 use Rattle.pjlink.specs.declared.command.Command.{Command}
 use Rattle.pjlink.specs.Said.{Said}
-use Rattle.controller.specs.Greetings.{read_greeting}
+use Rattle.pjlink.specs.Greetings.{read_greeting}
 use Rattle.controller.specs.Reading.{meaning, read_reply, reading_outcome_number}
-use Rattle.controller.specs.declared.greeting.Greeting.{Greeting}
-use Rattle.controller.specs.declared.greeting.Greeting.TheVariants.{Open, Secured}
+use Rattle.pjlink.specs.declared.greeting.Greeting.{Greeting}
+use Rattle.pjlink.specs.declared.greeting.Greeting.TheVariants.{Open, Secured}
 use Rattle.codes.specs.Commands.{coded_command}
 use Rattle.panel.specs.Entries.{ungreeted, greeted_open, greeted_secured, greeted_by}
 use Rattle.panel.specs.Stepping.{with_stray, with_talk, answered_entry, erra_entry}

@@ -16,11 +16,11 @@
 use Rattle.std.specs.Prelude.{ℕ, ◌+◌, min, Bool, not, ◌||◌, List, [], if◌then◌else◌, Option, Some, None, ◌==◌}
 use Rattle.pjlink.specs.declared.command.Command.{Command}
 use Rattle.pjlink.specs.Said.{Said}
-use Rattle.controller.specs.Greetings.{read_greeting}
+use Rattle.pjlink.specs.Greetings.{read_greeting}
 use Rattle.controller.specs.Reading.{ReadAs, read_reply, Outcome, means_it, erra_said}
 use Rattle.controller.specs.Writing.{written_command}
-use Rattle.controller.specs.declared.greeting.Greeting.{Greeting}
-use Rattle.controller.specs.declared.greeting.Greeting.TheVariants.{Open, Secured}
+use Rattle.pjlink.specs.declared.greeting.Greeting.{Greeting}
+use Rattle.pjlink.specs.declared.greeting.Greeting.TheVariants.{Open, Secured}
 use Rattle.codes.specs.Commands.{coded_command}
 use Rattle.codes.specs.declared.command.Coded.{Coded}
 use Rattle.panel.specs.Entries.{Talk, Shown, talk_of, shown_of, password_in, entry_of, ungreeted, greeted_open}

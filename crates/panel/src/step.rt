@@ -1,6 +1,6 @@
 // The step on a lent line, on the entry of the projector that it came from (RULES, Panel).
 ghost use Rattle.std.specs.Prelude.{◌≡◌, ◌+◌, min};
-ghost use Rattle.controller.specs.Greetings.{read_greeting};
+ghost use Rattle.pjlink.specs.Greetings.{read_greeting};
 ghost use Rattle.controller.specs.Reading.{read_as};
 ghost use Rattle.codes.specs.Commands.{coded_command};
 ghost use Rattle.panel.specs.Entries.{talk_of, rested_on};
@@ -11,9 +11,9 @@ ghost use Rattle.panel.specs.Stepping.{replied_to, heard_line};
 use crate::talk::{Awaits, Greeted};
 use crate::types::{Entry, NO_COMMAND, STRAYS_MOST};
 use codes::command::Coded;
-use controller::greeting::Greeting;
+use controller::reading;
 use controller::reading::{Misread, Reading};
-use controller::{greeting, reading};
+use pjlink::greeting::Greeting;
 
 // One more, stopped at 65,535.
 fn one_more(strays: u32) -> u32
@@ -60,7 +60,7 @@ impl Entry {
     fn greet(&mut self, line: &[u8])
         ensures { self.new ≡ greeted_as self.old (read_greeting line.now) }
     {
-        match greeting::read_greeting(line) {
+        match Greeting::read(line) {
             Some(Greeting::Open) => self.begin(Greeted::Open),
             Some(Greeting::Secured(random)) => self.begin(Greeted::Secured { random }),
             Some(Greeting::Refused) | None => self.stray(),

@@ -1,6 +1,6 @@
 -- Lines, requests and replies of both classes, by computing (RULES, Commands, Controller and Class 2).
 -- Assumes nothing.
-use Rattle.std.proofs.Common.{◌≡◌, refl, true, false, List, [], ◌∷◌, map, ℕ, codes, Ok, Err}
+use Rattle.std.proofs.Common.{◌≡◌, refl, true, false, List, [], ◌∷◌, map, ℕ, codes, Ok, Err, Some, None}
 use Rattle.numbers.specs.Computing.{computing as numbers}
 use Rattle.words.specs.declared.class.ClassNumber.TheVariants.{One, Two}
 use Rattle.words.specs.declared.input.Source.TheVariants.{Digital, Internal}
@@ -15,6 +15,8 @@ use Rattle.pjlink.specs.Forms.{is_command_form}
 use Rattle.pjlink.specs.Requests.{request_of}
 use Rattle.pjlink.specs.Said.{refused, lamps_are, inputs_are, text_is, class_is, freeze_is, nothing}
 use Rattle.pjlink.specs.Reading.{read_parameter}
+use Rattle.pjlink.specs.Greetings.{read_greeting}
+use Rattle.pjlink.specs.declared.greeting.Greeting.TheVariants.{Secured}
 use Rattle.pjlink.specs.Computing.{computing}
 
 abbrev hdmi : Input
@@ -102,3 +104,12 @@ refusals : read_parameter (NameQuery hdmi) (codes "ERR2") ∷ read_parameter (Qu
     ≡ refused 2 ∷ nothing ∷ text_is (codes "HDMI 1") ∷ []
 unfolding computing numbers
 refusals = refl
+
+-- the specification's random number
+random_heard : read_greeting (codes "PJLINK 1 498e4a67\r") ≡ Some (Secured 1234061927)
+unfolding computing
+random_heard = refl
+
+upper_case_digits : read_greeting (codes "PJLINK 1 498E4A67\r") ≡ None
+unfolding computing
+upper_case_digits = refl

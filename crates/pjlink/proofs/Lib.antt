@@ -1,6 +1,8 @@
 pub mod Bodies
 pub mod CommandLines
 pub mod FormsSpelt
+pub mod GreetingCases
+pub mod GreetingsHeard
 pub mod ClassOneKept
 pub mod RepliesReadBack
 pub mod BodiesNamed

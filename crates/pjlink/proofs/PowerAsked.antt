@@ -8,7 +8,7 @@ use Rattle.std.specs.Option.{option_map}
 use Rattle.text.proofs.Choices.{both_right}
 use Rattle.words.specs.Codec.{◌>>=◌, value_at_end}
 use Rattle.words.specs.Powers.{switch_read, switch_text}
-use Rattle.pjlink.specs.Bodies.{row_of, rows, is_named, is_body}
+use Rattle.pjlink.specs.Bodies.{row_of, body_rows, is_named, is_body}
 use Rattle.pjlink.specs.declared.body.Row.{Row}
 use Rattle.pjlink.specs.Requests.{name_query_of, set_of, Request, or_unlisted, asked_of, body_request, request_of}
 use Rattle.pjlink.specs.declared.body.Body.{Body}
@@ -68,7 +68,7 @@ module _ (p : List ℕ) where
 
   pub not_powr : (k : ℕ) (h : List ℕ) → is_body k h Powr ≡ false → No (request_of k h p)
   unfolding request_of
-  not_powr k h e = grind (arith, others_none (drop 1 rows) k h refl)
+  not_powr k h e = grind (arith, others_none (drop 1 body_rows) k h refl)
 
   pub powr_asked : (k : ℕ) (h : List ℕ) → is_body k h Powr ≡ true → request_of k h p ≡ asked_of Powr p
   unfolding request_of

@@ -3,7 +3,7 @@
 -- are a body of each class, under one name.
 --   row_of b           its class; its letters; what it sets; whether `?` asks it; whether it is defined only where
 --                      there are lamps (rule 1); whether it is available, set or query, only when on (rule 4)
---   bodies, rows       every body, those of Class 1 in the order of RULES, then those of Class 2; their rows
+--   bodies, body_rows  every body, those of Class 1 in the order of RULES, then those of Class 2; their rows
 --   class_of b         the class of the line that asks for it
 --   is_named k s r      the bytes s name the body of the row r in a line of Class k, in any case of letters
 --   is_body k s b      they name the body b
@@ -58,8 +58,8 @@ bodies =
     Powr ∷ Inpt ∷ Avmt ∷ Erst ∷ Lamp ∷ Inst ∷ Name ∷ Inf1 ∷ Inf2 ∷ Info ∷ Clss
     ∷ Frez ∷ Svol ∷ Mvol ∷ Snum ∷ Sver ∷ Innm ∷ Inpt2 ∷ Inst2 ∷ []
 
-abbrev pub rows : List Row
-rows = map row_of bodies
+abbrev pub body_rows : List Row
+body_rows = map row_of bodies
 
 abbrev pub class_of : Body → ℕ
 class_of b = class_as_number (row_of b).class
@@ -71,7 +71,7 @@ abbrev pub is_body : ℕ → List ℕ → Body → Bool
 is_body k s b = is_named k s (row_of b)
 
 abbrev pub body_named : ℕ → List ℕ → Option Body
-body_named k s = option_map (λ (r : Row). r.body) (find (is_named k s) rows)
+body_named k s = option_map (λ (r : Row). r.body) (find (is_named k s) body_rows)
 
 abbrev pub is_setting : Sets → Bool
 is_setting NamesInput = false

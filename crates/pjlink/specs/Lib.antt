@@ -2,6 +2,7 @@ pub mod Bodies
 pub mod Commands
 pub mod Laws
 pub mod Forms
+pub mod Greetings
 pub mod ClassOne
 pub mod Requests
 pub mod ClassOneAsked

@@ -6,6 +6,7 @@ pub mod answer;
 pub mod body;
 pub mod command;
 pub mod form;
+pub mod greeting;
 pub mod reply;
 pub mod request;
 pub mod theorems;

@@ -11,6 +11,8 @@ ghost use Rattle.pjlink.specs.Forms.{is_command_form, line_class, head_body, is_
 ghost use Rattle.pjlink.specs.Forms.{IsLetters, reply_line};
 ghost use Rattle.pjlink.specs.declared.command.Command.{Command};
 ghost use Rattle.pjlink.specs.Reading.{read_parameter};
+ghost use Rattle.pjlink.specs.Greetings.{read_greeting};
+ghost use Rattle.pjlink.specs.declared.greeting.Greeting.{Greeting};
 ghost use Rattle.pjlink.specs.Writings.{Says, IsAllowed};
 
 /// Two lines that meet the promise of a call are equal; two replies that are read say the same.
@@ -20,6 +22,7 @@ pub fn one_result()
     ensures parameter_read { (c : Command) (p : List ℕ) (r s : Option (Result Answer Refusal))
         → parameter_said r ≡ read_parameter c p → parameter_said s ≡ read_parameter c p
         → parameter_said r ≡ parameter_said s }
+    ensures greeting_read { (l : List ℕ) (r s : Option Greeting) → r ≡ read_greeting l → s ≡ read_greeting l → r ≡ s }
 {}
 
 /// What is read of a parameter is an answer of which it is a writing, each writing of an answer is read as it, and

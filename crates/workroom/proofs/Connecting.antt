@@ -25,8 +25,8 @@ use Rattle.device.proofs.Cases.{opened_greeted, opened_lowest, greeted_by_lem, c
 use Rattle.device.proofs.Legal.{greeted_legal, closing_legal}
 use Rattle.device.proofs.Untouched.{closing_keeps_settings, closing_keeps_own}
 use Rattle.record.proofs.LowestShut.{below_lowest}
-use Rattle.controller.specs.Greetings.{read_greeting}
-use Rattle.controller.proofs.GreetingsHeard.{open_heard, secured_heard}
+use Rattle.pjlink.specs.Greetings.{read_greeting}
+use Rattle.pjlink.proofs.GreetingsHeard.{open_heard, secured_heard}
 use Rattle.panel.specs.Entries.{Talk, shown_of, password_in, greeted_open, greeted_secured, greeted_by, fresh_entry}
 use Rattle.panel.specs.Passwords.{password_room}
 use Rattle.panel.specs.LegalPanels.{panel_most, is_panel}

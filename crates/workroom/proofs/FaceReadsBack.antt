@@ -17,7 +17,7 @@ use Rattle.device.specs.Receiving.{set_up_password}
 use Rattle.device.specs.Calls.{Result, reply_room, received_at, opened_by, place_taken}
 use Rattle.text.specs.Outcomes.{WrittenAs}
 use Rattle.controller.specs.Writing.{command_room}
-use Rattle.controller.specs.Greetings.{read_greeting}
+use Rattle.pjlink.specs.Greetings.{read_greeting}
 use Rattle.demands.specs.Greeted.{greeted_on}
 use Rattle.demands.proofs.WrittenAndRead.{TakenAndRead, written_reads_back, written_reads_back_secured}
 use Rattle.demands.proofs.WrittenAndRead.{opening_greets_back}

@@ -18,9 +18,9 @@ use Rattle.std.specs.Prelude.{ℕ, ◌+◌, ◌<◌, min, ◌≡◌, true, List,
 use Rattle.pjlink.specs.Forms.{erra_line}
 use Rattle.pjlink.specs.declared.command.Command.{Command}
 use Rattle.pjlink.specs.Said.{Said}
-use Rattle.controller.specs.Greetings.{read_greeting}
+use Rattle.pjlink.specs.Greetings.{read_greeting}
 use Rattle.controller.specs.Reading.{meaning, read_reply}
-use Rattle.controller.specs.declared.greeting.Greeting.TheVariants.{Open, Secured}
+use Rattle.pjlink.specs.declared.greeting.Greeting.TheVariants.{Open, Secured}
 use Rattle.panel.specs.Entries.{Talk, Shown, talk_of, shown_of, ungreeted, greeted_open, greeted_secured, greeted_by}
 use Rattle.panel.specs.Entries.{no_talk, rested_on, nothing_shown}
 use Rattle.panel.specs.Showing.{showing}

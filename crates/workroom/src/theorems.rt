@@ -16,7 +16,7 @@ ghost use Rattle.codes.specs.ByCode.{written_by, read_by};
 ghost use Rattle.codes.specs.Readings.{said_flat, flat_greeting};
 ghost use Rattle.meaning.specs.Meaning.{answer_for};
 ghost use Rattle.device.specs.Receiving.{set_up_password};
-ghost use Rattle.controller.specs.Greetings.{read_greeting};
+ghost use Rattle.pjlink.specs.Greetings.{read_greeting};
 ghost use Rattle.demands.specs.Greeted.{greeted_on};
 ghost use Rattle.workroom.specs.AnyPanel.{ours_panel};
 ghost use Rattle.workroom.specs.PanelDemand.{PanelDemand};

@@ -1,4 +1,6 @@
--- Reading a greeting (RULES, Controller): the two greetings and the ERRA line, each with its CR and nothing more.
+-- The two greetings and the ERRA line, and reading them (RULES, Connection and Controller): each with its CR and nothing
+-- more.
+--   greeting_line g     the line of the greeting g
 --   random_in l         the number in the place of the random number
 --   greets l r          the line l is the greeting with the random number r, in its eight digits
 --   read_greeting l     what the line l is, if it is one of them
@@ -9,21 +11,26 @@ use Rattle.std.specs.Prelude.{ℕ, ◌^◌, ◌<◌, ◌≡◌, Bool, List, take
 use Rattle.text.specs.Scans.{same_by, itself}
 use Rattle.digest.specs.Hex.{hex_digits, hex_value}
 use Rattle.pjlink.specs.Forms.{erra_line, greeting_open, greeting_secured}
-use Rattle.controller.specs.declared.greeting.Greeting.{Greeting}
-use Rattle.controller.specs.declared.greeting.Greeting.TheVariants.{Open, Secured, Refused}
+use Rattle.pjlink.specs.declared.greeting.Greeting.{Greeting}
+use Rattle.pjlink.specs.declared.greeting.Greeting.TheVariants.{Open, Secured, Refused}
 
 -- after `PJLINK 1 `
 unfoldable pub random_in : List ℕ → ℕ
 random_in l = hex_value (take 8 (drop 9 l))
 
+abbrev pub greeting_line : Greeting → List ℕ
+greeting_line Open = greeting_open
+greeting_line (Secured r) = greeting_secured (hex_digits 8 r)
+greeting_line Refused = erra_line
+
 abbrev pub greets : List ℕ → ℕ → Bool
-greets l r = same_by itself l (greeting_secured (hex_digits 8 r))
+greets l r = same_by itself l (greeting_line (Secured r))
 
 -- the digits of the number read are compared with the line's, so that no other digits pass for it
 unfoldable pub read_greeting : List ℕ → Option Greeting
 read_greeting l =
-    if same_by itself l greeting_open then Some Open
-    else if same_by itself l erra_line then Some Refused
+    if same_by itself l (greeting_line Open) then Some Open
+    else if same_by itself l (greeting_line Refused) then Some Refused
     else if greets l (random_in l) then Some (Secured (random_in l))
     else None
 

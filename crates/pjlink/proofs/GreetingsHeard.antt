@@ -9,9 +9,9 @@ use Rattle.text.proofs.Sameness.{same_is, turned_same}
 use Rattle.digest.specs.Hex.{hex_digits}
 use Rattle.digest.proofs.Laws.{hex_value_back, hex_value_below}
 use Rattle.pjlink.specs.Forms.{erra_line, greeting_open, greeting_secured}
-use Rattle.controller.specs.Greetings.{greets, random_in, read_greeting, Exactly, greeting_number}
-use Rattle.controller.specs.declared.greeting.Greeting.TheVariants.{Open, Secured, Refused}
-use Rattle.controller.proofs.Cases.{greeting_by, greeting_secured_lem}
+use Rattle.pjlink.specs.Greetings.{greets, random_in, read_greeting, Exactly, greeting_number}
+use Rattle.pjlink.specs.declared.greeting.Greeting.TheVariants.{Open, Secured, Refused}
+use Rattle.pjlink.proofs.GreetingCases.{greeting_by, greeting_secured_lem}
 
 -- each line is read for what it is
 pub open_heard : read_greeting greeting_open ≡ Some Open
