@@ -21,7 +21,9 @@ impl Device {
 /// test nothing. It need not be legal, since a log can begin with any.
 #[derive(Drop)]
 pub struct Tested {
+    /// The record, legal or not.
     pub device: Device,
+    /// Whether it is legal (RULES, The legal record).
     pub legal: bool,
     ghost tested: { legal ≡ is_legal device },
 }

@@ -13,18 +13,26 @@ use words::class::ClassNumber;
 /// The power, with the seconds that are left of it.
 #[derive(Clone, Copy)]
 pub enum Power {
+    /// 0: no lamp burns.
     Off,
+    /// 3: enabled lamps burn. It is on after so many seconds, 1 to W in a legal record.
     WarmUp { left: u32 },
+    /// 1: enabled lamps burn.
     On,
+    /// 2: no lamp burns. It is off after so many seconds, 1 to C in a legal record.
     Cooling { left: u32 },
 }
 
 /// The phase of a connection, with its age and its random number.
 #[derive(Clone, Copy)]
 pub enum Phase {
+    /// 0: there is no connection, and the place is free.
     Closed,
+    /// 1: greeted; the first line, led by the digest, has not come. Its age in seconds is 0 to 29 in a legal record.
     Awaiting { age: u32, random: u32 },
+    /// 2: commands are served.
     Open { random: u32 },
+    /// 3: the digest did not match, and what comes is ignored. Its age, since then, is 0 to 29 in a legal record.
     Failed { age: u32, random: u32 },
 }
 
