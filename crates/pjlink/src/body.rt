@@ -14,38 +14,66 @@ use words::class::ClassNumber::{One, Two};
 /// The four letters that name what a command is about, each under its own class: INPT and INST are a body of either.
 #[derive(Clone, Copy)]
 pub enum Body {
+    /// POWR: the power (PJLink 1.04, 4.1, 4.2).
     Powr,
+    /// INPT under `%1`: the chosen input (PJLink 1.04, 4.3, 4.4).
     Inpt,
+    /// AVMT: the mutes of video and audio (PJLink 1.04, 4.5, 4.6).
     Avmt,
+    /// ERST: the six error digits (PJLink 1.04, 4.7).
     Erst,
+    /// LAMP: each lamp's hours, and whether it is lit (PJLink 1.04, 4.8).
     Lamp,
+    /// INST under `%1`: the inputs (PJLink 1.04, 4.9).
     Inst,
+    /// NAME: the projector's name (PJLink 1.04, 4.10).
     Name,
+    /// INF1: the maker (PJLink 1.04, 4.11).
     Inf1,
+    /// INF2: the model (PJLink 1.04, 4.12).
     Inf2,
+    /// INFO: other information (PJLink 1.04, 4.13).
     Info,
+    /// CLSS: the class (PJLink 1.04, 4.14).
     Clss,
+    /// FREZ: whether the picture stands still (RULES, Class 2).
     Frez,
+    /// SVOL: a step of the speaker's level, which it does not tell (RULES, Class 2).
     Svol,
+    /// MVOL: a step of the microphone's level, which it does not tell (RULES, Class 2).
     Mvol,
+    /// SNUM: the serial number (RULES, Class 2).
     Snum,
+    /// SVER: the version of the software (RULES, Class 2).
     Sver,
+    /// INNM: the name of the input behind its `?` (RULES, Class 2).
     Innm,
+    /// INPT under `%2`: the chosen input, as under `%1` (RULES, Class 2).
     Inpt2,
+    /// INST under `%2`: the inputs, as under `%1` (RULES, Class 2).
     Inst2,
 }
 
 /// What a body sets, if anything. INNM sets nothing, and names an input beside its `?`.
 #[derive(Clone, Copy)]
 pub enum Sets {
+    /// POWR: `0` off, `1` on.
     SetsPower,
+    /// INPT under `%1`: the input of its parameter is chosen.
     SetsInput,
+    /// AVMT: `1` video, `2` audio or `3` both, then `0` off or `1` on.
     SetsMute,
+    /// INPT under `%2`: the input of its parameter is chosen.
     SetsInput2,
+    /// FREZ: `0` off, `1` on.
     SetsFreeze,
+    /// SVOL: `0` a step down, `1` a step up.
     StepsSpeaker,
+    /// MVOL: `0` a step down, `1` a step up.
     StepsMicrophone,
+    /// INNM: nothing; its parameter is `?` and an input.
     NamesInput,
+    /// Every other body: nothing, and `?` is its only parameter.
     QueryOnly,
 }
 

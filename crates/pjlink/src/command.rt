@@ -16,15 +16,20 @@ use words::{codec, input};
 /// What a mute is of.
 #[derive(Clone, Copy)]
 pub enum Half {
+    /// The picture: `1` in AVMT's parameter (PJLink 1.04, 4.5).
     VideoHalf,
+    /// The sound: `2` in AVMT's parameter.
     AudioHalf,
+    /// Both: `3` in AVMT's parameter.
     BothHalves,
 }
 
 /// What a step is of.
 #[derive(Clone, Copy)]
 pub enum Volume {
+    /// The speaker's level, which SVOL steps (RULES, Class 2).
     Speaker,
+    /// The microphone's level, which MVOL steps (RULES, Class 2).
     Microphone,
 }
 
@@ -32,13 +37,21 @@ pub enum Volume {
 /// where its bool is true.
 #[derive(Clone, Copy)]
 pub enum Command {
+    /// POWR: on where true, else off (PJLink 1.04, 4.1).
     PowerSet(bool),
+    /// INPT under `%1`: the input is chosen (PJLink 1.04, 4.3).
     InputSet(Input),
+    /// AVMT: that much is muted where true, else no longer; the half not named stays (PJLink 1.04, 4.5).
     MuteSet(Half, bool),
+    /// INPT under `%2`: the input is chosen (RULES, Class 2).
     InputSet2(Input),
+    /// FREZ: the picture stands still where true, else no longer (RULES, Class 2).
     FreezeSet(bool),
+    /// SVOL or MVOL: a step up where true, else down (RULES, Class 2).
     VolumeStep(Volume, bool),
+    /// INNM: what the input is called (RULES, Class 2).
     NameQuery(Input),
+    /// `?` to the body, any but SVOL, MVOL and INNM (RULES, Commands and Class 2).
     Query(Body),
 }
 

@@ -12,19 +12,27 @@ use crate::codec::{Line, Wire};
 /// The type of an input, 1 to 6 in this order; 6 is of Class 2 only (RULES, Inputs).
 #[derive(Clone, Copy, Default)]
 pub enum Source {
+    /// 1, RGB (PJLink 1.04, 4.3).
     #[default]
     Rgb,
+    /// 2, VIDEO.
     Video,
+    /// 3, DIGITAL.
     Digital,
+    /// 4, STORAGE.
     Storage,
+    /// 5, NETWORK.
     Network,
+    /// 6, INTERNAL (RULES, Class 2).
     Internal,
 }
 
 /// An input: its type and its number. The number is 1 to 9, or 10 to 35 for A to Z.
 #[derive(Clone, Copy, Default)]
 pub struct Input {
+    /// The type, its first character.
     pub source: Source,
+    /// The number, its second character: 1 to 9 for itself, in Class 2 also 10 to 35 for A to Z.
     pub number: u8,
 }
 
