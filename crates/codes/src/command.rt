@@ -10,8 +10,11 @@ use words::input::{Input, Source};
 #[repr(C)]
 #[derive(Clone, Copy)]
 pub struct Coded {
+    /// 0 to 23, by `enum pj_code`; any other is no command (RULES, The C face).
     pub code: u8,
+    /// By the code 0 or 1, a half 1 to 3, or an input's type 1 to 6.
     pub first: u8,
+    /// By the code 0 or 1, or an input's number 1 to 35.
     pub second: u8,
 }
 

@@ -14,8 +14,11 @@ use words::lamp::LampHours;
 /// Lamps, by their hours and by whether they are lit, each in a cleared room.
 #[derive(Clone, Copy)]
 pub struct FlatLamps {
+    /// How many lamps there are, at most 8.
     pub count: usize,
+    /// The whole hours of each lamp, as the reply tells them; 0 past the count.
     pub hours: [u32; LAMPS_MOST],
+    /// Whether each lamp is lit; false past the count.
     pub lit: [bool; LAMPS_MOST],
 }
 

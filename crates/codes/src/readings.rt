@@ -25,8 +25,11 @@ pub const TEXT_MOST: usize = 128;
 #[repr(C)]
 #[derive(Clone, Copy)]
 pub struct FlatGreeting {
+    /// 0; 10 where the line is no greeting (RULES, The numbers a call gives).
     pub number: u32,
+    /// By `enum pj_greeting_kind`: 1 `PJLINK 0`, 2 `PJLINK 1`, 3 `PJLINK ERRA`; 0 with 10.
     pub kind: u8,
+    /// The random number of `PJLINK 1`; else 0.
     pub random: u32,
 }
 
@@ -34,14 +37,23 @@ pub struct FlatGreeting {
 #[repr(C)]
 #[derive(Clone, Copy)]
 pub struct FlatReading {
+    /// 0; 3, 10, 11 or 12 where the line says nothing (RULES, The numbers a call gives).
     pub number: u32,
+    /// What is said, 1 to 12, by `enum pj_reading_kind`; 0 where nothing is.
     pub kind: u8,
+    /// By the kind n of ERRn, a power 0 to 3, an input's type 1 to 6, the video mute, a class or a freeze.
     pub first: u8,
+    /// By the kind an input's number 1 to 35, or the audio mute, 0 or 1.
     pub second: u8,
+    /// By the kind how many lamps or inputs, bytes of a text, or error digits.
     pub count: usize,
+    /// The whole hours of each lamp, at most 99,999; 0 past the lamps.
     pub hours: [u32; LAMPS_MOST],
+    /// Whether each lamp is lit; false past the lamps.
     pub lit: [bool; LAMPS_MOST],
+    /// Two ASCII characters an input; zero past the inputs.
     pub inputs: [u8; CHARACTERS],
+    /// The bytes of a text, or six error digits as numbers 0 to 2; zero past the count.
     pub text: [u8; TEXT_MOST],
 }
 

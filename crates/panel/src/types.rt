@@ -21,7 +21,9 @@ pub const STRAYS_MOST: u32 = 65_535;
 #[repr(C)]
 #[derive(Clone, Copy)]
 pub struct Password {
+    /// How many characters it has, 0 to 32; 0 where the projector has none (RULES, Passwords).
     pub len: usize,
+    /// ASCII letters and digits at the start, and zero after them.
     pub bytes: [u8; PASSWORD_ROOM],
 }
 
@@ -29,21 +31,37 @@ pub struct Password {
 #[repr(C)]
 #[derive(Clone, Copy)]
 pub struct Entry {
+    /// The one that the projector was set up with; 1 to 7 characters are taken too.
     pub password: Password,
+    /// The greeting that it has sent: 0 none yet, 1 `PJLINK 0`, 2 `PJLINK 1` (`enum pj_awaited`).
     pub greeting: u8,
+    /// The random number of `PJLINK 1`; 0 with any other greeting.
     pub random: u32,
+    /// Whether the digest was sent since that greeting; false with any but `PJLINK 1`.
     pub led: bool,
+    /// Whether a command was sent whose reply is awaited; false without a greeting.
     pub under_way: bool,
+    /// That command, as it was given; else all three 0.
     pub command: Coded,
+    /// Whether a reply told the power, and no ERRA has made all unknown since.
     pub power_known: bool,
+    /// Whether a reply told the chosen input, and no ERRA has made all unknown since.
     pub input_known: bool,
+    /// Whether a reply told the lamps, and no ERRA has made all unknown since.
     pub lamps_known: bool,
+    /// 0 off, 1 on, 2 cooling, 3 warm-up; 0 where it is not known.
     pub power: u8,
+    /// The type of the chosen input, 1 to 6; 0 where it is not known.
     pub input_type: u8,
+    /// The number of the chosen input, 1 to 35; 0 where it is not known.
     pub input_number: u8,
+    /// How many lamps it has, 1 to 8; 0 where they are not known.
     pub lamp_count: usize,
+    /// The whole hours of each lamp, at most 99,999; 0 past the count.
     pub hours: [u32; LAMPS_MOST],
+    /// Whether each lamp is lit; false past the count.
     pub lit: [bool; LAMPS_MOST],
+    /// How many late, foreign or malformed lines came from it; the count stops at 65,535.
     pub strays: u32,
 }
 
@@ -51,7 +69,9 @@ pub struct Entry {
 #[repr(C)]
 #[derive(Clone, Copy)]
 pub struct Panel {
+    /// How many projectors it drives, 0 to 8.
     pub count: usize,
+    /// The projectors, in the order in which they were added; all zero past the count.
     pub entries: [Entry; PANEL_MOST],
 }
 
