@@ -14,9 +14,13 @@ use day::{JOBS_MOST, Placement, RIGS_MOST};
 #[repr(C)]
 #[derive(Clone, Copy)]
 pub struct FlatVerdict {
+    /// 0; 3 where the lists are no day (RULES, Cutting day).
     pub number: u32,
+    /// The first rule that is broken, 1 to 4 (`enum pj_rule`); 0 where none is, or the call was refused.
     pub rule: u8,
+    /// The lowest job concerned, from 0, or by rule 4 the lowest rig; 0 where there is none.
     pub first: usize,
+    /// By rule 3 the lowest job that the first one clashes with; else 0.
     pub second: usize,
 }
 
@@ -24,8 +28,11 @@ pub struct FlatVerdict {
 #[repr(C)]
 #[derive(Clone, Copy)]
 pub struct FlatPlan {
+    /// 0, also where some job finds no rig; 3 where the lists are no day (RULES, Cutting day).
     pub number: u32,
+    /// Whether every job has a rig; false where the call was refused.
     pub planned: bool,
+    /// The first job that finds none, from 0; else 0.
     pub job: usize,
 }
 

@@ -9,8 +9,11 @@ use service::{CompareError, TABLE_MOST};
 #[repr(C)]
 #[derive(Clone, Copy)]
 pub struct Report {
+    /// 0; 3 where the tables cannot be compared (RULES, Service).
     pub number: u32,
+    /// Whether some lamp has fewer seconds than before.
     pub backwards: bool,
+    /// The place of the first such lamp, from 0; 0 where there is none.
     pub place: usize,
 }
 

@@ -36,11 +36,17 @@ pub const NO_READING: Reading = Reading {
 /// The lists of a day, as a call is lent them: one for each field of its jobs, and of its rigs.
 #[derive(Clone, Copy)]
 pub struct DayLists<'a> {
+    /// The second of the day at which each job starts.
     pub starts: &'a [u32],
+    /// The seconds of each job, at least 1 in a day; start plus length is at most 86,400 there.
     pub lengths: &'a [u32],
+    /// The rigs that each job may use: bit k is set for rig k.
     pub allowed: &'a [u8],
+    /// W of each rig in seconds, 1 to 600 in a day.
     pub warm: &'a [u32],
+    /// C of each rig in seconds, 1 to 600 in a day.
     pub cool: &'a [u32],
+    /// The seconds of lamp life that each rig has left.
     pub life: &'a [u32],
 }
 

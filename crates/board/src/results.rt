@@ -13,8 +13,11 @@ use text::numbered::Numbered;
 #[repr(C)]
 #[derive(Clone, Copy)]
 pub struct Receiving {
+    /// 0, or the number of the refusal: 1, 2, 3 or 4 (RULES, The numbers a call gives).
     pub number: u32,
+    /// Bytes taken: up to and including the first CR, or all; 0 with a refusal.
     pub taken: usize,
+    /// Bytes of the reply; 0 where none is due, and with a refusal.
     pub length: usize,
 }
 
@@ -22,8 +25,11 @@ pub struct Receiving {
 #[repr(C)]
 #[derive(Clone, Copy)]
 pub struct Opening {
+    /// 0, or the number of the refusal: 1, 2 or 6 (RULES, The numbers a call gives).
     pub number: u32,
+    /// Bytes of the greeting; 0 with a refusal.
     pub length: usize,
+    /// Where it was opened, 0 to 3; 0 with a refusal.
     pub place: usize,
 }
 
@@ -31,9 +37,13 @@ pub struct Opening {
 #[repr(C)]
 #[derive(Clone, Copy)]
 pub struct Received {
+    /// 0, or the number of the refusal: 1, 2, 3 or 4 (RULES, The numbers a call gives).
     pub number: u32,
+    /// Bytes taken: up to and including the first CR, or all; 0 with a refusal.
     pub taken: usize,
+    /// Bytes of the reply; 0 where none is due, and with a refusal.
     pub length: usize,
+    /// The changed record; with a refusal the one that was given.
     pub device: Device,
 }
 
@@ -41,9 +51,13 @@ pub struct Received {
 #[repr(C)]
 #[derive(Clone, Copy)]
 pub struct Opened {
+    /// 0, or the number of the refusal: 1, 2 or 6 (RULES, The numbers a call gives).
     pub number: u32,
+    /// Bytes of the greeting; 0 with a refusal.
     pub length: usize,
+    /// Where it was opened, 0 to 3; 0 with a refusal.
     pub place: usize,
+    /// The changed record; with a refusal the one that was given.
     pub device: Device,
 }
 
@@ -51,7 +65,9 @@ pub struct Opened {
 #[repr(C)]
 #[derive(Clone, Copy)]
 pub struct PanelChanged {
+    /// 0, or the number of the refusal: 1 or 3 (RULES, The numbers a call gives).
     pub number: u32,
+    /// The changed panel; with a refusal the one that was given.
     pub panel: Panel,
 }
 
@@ -59,8 +75,11 @@ pub struct PanelChanged {
 #[repr(C)]
 #[derive(Clone, Copy)]
 pub struct PanelSent {
+    /// 0, or the number of the refusal: 1, 2, 3 or 9 (RULES, The numbers a call gives).
     pub number: u32,
+    /// Bytes of the line, with its CR; 0 with a refusal.
     pub length: usize,
+    /// The changed panel; with a refusal the one that was given.
     pub panel: Panel,
 }
 
@@ -68,7 +87,9 @@ pub struct PanelSent {
 #[repr(C)]
 #[derive(Clone, Copy)]
 pub struct Changed {
+    /// 0, or the number of the refusal: 1, 3, 4, 7, of set-up 3 or 8, of loading 20 to 23.
     pub number: u32,
+    /// The changed record; with a refusal the one that was given, of set-up and loading the blank one.
     pub device: Device,
 }
 

@@ -15,7 +15,9 @@ use text::numbered::Numbered;
 #[repr(C)]
 #[derive(Clone, Copy)]
 pub struct Written {
+    /// 0, or the number of the refusal: 2 or 3, of storing 1 or 2 (RULES, The numbers a call gives).
     pub number: u32,
+    /// Bytes that were written, of a line with its CR; 0 with a refusal.
     pub length: usize,
 }
 
