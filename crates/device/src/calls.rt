@@ -14,14 +14,18 @@ use record::types::Device;
 /// What receiving took of the bytes, and the length of the reply: it fills the start of the lent memory.
 #[derive(Clone, Copy)]
 pub struct Received {
+    /// Bytes taken: up to and including the first CR, or all where there is none.
     pub taken: usize,
+    /// Bytes of the reply; 0 where none is due.
     pub length: usize,
 }
 
 /// The place that a new connection has, and the length of the greeting.
 #[derive(Clone, Copy)]
 pub struct Opened {
+    /// The lowest place that was closed, 0 to 3 (RULES, Places).
     pub place: usize,
+    /// Bytes of the greeting, which fills the start of the lent memory.
     pub length: usize,
 }
 

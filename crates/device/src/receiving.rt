@@ -19,7 +19,9 @@ const DIGEST_LONG: usize = 32;
 /// How many bytes are taken, and the reply to the line that they end: empty where there is none.
 #[derive(Drop)]
 pub struct Taken {
+    /// Bytes up to and including the first CR, or all where there is none.
     pub taken: usize,
+    /// The bytes of the reply, with its CR; empty where none is due.
     pub reply: codec::Line,
 }
 

@@ -26,6 +26,7 @@ struct Buffer {
 #[repr(C)]
 #[derive(Clone, Copy)]
 pub struct Digest {
+    /// The four words A to D, the low-order byte of each first (RFC 1321, 3.5).
     pub bytes: [u8; 16],
 }
 

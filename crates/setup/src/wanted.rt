@@ -29,6 +29,7 @@ pub enum Names<'a> {
 /// The class of a projector, with what it alone has (RULES, Class 2).
 #[derive(Clone, Copy)]
 pub enum Class<'a> {
+    /// Class 1, which has nothing of its own.
     One,
     /// Serial number and software version, each of at most 32 bytes, and a name of at most 128 bytes for each input.
     Two {
@@ -45,7 +46,9 @@ pub struct Wanted<'a> {
     pub name: &'a [u8],
     /// At most 32 bytes, as `model` and `other`.
     pub maker: &'a [u8],
+    /// What INF2 answers: at most 32 bytes.
     pub model: &'a [u8],
+    /// What INFO answers: at most 32 bytes.
     pub other: &'a [u8],
     /// None, which is no security, or 8 to 32 ASCII letters and digits (RULES, Passwords).
     pub password: &'a [u8],
@@ -57,6 +60,7 @@ pub struct Wanted<'a> {
     pub warm: u32,
     /// The seconds of cooling, 1 to 600.
     pub cool: u32,
+    /// The class, with serial number, version and names of inputs in Class 2.
     pub class: Class<'a>,
 }
 

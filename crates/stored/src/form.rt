@@ -19,25 +19,40 @@ pub const MARKED_VERSION: u8 = 2;
 /// The class, and what Class 2 has: a serial number, a version, and the names of its inputs, each after its count.
 #[derive(Clone, Copy)]
 pub struct Rest<'a> {
+    /// The class byte, whatever it is; 1 where the version has none.
     pub class: u8,
+    /// The serial number, without its count; empty but in Class 2.
     pub serial: &'a [u8],
+    /// The version of the software, without its count; empty but in Class 2.
     pub version: &'a [u8],
+    /// The names, one after the other, each after its count in one byte; empty but in Class 2.
     pub names: &'a [u8],
 }
 
 /// What a form says. Of a lamp these are the four bytes of its seconds; the oldest version has no marks.
 #[derive(Clone, Copy)]
 pub struct Form<'a> {
+    /// 0 to 255 bytes, without their count as all sections here; at most 64 where the form loads (RULES, Texts).
     pub name: &'a [u8],
+    /// 0 to 255 bytes; at most 32 where the form loads.
     pub maker: &'a [u8],
+    /// 0 to 255 bytes; at most 32 where the form loads.
     pub model: &'a [u8],
+    /// Other information, 0 to 255 bytes; at most 32 where the form loads.
     pub other: &'a [u8],
+    /// 0 to 255 bytes; none, or 8 to 32 letters and digits, where the form loads (RULES, Passwords).
     pub password: &'a [u8],
+    /// Two characters for each of 0 to 255 inputs; 1 to 32 where the form loads (RULES, Inputs).
     pub inputs: &'a [u8],
+    /// The seconds of 0 to 255 lamps, four bytes each with the highest first; at most 8 lamps where the form loads.
     pub lamps: &'a [u8],
+    /// 0 to 255 bytes, one of 0 or 1 for each lamp where the form loads. None in version 1: every mark is set there.
     pub marks: Option<&'a [u8]>,
+    /// W in seconds, 0 to 65,535; 1 to 600 where the form loads.
     pub warm: u32,
+    /// C in seconds, 0 to 65,535; 1 to 600 where the form loads.
     pub cool: u32,
+    /// The class, and what stands after it; Class 1 alone in versions 1 and 2.
     pub rest: Rest<'a>,
 }
 

@@ -15,7 +15,9 @@ use record::views::Phase;
 /// CR, and whether it came.
 #[derive(Clone, Copy)]
 pub struct Passed {
+    /// Bytes before the first CR, or all where there is none.
     pub before: usize,
+    /// Whether there is a CR.
     pub ended: bool,
 }
 
