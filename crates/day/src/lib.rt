@@ -48,6 +48,7 @@ pub struct Rig {
 /// A job on a rig. A plan is a slice of placements, in the order of the jobs.
 #[derive(Clone, Copy, Debug, PartialEq, Eq)]
 pub struct Placement {
+    /// The job that is placed, whether or not it may use the rig.
     pub job: Job,
     /// The number of the rig, which may be none of the day's.
     pub rig: u8,

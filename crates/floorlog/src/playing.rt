@@ -21,6 +21,7 @@ use textio::writer::ByteSink;
 /// A log as it is played: its record, tested where the log began, and how many of its lines are played.
 #[derive(Drop)]
 pub struct Player {
+    /// The record as the lines played so far left it.
     pub tested: Tested,
     played: u64,
 }

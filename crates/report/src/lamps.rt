@@ -14,9 +14,13 @@ pub const LAMPS: usize = 8;
 /// The seconds of each of `count` lamps: when the log began, burnt in it, and now.
 #[derive(Clone, Copy)]
 pub struct Totals {
+    /// How many lamps there are, at most 8.
     pub count: usize,
+    /// Seconds of each lamp when the log began.
     pub starts: [u32; LAMPS],
+    /// Seconds that each lamp burnt in the log, also past the limit of its seconds.
     pub burnt: [u64; LAMPS],
+    /// Seconds of each lamp when the log ends, which stop at 359,999,999 (RULES, Lamps).
     pub lasts: [u32; LAMPS],
 }
 

@@ -18,7 +18,9 @@ use textio::writer::ByteSink;
 /// How a log is told: as lines, or as a page that has so many rows.
 #[derive(Clone, Copy)]
 pub enum Report {
+    /// A line for each stretch, and one for each lamp at the end.
     Lines,
+    /// An HTML page, on which so many rows, one a day, are begun.
     Page(u64),
 }
 

@@ -18,7 +18,9 @@ pub(crate) const DAY: u64 = 86400;
 /// A stretch that lamps burnt, in seconds since the log began; the second `to` is not in it.
 #[derive(Clone, Copy)]
 pub struct Stretch {
+    /// Its first second, from 0 when the log began.
     pub from: u64,
+    /// The second after its last one.
     pub to: u64,
 }
 

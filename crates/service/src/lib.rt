@@ -15,7 +15,9 @@ pub const TABLE_MOST: usize = 64;
 /// A lamp's seconds at two readings.
 #[derive(Clone, Copy, Debug, PartialEq, Eq)]
 pub struct Reading {
+    /// Seconds at the earlier reading, any 32-bit number.
     pub earlier: u32,
+    /// Seconds at the later reading, any 32-bit number; below the earlier where the lamp went backwards.
     pub later: u32,
 }
 

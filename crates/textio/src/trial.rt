@@ -10,8 +10,11 @@ use std::io::{Error, ErrorKind};
 /// At most `most` bytes a read, and one at least; after `until` bytes the next read fails, if it comes to that.
 #[derive(Drop)]
 pub struct Pieces {
+    /// What is still to be read.
     pub log: &'static [u8],
+    /// The most bytes of a read; 0 is as 1.
     pub most: usize,
+    /// So many bytes more are read before a read fails.
     pub until: usize,
 }
 

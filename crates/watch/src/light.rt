@@ -56,8 +56,11 @@ pub fn gained_if(
 /// last, and whether stretches ended that are not empty.
 #[derive(Clone, Copy)]
 pub struct Light {
+    /// The lamps burnt before the line, and burn no longer after it.
     pub dark: bool,
+    /// The second since the log began at which they began to burn last.
     pub from: u64,
+    /// Stretches ended with the line, of one second and more.
     pub told: bool,
 }
 
