@@ -12,7 +12,7 @@
 -- Bytes, Sources, Inputs, Texts, Utf8); the length 168 (`command_room` of controller/specs/Writing); for the
 -- readers, the forms of lines (pjlink/specs: Forms, Commands, Bodies) and which parameter says what (pjlink/specs:
 -- Said, CanSay, Writings, with the values of words/specs: Numerals, Powers, Muting, ErrorDigits, Lamps, Classes,
--- Refusing, Joined; `greets`, `random_in` of controller/specs/Greetings); ours/specs/Board; here Calls.
+-- Refusing, Joined; `greets`, `random_in` of pjlink/specs/Greetings); ours/specs/Board; here Calls.
 --   rows_of d c         the rows that the call c can meet, in the table's order; so for set-up, writer and readers
 --   Inside m r          a call that is lent the memory m stays in it, and changes no byte past its reply
 --   Untouched m r       it took nothing, replied nothing and wrote nothing

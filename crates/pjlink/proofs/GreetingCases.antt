@@ -48,5 +48,5 @@ module _ (l : List ℕ) where
       unfolding read_greeting
       greeting_none e = if_no _ _ closed ∙ if_no _ _ line ∙ if_no _ _ e
 
-      pub greeting_not_18 : (length l ≡ 18 → ⊥) → read_greeting l ≡ None
-      greeting_not_18 n = greeting_none (long_differs itself l (greeting_secured (hex_digits 8 (random_in l))) n)
+      pub not_18 : (length l ≡ 18 → ⊥) → read_greeting l ≡ None
+      not_18 n = greeting_none (long_differs itself l (greeting_secured (hex_digits 8 (random_in l))) n)

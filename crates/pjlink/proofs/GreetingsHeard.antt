@@ -27,7 +27,6 @@ module _ (r : ℕ) (word : r < 2 ^ 32) where
   line = greeting_secured (hex_digits 8 r)
 
   random_back : random_in line ≡ r
-  unfolding random_in
   random_back = hex_value_back 8 r word
 
   pub secured_heard : read_greeting line ≡ Some (Secured r)
@@ -38,7 +37,6 @@ module _ (r : ℕ) (word : r < 2 ^ 32) where
 
 -- and nothing else is
 pub random_below : (l : List ℕ) → random_in l < 2 ^ 32
-unfolding random_in
 random_below l =
     let digits = take 8 (drop 9 l) in
     let few : length digits ≤ 8 = omega (arith, length-take 8 (drop 9 l)) in

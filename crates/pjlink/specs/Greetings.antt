@@ -1,5 +1,5 @@
--- The two greetings and the ERRA line, and reading them (RULES, Connection and Controller): each with its CR and nothing
--- more.
+-- The two greetings and the ERRA line, and reading them: each with its CR and nothing more (RULES, Connection and
+-- Controller).
 --   greeting_line g     the line of the greeting g
 --   random_in l         the number in the place of the random number
 --   greets l r          the line l is the greeting with the random number r, in its eight digits
@@ -15,7 +15,7 @@ use Rattle.pjlink.specs.declared.greeting.Greeting.{Greeting}
 use Rattle.pjlink.specs.declared.greeting.Greeting.TheVariants.{Open, Secured, Refused}
 
 -- after `PJLINK 1 `
-unfoldable pub random_in : List ℕ → ℕ
+abbrev pub random_in : List ℕ → ℕ
 random_in l = hex_value (take 8 (drop 9 l))
 
 abbrev pub greeting_line : Greeting → List ℕ

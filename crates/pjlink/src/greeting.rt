@@ -1,4 +1,4 @@
-// What a projector greets with, and the line that refuses a digest (RULES, Connection and Controller; PJLink 1.04, 5.1).
+// What a projector greets with, and the line that refuses a digest (RULES, Connection, Controller; PJLink 1.04, 5).
 ghost use Rattle.std.specs.Prelude.{◌≡◌, ◌+◌, ◌≤◌, ◌++◌};
 ghost use Rattle.arrayvec.specs.ArrayVec.{array_vec_len};
 ghost use Rattle.text.specs.Scans.{same_by, itself};
@@ -47,7 +47,7 @@ impl Greeting {
     }
 
     /// The greetings and the ERRA line, each to its CR and no further; none of any other line.
-    #[tactic(auto, using(crate::proofs::GreetingCases::greeting_not_18), unfolding(crate::specs::Greetings::read_greeting, crate::specs::Greetings::random_in))]
+    #[tactic(auto, using(crate::proofs::GreetingCases::not_18), unfolding(crate::specs::Greetings::read_greeting))]
     pub fn read(line: &[u8]) -> Option<Greeting>
         ensures { result ≡ read_greeting line.now }
     {

@@ -2,7 +2,7 @@
 -- that it has, whatever line comes. Which lines are late, foreign or malformed is `IsStray` of panel/specs/StepTable,
 -- by
 -- the reader's own numbers; what a line says is what the controller's readers take from it.
--- TO BELIEVE IT, believe, and nothing else: the readers (controller/specs: Reading, Greetings), the codes
+-- TO BELIEVE IT, believe, and nothing else: the readers (controller/specs/Reading, pjlink/specs/Greetings), the codes
 -- (codes/specs/Commands), an entry's parts and what is shown (panel/specs: Entries, Showing), `IsUnderWay` and
 -- `IsStray`
 -- (panel/specs/StepTable), a legal panel (panel/specs/LegalPanels); here AnyPanel.
