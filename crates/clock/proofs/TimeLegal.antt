@@ -1,5 +1,5 @@
--- A legal record stays legal as time passes: its settings stay, and a second keeps the own part and each
--- connection legal.
+-- A legal record stays legal as time passes: its settings stay, and a second keeps the own part and each connection
+-- legal.
 -- Assumes nothing.
 use Rattle.std.proofs.Common.{ℕ, ◌+◌, ◌≤◌, ◌<◌, ◌≡◌, refl, sym, ◌∙◌, Bool, true, false, List, arith, length}
 use Rattle.std.proofs.Common.{slice_index_or, length-take, ltb-true, if◌then◌else◌}

@@ -1,5 +1,4 @@
--- THE LAW: for every command and every answer that it can have, reading a writing of the answer gives the answer
--- back;
+-- THE LAW: for every command and every answer that it can have, reading a writing of the answer gives the answer back;
 -- and so its bytes, which are a writing.
 -- Assumes nothing.
 use Rattle.std.proofs.lemmas.Grind.{common_steps}
