@@ -172,13 +172,7 @@ impl Wire for Half {
     }
 
     fn take(s: &[u8]) -> Option<(Half, &[u8])> {
-        let [b, rest @ ..] = s else {
-            return None;
-        };
-        let Some(half) = half_named(*b) else {
-            return None;
-        };
-        Some((half, rest))
+        codec::letter(s, half_named)
     }
 
     ghost codec = { half_codec };

@@ -4,7 +4,7 @@ ghost use Rattle.words.specs.Codec.{Plain};
 ghost use Rattle.words.specs.Classes.{class_as_number, class_code, class_named, class_text, class_read};
 ghost use Rattle.words.specs.Laws.{class_codec};
 
-use crate::codec::{Line, Wire};
+use crate::codec::{self, Line, Wire};
 
 /// The class of a projector, of a body, and of a line.
 #[derive(Clone, Copy)]
@@ -58,13 +58,7 @@ impl Wire for ClassNumber {
     }
 
     fn take(s: &[u8]) -> Option<(ClassNumber, &[u8])> {
-        let [b, rest @ ..] = s else {
-            return None;
-        };
-        let Some(class) = class_named(*b) else {
-            return None;
-        };
-        Some((class, rest))
+        codec::letter(s, class_named)
     }
 
     ghost codec = { class_codec };

@@ -1,7 +1,7 @@
 // Values on a line: each is put at the line's end, and taken from the front of bytes (RULES, Commands and Controller).
 ghost use Rattle.std.specs.Prelude.{◌≡◌, ℕ, ◌+◌, ◌≤◌, Bool, List, ◌++◌, length, Option};
 ghost use Rattle.arrayvec.specs.ArrayVec.{array_vec_len};
-ghost use Rattle.words.specs.Codec.{Codec, Ends, taken_value, whole_value};
+ghost use Rattle.words.specs.Codec.{Codec, Ends, letter, taken_value, whole_value};
 
 use arrayvec::ArrayVec;
 
@@ -46,6 +46,16 @@ pub fn parse<T: Wire>(s: &[u8]) -> Option<T>
         Some((x, [])) => Some(x),
         _ => None,
     }
+}
+
+/// The value that the first byte names, and what follows that byte.
+pub fn letter<T, F: Fn(u8) -> Option<T>>(s: &[u8], named: F) -> Option<(T, &[u8])>
+    requires { F.IsAlwaysCallable named }
+    ensures { (f : ℕ → Option T) → ((b : ℕ) (r : Option T) → F.post named b r → r ≡ f b)
+        → taken_value result ≡ letter f s.now }
+{
+    let (&b, rest) = s.split_first()?;
+    Some((named(b)?, rest))
 }
 
 /// Puts bytes as they are.

@@ -1,10 +1,10 @@
 // The six digits of the errors (RULES, Commands; PJLink 1.04, 4.7).
 ghost use Rattle.std.specs.Prelude.{◌≡◌};
-ghost use Rattle.words.specs.Codec.{Plain, letter, taken_value};
+ghost use Rattle.words.specs.Codec.{Plain};
 ghost use Rattle.words.specs.ErrorDigits.{error_named, is_errors, errors_text, errors_read};
 ghost use Rattle.words.specs.Laws.{errors_codec};
 
-use crate::codec::{Line, Wire};
+use crate::codec::{self, Line, Wire};
 use crate::input;
 
 /// Fan, lamp, temperature, cover, filter, other: 0 no error or not known, 1 a warning, 2 an error.
@@ -17,18 +17,6 @@ fn error_named(b: u8) -> Option<u8>
         b'0'..=b'2' => Some(b - b'0'),
         _ => None,
     }
-}
-
-fn error_at(s: &[u8]) -> Option<(u8, &[u8])>
-    ensures { taken_value result ≡ letter error_named s.now }
-{
-    let [b, rest @ ..] = s else {
-        return None;
-    };
-    let Some(digit) = error_named(*b) else {
-        return None;
-    };
-    Some((digit, rest))
 }
 
 impl Wire for [u8; 6] {
@@ -47,24 +35,12 @@ impl Wire for [u8; 6] {
     }
 
     fn take(s: &[u8]) -> Option<([u8; 6], &[u8])> {
-        let Some((fan, s)) = error_at(s) else {
-            return None;
-        };
-        let Some((lamp, s)) = error_at(s) else {
-            return None;
-        };
-        let Some((temperature, s)) = error_at(s) else {
-            return None;
-        };
-        let Some((cover, s)) = error_at(s) else {
-            return None;
-        };
-        let Some((filter, s)) = error_at(s) else {
-            return None;
-        };
-        let Some((other, s)) = error_at(s) else {
-            return None;
-        };
+        let (fan, s) = codec::letter(s, error_named)?;
+        let (lamp, s) = codec::letter(s, error_named)?;
+        let (temperature, s) = codec::letter(s, error_named)?;
+        let (cover, s) = codec::letter(s, error_named)?;
+        let (filter, s) = codec::letter(s, error_named)?;
+        let (other, s) = codec::letter(s, error_named)?;
         Some(([fan, lamp, temperature, cover, filter, other], s))
     }
 

@@ -6,8 +6,7 @@ ghost use Rattle.words.specs.Inputs.{number_digit, input_text, input_read};
 ghost use Rattle.words.specs.Codec.{Plain};
 ghost use Rattle.words.specs.Laws.{input_codec};
 
-use crate::codec;
-use crate::codec::{Line, Wire};
+use crate::codec::{self, Line, Wire};
 
 /// The type of an input, 1 to 6 in this order; 6 is of Class 2 only (RULES, Inputs).
 #[derive(Clone, Copy, Default)]
@@ -164,10 +163,7 @@ impl Wire for Input {
         let [a, b, rest @ ..] = s else {
             return None;
         };
-        let Some(i) = read_input(*a, *b) else {
-            return None;
-        };
-        Some((i, rest))
+        Some((read_input(*a, *b)?, rest))
     }
 
     ghost codec = { input_codec };

@@ -29,15 +29,11 @@ impl Wire for LampHours {
     }
 
     fn take(s: &[u8]) -> Option<(LampHours, &[u8])> {
-        let Some((hours, rest)) = u32::take(s) else {
-            return None;
-        };
+        let (hours, rest) = u32::take(s)?;
         let [b' ', rest @ ..] = rest else {
             return None;
         };
-        let Some((lit, rest)) = bool::take(rest) else {
-            return None;
-        };
+        let (lit, rest) = bool::take(rest)?;
         Some((LampHours { hours, lit }, rest))
     }
 

@@ -4,8 +4,7 @@ ghost use Rattle.words.specs.Codec.{Plain};
 ghost use Rattle.words.specs.Muting.{mutes_text, mutes_read};
 ghost use Rattle.words.specs.Laws.{mutes_codec};
 
-use crate::codec;
-use crate::codec::{Line, Wire};
+use crate::codec::{self, Line, Wire};
 
 /// What is muted.
 #[derive(Clone, Copy)]

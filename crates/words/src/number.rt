@@ -34,10 +34,7 @@ impl Wire for u32 {
 
     fn take(s: &[u8]) -> Option<(u32, &[u8])> {
         let (figures, rest) = s.split_at(figures(s));
-        let Some(n) = numbers::read_number(figures) else {
-            return None;
-        };
-        Some((n, rest))
+        Some((numbers::read_number(figures)?, rest))
     }
 
     ghost codec = { number_codec };

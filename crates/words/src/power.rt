@@ -5,7 +5,7 @@ ghost use Rattle.words.specs.Powers.{power_code, power_named, power_text, power_
 ghost use Rattle.words.specs.Powers.{switch_code, switch_named, switch_text, switch_read};
 ghost use Rattle.words.specs.Laws.{power_codec, switch_codec};
 
-use crate::codec::{Line, Wire};
+use crate::codec::{self, Line, Wire};
 
 /// The power as a projector tells it.
 #[derive(Clone, Copy)]
@@ -57,13 +57,7 @@ impl Wire for Power {
     }
 
     fn take(s: &[u8]) -> Option<(Power, &[u8])> {
-        let [b, rest @ ..] = s else {
-            return None;
-        };
-        let Some(p) = power_named(*b) else {
-            return None;
-        };
-        Some((p, rest))
+        codec::letter(s, power_named)
     }
 
     ghost codec = { power_codec };
@@ -100,13 +94,7 @@ impl Wire for bool {
     }
 
     fn take(s: &[u8]) -> Option<(bool, &[u8])> {
-        let [b, rest @ ..] = s else {
-            return None;
-        };
-        let Some(on) = switch_named(*b) else {
-            return None;
-        };
-        Some((on, rest))
+        codec::letter(s, switch_named)
     }
 
     ghost codec = { switch_codec };

@@ -4,7 +4,7 @@ ghost use Rattle.words.specs.Codec.{Plain};
 ghost use Rattle.words.specs.Refusing.{refusal_digit, refusal_named, refusal_text, refusal_read};
 ghost use Rattle.words.specs.Laws.{refusal_codec};
 
-use crate::codec::{Line, Wire};
+use crate::codec::{self, Line, Wire};
 use crate::input;
 
 /// Why a projector refuses a command.
@@ -63,13 +63,10 @@ impl Wire for Refusal {
     }
 
     fn take(s: &[u8]) -> Option<(Refusal, &[u8])> {
-        let [b'E', b'R', b'R', b, rest @ ..] = s else {
+        let [b'E', b'R', b'R', rest @ ..] = s else {
             return None;
         };
-        let Some(r) = refusal_named(*b) else {
-            return None;
-        };
-        Some((r, rest))
+        codec::letter(rest, refusal_named)
     }
 
     ghost codec = { refusal_codec };
