@@ -54,7 +54,7 @@ fn lamps_said(
     let mut lamps = ArrayVec::new();
     let most = count.min(LAMPS_MOST);
     for k in 0..most {
-        lamps.push(lamp_said(lit & marks[k], seconds[k]));
+        lamps.push(lamp_said(lit && marks[k], seconds[k]));
     }
     lamps
 }

@@ -68,7 +68,7 @@ fn read_value(c: Command, p: &[u8]) -> Option<Answer<'_>>
 fn may_refuse(c: Command, r: Refusal) -> bool
     ensures { result ≡ is_refusal_to c (refusal_digit r) }
 {
-    has_own_parameter(c) | (r.number() != 2)
+    has_own_parameter(c) || r.number() != 2
 }
 
 /// What the parameter p says to the command c; none where it is not allowed there.

@@ -6,7 +6,7 @@ ghost use Rattle.record.specs.Limits.{is_class_number, only_in_2};
 pub fn is_class(class: u8) -> bool
     ensures { result ≡ is_class_number class }
 {
-    (class == 1) | (class == 2)
+    class == 1 || class == 2
 }
 
 /// What Class 2 alone has: so much of it there, none in any other class.

@@ -24,7 +24,8 @@ pub fn names_fit(class: u8, inputs: usize, bytes: &[u8], lengths: &[usize]) -> b
     are_names(bytes, lengths, class::only_in_2(class, inputs))
 }
 
-// So many names, one after the other in `bytes`, each of its length.
+// So many names, one after the other in `bytes`, each of its length. No turn leaves early at what is no name: where the
+// lengths do not add up, there are none, whatever the bytes.
 fn are_names(bytes: &[u8], lengths: &[usize], count: usize) -> bool
     ensures { result ≡ are_names count (names_in lengths.now bytes.now) }
 {
@@ -68,6 +69,7 @@ pub fn counted_fit(class: u8, inputs: usize, row: &[u8], count: usize) -> bool
     count == class::only_in_2(class, inputs) && are_counted(row, count)
 }
 
+// No turn leaves early: one exit has the shorter proof.
 fn are_counted(row: &[u8], count: usize) -> bool
     ensures { result ≡ list_all is_input_name (counted_in count row.now) }
 {

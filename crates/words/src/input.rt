@@ -35,6 +35,7 @@ pub struct Input {
     pub number: u8,
 }
 
+// Each test is made, as in `is_input_text`, so that a scan of pairs takes eight at once.
 fn is_number_character(b: u8) -> bool
     ensures { result ≡ is_number_character b }
 {
@@ -102,7 +103,7 @@ pub fn input_of(w: &[u8]) -> Option<Input>
 pub fn is_input(i: Input) -> bool
     ensures { result ≡ is_input i }
 {
-    (1 <= i.number) & (i.number <= 35)
+    1 <= i.number && i.number <= 35
 }
 
 // The two characters, the source's first.

@@ -35,7 +35,7 @@ pub fn is_refusal(s: &[u8]) -> bool
     matches!(s, [b'E', b'R', b'R', digit] if is_refusal_digit(*digit))
 }
 
-// Each byte is 0x20 to 0xFF.
+// Each byte is 0x20 to 0xFF. No turn leaves early, so that sixteen bytes go at once.
 fn all_text(s: &[u8]) -> bool
     ensures { result ≡ list_all is_text_byte s.now }
 {
@@ -62,10 +62,11 @@ fn is_utf8(s: &[u8]) -> bool
 }
 
 /// The rule of the projector's name, for set-up, legality and reader alike (RULES, Texts).
+#[tactic(auto, unfolding(crate::specs::Texts::is_name))]
 pub fn is_name(s: &[u8]) -> bool
     ensures { result ≡ is_name s.now }
 {
-    is_text(s, NAME_MOST) & is_utf8(s)
+    is_text(s, NAME_MOST) && is_utf8(s)
 }
 
 /// The rule of maker, model, other information, serial number and version.
@@ -82,6 +83,7 @@ pub fn is_input_name(s: &[u8]) -> bool
     is_text(s, INPUT_NAME_MOST)
 }
 
+// No turn leaves early, so that sixteen bytes go at once.
 fn all_alnum(s: &[u8]) -> bool
     ensures { result ≡ list_all is_alnum s.now }
 {

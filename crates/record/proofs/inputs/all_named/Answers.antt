@@ -9,6 +9,6 @@ loop-k-preserved c =
     let there : 2 * c.loop-k.k + 1 < length c.args.s.now = omega arith in
     rw c.is_input_text-ok.ensures (one_paired (is_input_text c.args.class) _ c.loop-k.invariant there)
 
-pub returns : goal.returns
+pub returns-then-ok : goal.returns-then-ok
 unfolding each_named
-returns c = grind (arith, all_paired)
+returns-then-ok c = grind (arith, all_paired)
