@@ -21,7 +21,7 @@ const SECONDS_A_UNIT: u64 = 90;
 // A lamp has its place, from 0; it is numbered from 1.
 fn top(k: u64) -> u64
     requires { k < 8 }
-    ensures value { result ≡ band_top k }
+    ensures top { result ≡ band_top k }
     ensures bound { result < 150 }
 {
     k * BAND + 3
@@ -93,7 +93,7 @@ pub fn open_to<W: ByteSink>(out: &mut W, lamps: u64, rows: u64, last: u64) -> io
 
 fn hundredths_of(seconds: u64) -> u64
     requires { seconds ≤ 86400 }
-    ensures value { result ≡ hundredths seconds }
+    ensures hundredths { result ≡ hundredths seconds }
     ensures bound { result ≤ 96000 }
 {
     seconds * 100 / SECONDS_A_UNIT

@@ -73,7 +73,7 @@ fn are_mark_bytes(count: usize, bytes: &[u8]) -> bool
 #[tactic(auto, using(crate::proofs::Marks::marks_are, record::proofs::FactsTold::own_is))]
 fn enable(device: &mut Device, bytes: &[u8]) -> bool
     requires { IsLegal device.old }
-    ensures value { result ≡ are_marks device.old.settings.lamp_count bytes.now }
+    ensures legal { result ≡ are_marks device.old.settings.lamp_count bytes.now }
     ensures device { result ≡ true
         → device.new ≡ with_own device.old (with_marks device.old.own (mark_room (map is_marked bytes.now))) }
 {

@@ -106,7 +106,6 @@ pub fn is_input(i: Input) -> bool
     1 <= i.number && i.number <= 35
 }
 
-// The two characters, the source's first.
 /// The character of a source: its type, 1 to 6.
 pub fn source_digit(s: Source) -> u8
     ensures { result ≡ source_digit s }
@@ -132,7 +131,7 @@ pub fn number_character(n: u8) -> u8
     b'A' + (n - 10) % 26
 }
 
-/// The two characters of an input.
+/// The two characters of an input, the source's first.
 pub fn input_text(i: Input) -> [u8; 2]
     ensures { result ≡ input_text i }
 {

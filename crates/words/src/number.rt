@@ -8,7 +8,7 @@ use crate::codec::{Line, Wire};
 
 // How many digits stand at the front.
 fn figures(s: &[u8]) -> usize
-    ensures value { result ≡ figures s.now }
+    ensures count { result ≡ figures s.now }
     ensures within { result ≤ length s.now }
 {
     for (i, &b) in s.iter().enumerate() {

@@ -3,4 +3,4 @@ use Rattle.report.proofs.days.put_band.Goals as goal
 
 pub returns : goal.returns
 unfolding band
-returns g c = let h = c.fill.ensures in rw c.top-y.ensures.value at c.fill.ensures
+returns g c = let h = c.fill.ensures in rw c.top-y.ensures.top at c.fill.ensures

@@ -4,6 +4,6 @@ use Rattle.report.proofs.days.put_bar.Goals as goal
 pub returns : goal.returns
 unfolding bar
 returns g c =
-    let place = c.hundredths_of-place.ensures.value in
-    let width = c.hundredths_of-width.ensures.value in
-    rw c.if-not-is_lit.false (rw (place, width, c.top.ensures.value) at c.fill.ensures)
+    let place = c.hundredths_of-place.ensures.hundredths in
+    let width = c.hundredths_of-width.ensures.hundredths in
+    rw c.if-not-is_lit.false (rw (place, width, c.top.ensures.top) at c.fill.ensures)

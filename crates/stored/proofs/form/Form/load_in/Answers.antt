@@ -22,7 +22,7 @@ returns-then-not-enable c =
     let f = c.args.self.now in
     let said = ap (marks_said (length f.lamps.now / 4)) c.in-Some.is in
     let set = c.in-Ok.ensures in
-    let tested = contents_tested (said_of f).settings (sym set.taken) set.made said c.enable.ensures.value in
+    let tested = contents_tested (said_of f).settings (sym set.taken) set.made said c.enable.ensures.legal in
     sym (tested ∙ if_no _ _ c.if-not-enable.true)
 
 pub returns : goal.returns
@@ -30,7 +30,7 @@ returns c =
     let f = c.args.self.now in
     let said = ap (marks_said (length f.lamps.now / 4)) c.in-Some.is in
     let set = c.in-Ok.ensures in
-    let tested = contents_tested (said_of f).settings (sym set.taken) set.made said c.enable.ensures.value in
+    let tested = contents_tested (said_of f).settings (sym set.taken) set.made said c.enable.ensures.legal in
     ap acceptance_of (c.enable.ensures.device c.if-not-enable.false)
     ∙ ap (λ (d : Device). acceptance_of (with_own d (with_marks d.own (mark_room (map is_marked c.in-Some.marks.now)))))
     set.made
