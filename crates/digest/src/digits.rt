@@ -2,8 +2,6 @@
 ghost use Rattle.std.specs.Prelude.{◌≡◌, ◌/◌, ◌%◌, ◌<◌, ◌≤◌, length};
 ghost use Rattle.digest.specs.Hex.{hex_digit, hex_of, hex_digits, hex_worth, hex_value};
 
-use crate::word;
-
 // The digit of x at a place p, a power of 16.
 #[tactic(auto, unfolding(crate::specs::Hex::hex_digit))]
 fn digit(x: u32, p: u32) -> u8
@@ -17,7 +15,7 @@ fn digit(x: u32, p: u32) -> u8
 fn two(x: u8) -> [u8; 2]
     ensures { result ≡ hex_digits 2 x }
 {
-    let w = word::wide(x);
+    let w = u32::from(x);
     [digit(w, 0x10), digit(w, 1)]
 }
 

@@ -12,17 +12,10 @@ pub fn rotate_left(x: u32, s: u32) -> u32
     (x << s) | (x >> (32 - s))
 }
 
-/// A byte as a word. A call, and not a cast at each use: so the bound of the byte comes with its value.
-pub fn wide(x: u8) -> u32
-    ensures { (result ≡ x) × (result < 256) }
-{
-    x as u32
-}
-
 /// The word at k, low-order byte first.
 pub fn word_at(s: &[u8], k: usize) -> u32
     requires { k + 4 ≤ length s.now }
     ensures { result ≡ word_at s.now k }
 {
-    wide(s[k]) + wide(s[k + 1]) * 0x100 + wide(s[k + 2]) * 0x10000 + wide(s[k + 3]) * 0x1000000
+    u32::from_le_bytes([s[k], s[k + 1], s[k + 2], s[k + 3]])
 }

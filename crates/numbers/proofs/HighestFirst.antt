@@ -1,7 +1,8 @@
 -- Numbers in bytes, the highest first: as the code takes them apart and puts them together, written and read back, and
 -- no other bytes for one number.
 -- Assumes nothing.
-use Rattle.std.proofs.Common.{ℕ, ◌/◌, ◌%◌, ◌^◌, ◌<◌, ◌≡◌, List, [], ◌∷◌, div-one, length}
+use Rattle.std.proofs.Common.{ℕ, ◌^◌, ◌<◌, ◌≡◌, List, div-one, length}
+use Rattle.std.specs.Int.{to_be_bytes, w32}
 use Rattle.text.specs.Scans.{itself}
 use Rattle.text.proofs.Bases.{Digits, length-low_digits, bytes_back, bytes_one_form}
 use Rattle.numbers.specs.HighestFirst.{highest_first, number_in}
@@ -19,12 +20,7 @@ pub highest_one_form : (s : List ℕ) → Digits 256 itself s → highest_first 
 unfolding highest_first
 highest_one_form s d = bytes_one_form s d
 
--- the bytes by division
-module _ (x : ℕ) where
-  pub two_highest : highest_first 2 x ≡ (x / 256 % 256) ∷ (x % 256) ∷ []
-  unfolding highest_first
-  two_highest = rw (div-one x)
-
-  pub four_highest : highest_first 4 x ≡ (x / 16777216 % 256) ∷ (x / 65536 % 256) ∷ (x / 256 % 256) ∷ (x % 256) ∷ []
-  unfolding highest_first
-  four_highest = rw (div-one x)
+-- four bytes as std has them
+pub four_highest : (x : ℕ) → highest_first 4 x ≡ to_be_bytes w32 x
+unfolding highest_first
+four_highest x = rw (div-one x)

@@ -1,26 +1,13 @@
 // Numbers of two and four bytes, the highest first (RULES, Stored form).
-ghost use Rattle.std.specs.Prelude.{◌≡◌, ◌+◌, ◌%◌, ◌≤◌, ◌<◌, length, take, drop};
+ghost use Rattle.std.specs.Prelude.{◌≡◌, ◌+◌, ◌≤◌, length, take, drop};
 ghost use Rattle.numbers.specs.HighestFirst.{highest_first, number_in};
-
-fn wide(x: u8) -> u32
-    ensures value { result ≡ x }
-    ensures bound { result < 256 }
-{
-    x as u32
-}
-
-fn low(x: u32) -> u8
-    ensures { result ≡ x % 256 }
-{
-    (x % 256) as u8
-}
 
 /// The number of the two bytes from the place p on.
 pub fn two_at(s: &[u8], p: usize) -> u32
     requires { p + 2 ≤ length s.now }
     ensures { result ≡ number_in (take 2 (drop p s.now)) }
 {
-    wide(s[p]) * 256 + wide(s[p + 1])
+    u16::from_be_bytes([s[p], s[p + 1]]) as u32
 }
 
 /// The number of the four bytes from the place p on.
@@ -28,19 +15,22 @@ pub fn four_at(s: &[u8], p: usize) -> u32
     requires { p + 4 ≤ length s.now }
     ensures { result ≡ number_in (take 4 (drop p s.now)) }
 {
-    ((wide(s[p]) * 256 + wide(s[p + 1])) * 256 + wide(s[p + 2])) * 256 + wide(s[p + 3])
+    u32::from_be_bytes([s[p], s[p + 1], s[p + 2], s[p + 3]])
 }
 
 /// The two lowest bytes of a number.
+#[tactic(auto, unfolding(crate::specs::HighestFirst::highest_first))]
 pub fn two_bytes(x: u32) -> [u8; 2]
     ensures { result ≡ highest_first 2 x }
 {
-    [low(x / 256), low(x)]
+    let [_, _, high, low] = four_bytes(x);
+    [high, low]
 }
 
 /// The four bytes of a number.
+#[tactic(auto, using(crate::proofs::HighestFirst::four_highest))]
 pub fn four_bytes(x: u32) -> [u8; 4]
     ensures { result ≡ highest_first 4 x }
 {
-    [low(x / 16_777_216), low(x / 65_536), low(x / 256), low(x)]
+    x.to_be_bytes()
 }
