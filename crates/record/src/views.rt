@@ -85,11 +85,10 @@ impl Own {
     pub fn power(&self) -> Power
         ensures { result ≡ power_of self.now.power self.now.left }
     {
-        let left = self.left;
         match self.power {
-            WARMING => Power::WarmUp { left },
+            WARMING => Power::WarmUp { left: self.left },
             ON => Power::On,
-            COOLING => Power::Cooling { left },
+            COOLING => Power::Cooling { left: self.left },
             _ => Power::Off,
         }
     }

@@ -135,8 +135,7 @@ pub fn number_character(n: u8) -> u8
 pub fn input_text(i: Input) -> [u8; 2]
     ensures { result ≡ input_text i }
 {
-    let source = i.source;
-    [source_digit(source), number_character(i.number)]
+    [source_digit(i.source), number_character(i.number)]
 }
 
 /// The last decimal digit of a number, as a character.
