@@ -102,14 +102,9 @@ query_answer s o Inst2 = inputs_are (inputs_of s)
 
 -- a set that passes answers OK
 abbrev pub table_answer : Settings → Own → Command → Said
-table_answer s o (PowerSet wanted) = okay
-table_answer s o (InputSet i) = okay
-table_answer s o (MuteSet half wanted) = okay
 table_answer s o (Query b) = query_answer s o b
-table_answer s o (InputSet2 i) = okay
-table_answer s o (FreezeSet wanted) = okay
-table_answer s o (VolumeStep v up) = okay
 table_answer s o (NameQuery i) = text_is (input_name_of s i)
+table_answer s o c = okay
 
 abbrev pub request_answer : Settings → Own → Request → Said
 request_answer s o (Ok c) = table_answer s o c

@@ -66,12 +66,10 @@ pub fn carry_out(s: &Settings, o: &mut Own, c: Command)
 {
     match c {
         Command::PowerSet(wanted) => set_power(s, o, wanted),
-        Command::InputSet(i) => o.chosen = inputs::place_of(s, i),
+        Command::InputSet(i) | Command::InputSet2(i) => o.chosen = inputs::place_of(s, i),
         Command::MuteSet(half, wanted) => mute(o, half, wanted),
-        Command::Query(_) => (),
-        Command::InputSet2(i) => o.chosen = inputs::place_of(s, i),
         Command::FreezeSet(wanted) => o.frozen = wanted,
         Command::VolumeStep(v, up) => set_level(o, v, up),
-        Command::NameQuery(_) => (),
+        Command::Query(_) | Command::NameQuery(_) => (),
     }
 }
