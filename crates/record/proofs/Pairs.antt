@@ -1,45 +1,33 @@
--- A list tested pair by pair from its start, by a loop that never leaves early; and that inputs which are new name
--- inputs.
---   IsPaired f s k ok    the loop has passed k pairs, and ok is the answer for them
+-- A list tested pair by pair, as std cuts it; and that inputs which are new name inputs.
+--   pair_passes f p     the two elements of p pass the test f
 -- Assumes nothing.
-use Rattle.std.proofs.Common.{ℕ, ◌+◌, ◌*◌, ◌≤◌, ◌<◌, ◌≡◌, refl, sym, ap, ◌∙◌, Bool, true, ◌&&◌, List, [], ◌∷◌}
-use Rattle.std.proofs.Common.{⊎_elim, eq-or-lt_of_le, arith, length, slice_index_or, drop, drop_of_length-le, ◌==◌}
-use Rattle.std.proofs.Common.{eq-eqb, eqb-true, nat_le}
-use Rattle.text.proofs.Choices.{both_right, by_not}
+use Rattle.std.specs.List.{list_all}
+use Rattle.std.specs.Simd.{first_chunks}
+use Rattle.std.proofs.Common.{ℕ, zero, suc, ◌+◌, ◌*◌, ◌/◌, ◌%◌, ◌<◌, ◌≡◌, refl, Bool, true, ◌&&◌, List, [], ◌∷◌, arith}
+use Rattle.std.proofs.Common.{length, slice_index_or, ◌==◌, nat_le}
+use Rattle.text.proofs.Choices.{both_right}
+use Rattle.words.specs.Inputs.{is_input_text}
 use Rattle.record.specs.Rules.{each_pair, is_new_input, each_named, is_inputs}
-use Rattle.record.proofs.Places.{two_left, one_left}
 use Rattle.record.specs.Limits.{is_class_number, input_room}
 
-module _ (f : ℕ → ℕ → Bool) (s : List ℕ) where
-  abbrev each : List ℕ → Bool
-  each l = each_pair (λ a b later. f a b) l
+module _ (f : ℕ → ℕ → Bool) where
+  abbrev pub pair_passes : List ℕ → Bool
+  pair_passes p = f (slice_index_or p 0 0) (slice_index_or p 1 0)
 
-  pub record IsPaired (k : ℕ) (ok : Bool) : Type 0 where
-    pub inside : 2 * k ≤ length s
-    pub rest : each s ≡ (ok && each (drop (2 * k) s))
+  pub each_pair-first_chunks : (k r : ℕ) (s : List ℕ) → length s ≡ 2 * k + r → r < 2
+      → each_pair (λ a b later. f a b) s ≡ (list_all pair_passes (first_chunks 2 k s) && r == 0)
+  unfolding each_pair
+  each_pair-first_chunks zero r [] e h = grind arith
+  each_pair-first_chunks zero r (a ∷ []) e h = grind arith
+  each_pair-first_chunks zero r (a ∷ b ∷ s) e h = absurd (omega arith)
+  each_pair-first_chunks (suc k) r [] e h = absurd (omega arith)
+  each_pair-first_chunks (suc k) r (a ∷ []) e h = absurd (omega arith)
+  each_pair-first_chunks (suc k) r (a ∷ b ∷ s) e h = grind (arith, each_pair-first_chunks k r s (omega arith) h)
 
-  module _ {k : ℕ} {ok : Bool} (p : IsPaired k ok) where
-    pub one_paired : 2 * k + 1 < length s →
-        IsPaired (k + 1) (ok && f (slice_index_or s (2 * k) 0) (slice_index_or s (2 * k + 1) 0))
-    unfolding each_pair
-    one_paired h =
-        let x = slice_index_or s (2 * k) 0 in
-        let y = slice_index_or s (2 * k + 1) 0 in
-        let next : 2 * k + 2 ≡ 2 * (k + 1) = omega arith in
-        let here : drop (2 * k) s ≡ x ∷ y ∷ drop (2 * (k + 1)) s =
-        two_left s (2 * k) h ∙ ap (λ (n : ℕ). x ∷ y ∷ drop n s) next in
-        record {
-          inside = omega arith;
-          rest = grind (arith, p.rest, ap each here);
-        }
-
-    -- what is left is nothing, or one character without a partner
-    left : length s ≤ 2 * k + 1 → (length s == (2 * k)) ≡ each (drop (2 * k) s)
-    unfolding each_pair
-    left h = grind (arith, ⊎_elim, eq-eqb, drop_of_length-le, by_not, eqb-true, one_left, eq-or-lt_of_le)
-
-    pub all_paired : length s ≤ 2 * k + 1 → (ok && length s == (2 * k)) ≡ each s
-    all_paired h = ap (λ (b : Bool). ok && b) (left h) ∙ sym p.rest
+pub named_in_pairs : (k : ℕ) (s : List ℕ) (pairs : List (List ℕ)) → pairs ≡ first_chunks 2 (length s / 2) s
+    → each_named k s ≡ (list_all (pair_passes (is_input_text k)) pairs && length s % 2 == 0)
+unfolding each_named
+named_in_pairs k s pairs e = grind (arith, e, each_pair-first_chunks (is_input_text k) (length s / 2) (length s % 2) s)
 
 -- inputs that are new name inputs
 module _ (k : ℕ) where
