@@ -86,9 +86,7 @@ flat_lamps ls = record {
 }
 
 abbrev pub with_lamps : List LampHours → FlatReading
-with_lamps ls =
-    flat_of 0 7 0 0 (length ls) (filled_room 0 8 (map hours_of ls))
-    (filled_room false 8 (map lit_of ls)) no_characters no_bytes
+with_lamps ls = let f = flat_lamps ls in flat_of 0 7 0 0 f.count f.hours f.lit no_characters no_bytes
 
 -- two characters an input
 abbrev pub characters : List Input → List ℕ
