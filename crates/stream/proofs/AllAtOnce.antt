@@ -3,13 +3,13 @@
 -- Assumes nothing.
 use Rattle.std.proofs.Common.{ℕ, suc, ◌+◌, ◌≤◌, ◌<◌, ◌≡◌, refl, sym, ap, ◌∙◌, Bool, true, false, List, [], ◌∷◌, ⊎_elim}
 use Rattle.std.proofs.Common.{add-zero, add-one, arith, length, take, set, nat_lt, ◌==◌, le-leb, leb-true, leb-false}
-use Rattle.std.proofs.Common.{if◌then◌else◌}
+use Rattle.std.proofs.Common.{if◌then◌else◌, not}
 use Rattle.std.proofs.lemmas.Bool.{lt-leb}
 use Rattle.std.proofs.Math.Seq.{sets}
 use mathlib.Core.List.{foldl}
+use Rattle.text.specs.Scans.{index_of}
 use Rattle.text.proofs.Choices.{if_yes, if_no, if_by}
 use Rattle.text.proofs.Orders.{le_or_lt}
-use Rattle.stream.specs.Places.{index_after, index_of}
 use Rattle.record.specs.declared.types.Line.{Line}
 use Rattle.stream.specs.Collecting.{overlong_line, collected_in, collected_all}
 use Rattle.stream.specs.Machine.{UpTo, one_later, up_to}
@@ -77,12 +77,11 @@ module _ {L : Type 0} (end : ℕ) (collect : L → ℕ → L) where
 
   first : (l : L) (b : ℕ) (bs : List ℕ) (t : Bool) → up_to end collect (collect l b) bs ≡ at_once (collect l b) bs
       → (if t then at l 0 true else one_later (up_to end collect (collect l b) bs))
-      ≡ (let n = index_after t (index_of end bs) in
+      ≡ (let n = if not t then 1 + index_of end bs else 0 in
       at (foldl collect l (take n (b ∷ bs))) n (nat_lt n (suc (length bs))))
-  unfolding index_after
   first l b bs t h = grind arith
 
   pub all_at_once : (l : L) (bs : List ℕ) → up_to end collect l bs ≡ at_once l bs
-  unfolding up_to index_of index_after
+  unfolding up_to
   all_at_once l [] = refl
   all_at_once l (b ∷ bs) = first l b bs (b == end) (all_at_once (collect l b) bs)

@@ -1,4 +1,3 @@
 pub mod Machine
 pub mod Collecting
 pub mod Computing
-pub mod Places

@@ -1,12 +1,11 @@
 // Bytes taken up to the end of a line (RULES, Connection): collected, at most as many as the phase allows.
 #![tactic(auto)]
 
-ghost use Rattle.std.specs.Prelude.{◌≡◌, ◌≤◌, length};
+ghost use Rattle.std.specs.Prelude.{◌≡◌, ◌≤◌};
 ghost use Rattle.record.specs.Limits.{line_room};
 ghost use Rattle.record.specs.Legal.{held_most};
 ghost use Rattle.record.specs.Views.{phase_number};
 ghost use Rattle.stream.specs.Collecting.{collected_all, gathered_from};
-ghost use Rattle.stream.specs.Places.{index_of};
 
 use record::types::{LINE_ROOM, Line};
 use record::views::Phase;
@@ -52,21 +51,13 @@ fn collect(most: usize, l: &mut Line, more: &[u8])
     l.held = held + more.len();
 }
 
-/// The place of the first b in s, or the length of s.
-pub fn find(s: &[u8], b: u8) -> usize
-    ensures place { result ≡ index_of b s.now }
-    ensures within { result ≤ length s.now }
-{
-    s.iter().position(|x| *x == b).unwrap_or(s.len())
-}
-
 /// The bytes up to the first CR, collected as the phase allows.
 pub fn gather(phase: Phase, l: &mut Line, bytes: &[u8]) -> Passed
     ensures line { l.new ≡ (gathered_from (held_most (phase_number phase)) l.old bytes.now).line }
     ensures before { result.before ≡ (gathered_from (held_most (phase_number phase)) l.old bytes.now).before }
     ensures ended { result.ended ≡ (gathered_from (held_most (phase_number phase)) l.old bytes.now).ended }
 {
-    let before = find(bytes, b'\r');
+    let before = text::find(bytes, b'\r');
     collect(phase.held_most(), l, &bytes[0..before]);
     Passed {
         before,

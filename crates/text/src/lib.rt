@@ -1,12 +1,12 @@
-// Text in memory: put into lent bytes, and compared; and arrays of which so many places are used.
+// Text in memory: put into lent bytes, compared, and searched for a byte; and arrays of which so many places are used.
 #![tactic(auto)]
 
 pub mod numbered;
 pub mod rooms;
 
-ghost use Rattle.std.specs.Prelude.{◌≡◌, ◌+◌, ◌≤◌, length};
+ghost use Rattle.std.specs.Prelude.{◌≡◌, ◌≢◌, ◌+◌, ◌≤◌, ◌<◌, All, length, take, slice_index};
 ghost use Rattle.std.proofs.lemmas.List.Edits.{sets};
-ghost use Rattle.text.specs.Scans.{same_by, itself};
+ghost use Rattle.text.specs.Scans.{same_by, itself, index_of};
 
 /// All of `src` into `out`, from the place `at` on. A byte at a time: the compiler cannot know that two lent memories
 /// lie apart, so `copy_from_slice` would be `memmove`, which the archive does not ask a host for.
@@ -32,4 +32,14 @@ pub fn same(a: &[u8], b: &[u8]) -> bool
         }
     }
     true
+}
+
+/// The place of the first b in s, or the length of s where there is none.
+pub fn find(s: &[u8], b: u8) -> usize
+    ensures place { result ≡ index_of b s.now }
+    ensures before { All (λ x. x ≢ b) (take result s.now) }
+    ensures found { result < length s.now → slice_index s.now result ≡ b }
+    ensures within { result ≤ length s.now }
+{
+    s.iter().position(|&x| x == b).unwrap_or(s.len())
 }

@@ -1,6 +1,5 @@
 // The lines of a log, one at a time, in lent memory.
-ghost use Rattle.std.specs.Prelude.{[], ◌≡◌, ◌≢◌, ◌≤◌, ◌<◌, All, length, take, slice_index};
-ghost use Rattle.std.specs.Prelude.{OnErr, OnOk, IfOk, IfErr, IfSome};
+ghost use Rattle.std.specs.Prelude.{[], ◌≡◌, ◌≤◌, ◌<◌, length, OnErr, OnOk, IfOk, IfErr, IfSome};
 ghost use Rattle.std.specs.Io.KnownBytes.{Keeps};
 ghost use Rattle.textio.specs.Lines.{HasEndlessLine};
 ghost use Rattle.textio.specs.Ahead.{ahead_of, left_in};
@@ -31,17 +30,6 @@ enum Shown {
     End,
 }
 
-fn before_lf(bytes: &[u8]) -> usize
-    ensures bound { result ≤ length bytes.now }
-    ensures before { All (λ b. b ≢ 10) (take result bytes.now) }
-    ensures lf { result < length bytes.now → slice_index bytes.now result ≡ 10 }
-{
-    bytes
-        .iter()
-        .position(|&b| b == b'\n')
-        .unwrap_or(bytes.len())
-}
-
 // What is read ahead of a line is taken, with its LF.
 fn take_shown<R: ByteSource>(from: &mut Reader<R>, line: &mut [u8], at: usize) -> io::Result<Shown>
     requires { at ≤ length line.old }
@@ -57,7 +45,7 @@ fn take_shown<R: ByteSource>(from: &mut Reader<R>, line: &mut [u8], at: usize) -
     if count == 0 {
         return Ok(Shown::End);
     }
-    let end = before_lf(shown);
+    let end = text::find(shown, b'\n');
     let place = memory::append(line, at, &shown[..end]);
     if end < count {
         from.consume(end + 1);

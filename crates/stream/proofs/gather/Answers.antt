@@ -2,13 +2,13 @@
 use Rattle.std.proofs.Common.{◌≡◌, ℕ, ◌-◌, ap, sym, ◌∙◌, length, take, List, nat_lt}
 use Prim.Native.Char.{code}
 use Rattle.std.proofs.Math.Nat.{sub-zero}
+use Rattle.text.specs.Scans.{index_of}
 use Rattle.record.specs.Legal.{held_most}
 use Rattle.record.specs.Views.{phase_number}
 use Rattle.record.proofs.ConnectionTold.{held_most_room}
 use Rattle.record.specs.declared.types.Line.{Line}
 use Rattle.stream.specs.Collecting.{Gathered}
 use Rattle.stream.specs.Collecting.{line_after, collected_all, gathered_from}
-use Rattle.stream.specs.Places.{index_of}
 use Rattle.stream.proofs.AllAtOnce.{all_at_once}
 use Rattle.stream.proofs.gather.Goals as goal
 
