@@ -1,18 +1,17 @@
 -- One line of a log that is watched, by what the functions that play it give.
 -- Assumes nothing.
-use Rattle.std.proofs.Common.{ℕ, ◌+◌, ◌-◌, ◌^◌, ◌<◌, ◌≡◌, ap, ◌∙◌, Bool, true, List, [], arith, slice_index_or}
+use Rattle.std.proofs.Common.{ℕ, ◌+◌, ◌-◌, ◌≡◌, ap, ◌∙◌, Bool, true, not, ◌&&◌, List, [], arith, nat_lt}
 use Rattle.std.proofs.Common.{if◌then◌else◌, Option}
 use Rattle.record.specs.declared.types.Device.{Device}
 use Rattle.floorlog.specs.declared.line.Says.{Says}
 use Rattle.floorlog.specs.Lines.{line_said}
 use Rattle.floorlog.specs.Events.{event, event_of}
 use Rattle.floorlog.proofs.KeptText.{event_said}
-use Rattle.watch.specs.declared.light.Light.{Light}
 use Rattle.watch.specs.Marking.{mark_said, event_by, floor_event, done_by, seconds_by}
 use Rattle.watch.specs.Watching.{Watching, is_burning_in, gained_by, watched_on, is_sound}
-use Rattle.watch.specs.States.{light_of, IsWatched}
+use Rattle.watch.specs.States.{IsWatched}
 use Rattle.floorlog.specs.Told.{seconds_of}
-use Rattle.watch.proofs.Sound.{sound_after, burnt_fits}
+use Rattle.watch.proofs.Sound.{sound_after}
 
 -- the seconds of a line, whatever its text
 seconds_of-event_of : (s : Says) (bs : List ℕ) → seconds_of (event_of s []) ≡ seconds_of (event_of s bs)
@@ -31,32 +30,19 @@ module _ (l : List ℕ) {mark : Option (ℕ × Bool)} (m : mark ≡ mark_said l)
     pub left_is : d ≡ done_by s.device (floor_event l)
     left_is = done ∙ ap (done_by s.device) event_is
 
-    module _ {t n : ℕ} (seconds : n ≡ seconds_by (floor_event l)) (timed : t ≡ s.time + n) {was is : Bool}
-        (before : was ≡ is_burning_in s.device) (past : is ≡ is_burning_in d) {light : Light}
-        (lit : light ≡ light_of was is t s.from) {burnt : List ℕ}
-        (gained : burnt ≡ (if light.dark then gained_by d (t - s.from) s.burnt else s.burnt)) where
+    module _ {t n : ℕ} (seconds : n ≡ seconds_by (floor_event l)) (timed : t ≡ s.time + n) {was : Bool}
+        (before : was ≡ is_burning_in s.device) {from : ℕ}
+        (begun : from ≡ (if not was && is_burning_in d then t else s.from)) {burnt : List ℕ}
+        (gained : burnt ≡ (if was && not (is_burning_in d) then gained_by d (t - s.from) s.burnt else s.burnt)) where
       abbrev after : Watching
-      after = record { device = d; time = t; from = light.from; burnt = burnt }
-
-      abbrev as_light : Light → Watching
-      as_light x = record {
-        device = d;
-        time = t;
-        from = x.from;
-        burnt = if x.dark then gained_by d (t - s.from) s.burnt else s.burnt;
-      }
+      after = record { device = d; time = t; from = from; burnt = burnt }
 
       pub watched_is : after ≡ watched_on s (floor_event l)
       watched_is = grind (arith, left_is)
 
-      pub line_watched : IsWatched s (floor_event l) after light.told
-      line_watched = grind (arith, watched_is)
+      pub line_watched : {told : Bool} → told ≡ ((was && not (is_burning_in d)) && nat_lt from t)
+          → IsWatched s (floor_event l) after told
+      line_watched e = grind (arith, watched_is)
 
       pub stays_sound : is_sound s ≡ true → is_sound after ≡ true
       stays_sound sound = grind (arith, watched_is, sound_after)
-
-    -- the lamps burn no longer
-    pub can_gain : is_sound s ≡ true → {t : ℕ} (n : ℕ) → t ≡ s.time + n → t < 2 ^ 64 → {was : Bool} (is : Bool)
-        → was ≡ is_burning_in s.device → {light : Light} → light ≡ light_of was is t s.from → light.dark ≡ true
-        → (k : ℕ) → slice_index_or s.burnt k 0 + (t - s.from) < 2 ^ 64
-    can_gain sound {t} n timed fits is before lit dark = grind (arith, burnt_fits)

@@ -1,18 +1,11 @@
 -- The state of a `Watch`, and what a line does to it.
---   light_of was is t from  what it does to the light, by whether the lamps burnt before it and burn after it
 --   state_of w              the state
 --   IsWatched s e after t   the event e leaves `after` of the state s; t says whether it ended stretches
 -- Assumes nothing.
-use Rattle.std.specs.Prelude.{ℕ, ◌≡◌, Bool, not, ◌&&◌, if◌then◌else◌, nat_lt}
-use Rattle.watch.specs.declared.light.Light.{Light}
+use Rattle.std.specs.Prelude.{◌≡◌, Bool, ◌&&◌}
 use Rattle.watch.specs.declared.Watch.{Watch}
 use Rattle.watch.specs.Marking.{FloorEvent}
 use Rattle.watch.specs.Watching.{Watching, watched_on, dark_with, is_long}
-
-abbrev pub light_of : Bool → Bool → ℕ → ℕ → Light
-light_of was is time from =
-    let since = if not was && is then time else from in
-    record { dark = was && not is; from = since; told = was && not is && nat_lt since time }
 
 abbrev pub state_of : Watch → Watching
 state_of w = record { device = w.tested.device; time = w.time; from = w.from; burnt = w.burnt }

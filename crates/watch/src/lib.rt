@@ -2,11 +2,11 @@
 //! plays, and `M`, which sets or clears a lamp's mark.
 #![tactic(auto)]
 
-mod light;
 mod marking;
 
-ghost use Rattle.std.specs.Prelude.{◌≡◌, true};
-ghost use Rattle.watch.specs.Watching.{is_burning_in, is_sound};
+ghost use Rattle.std.specs.Prelude.{◌≡◌, true, not, ◌&&◌, nat_lt, if◌then◌else◌};
+ghost use Rattle.std.specs.Prelude.{ℕ, ◌+◌, ◌-◌, ◌^◌, ◌<◌, ◌≤◌, slice_index_or};
+ghost use Rattle.watch.specs.Watching.{is_burning_in, gained_by, is_sound};
 
 use floorlog::kept::KeptLine;
 use floorlog::line;
@@ -31,8 +31,50 @@ fn is_burning_in(device: &Device) -> bool
     device.own.power().is_burning()
 }
 
+// Each lamp whose mark is set burnt n seconds more.
+fn burn(burnt: &mut [u64; LAMPS_MOST], device: &Device, n: u64)
+    requires { (k : ℕ) → slice_index_or burnt.old k 0 + n < 2 ^ 64 }
+    ensures { burnt.new ≡ gained_by device.now n burnt.old }
+{
+    for k in 0..device.settings.lamp_count.min(LAMPS_MOST) {
+        let is_enabled = device.own.enabled[k];
+        if is_enabled {
+            burnt[k] += n;
+        }
+    }
+}
+
+// Moves the light on to that time, at which the device was left as it is: where the lamps begin to burn, they burn from
+// then on; where they end, those whose marks are set burnt from `from` to then, and it tells whether that is any time.
+fn follow(
+    from: &mut u64,
+    burnt: &mut [u64; LAMPS_MOST],
+    was: bool,
+    device: &Device,
+    time: u64,
+) -> bool
+    requires begun { from.old ≤ time }
+    requires fits { was ≡ true → (k : ℕ) → slice_index_or burnt.old k 0 + (time - from.old) < 2 ^ 64 }
+    ensures from { from.new ≡ (if not was && is_burning_in device.now then time else from.old) }
+    ensures burnt { burnt.new ≡ (if was && not (is_burning_in device.now)
+        then gained_by device.now (time - from.old) burnt.old else burnt.old) }
+    ensures told { result ≡ ((was && not (is_burning_in device.now)) && nat_lt from.new time) }
+{
+    match (was, is_burning_in(device)) {
+        (false, true) => {
+            *from = time;
+            false
+        }
+        (true, false) => {
+            burn(burnt, device, time - *from);
+            *from < time
+        }
+        _ => false,
+    }
+}
+
 impl Watch {
-    ghost use Rattle.std.specs.Prelude.{◌+◌, ◌&&◌, ◌^◌, ◌≤◌, IfSome, None};
+    ghost use Rattle.std.specs.Prelude.{IfSome, None};
     ghost use Rattle.floorlog.specs.KeptText.{kept_text};
     ghost use Rattle.floorlog.specs.Told.{Drives};
     ghost use Rattle.watch.specs.Marking.{floor_event, seconds_by};
@@ -69,19 +111,14 @@ impl Watch {
         };
         let was = is_burning_in(&self.tested.device);
         marking::end_line(&mut self.tested, mark, says, line);
-        let is = is_burning_in(&self.tested.device);
-        let next = light::light_after(was, is, time, self.from);
-        let burnt = light::gained_if(
-            next.dark,
-            self.burnt,
-            self.tested.device.own.enabled,
-            self.tested.device.settings.lamp_count,
-            time - self.from,
-        );
         self.time = time;
-        self.from = next.from;
-        self.burnt = burnt;
-        Some(next.told)
+        Some(follow(
+            &mut self.from,
+            &mut self.burnt,
+            was,
+            &self.tested.device,
+            time,
+        ))
     }
 
     /// The record as the lines left it.
@@ -116,12 +153,10 @@ impl Watch {
     pub fn burnt(&self) -> [u64; LAMPS_MOST]
         ensures { result ≡ burnt_by (state_of self.now) }
     {
-        light::gained_if(
-            is_burning_in(&self.tested.device),
-            self.burnt,
-            self.tested.device.own.enabled,
-            self.tested.device.settings.lamp_count,
-            self.time - self.from,
-        )
+        let mut burnt = self.burnt;
+        if is_burning_in(&self.tested.device) {
+            burn(&mut burnt, &self.tested.device, self.time - self.from);
+        }
+        burnt
     }
 }

@@ -7,7 +7,8 @@ use Rattle.watch.proofs.Watch.burnt.Goals as goal
 pub overflow_sub-self : goal.overflow_sub-self
 overflow_sub-self c = sound_from (state_of c.args.self.now) c.args.self.now.sound
 
-pub gained_if-requires : goal.gained_if-requires
-gained_if-requires c =
+pub burn-requires : goal.burn-requires
+burn-requires c =
     let s = state_of c.args.self.now in
-    λ lit. burnt_fits s c.args.self.now.sound (sym c.is_burning_in.ensures ∙ lit) s.time (omega arith) (omega arith)
+    burnt_fits s c.args.self.now.sound (sym c.is_burning_in.ensures ∙ c.if-is_burning_in.true) s.time (omega arith)
+    (omega arith)

@@ -1,0 +1,25 @@
+use Rattle.std.proofs.Common.{List, ℕ, ◌+◌, sym, subst, arith}
+use Rattle.watch.proofs.Lamps.{GainedTo, none_gained, still, all_gained, one_gains, one_rests}
+use Rattle.watch.proofs.burn.Goals.{then-is_enabled, else-is_enabled}
+use Rattle.watch.proofs.burn.Goals as goal
+
+pub overflow_add-burnt : goal.overflow_add-burnt
+overflow_add-burnt c = omega (arith, still _ _ _ _ c.loop-k.invariant, c.requires c.loop-k.k)
+
+pub loop-k-init : goal.loop-k-init
+loop-k-init c = none_gained _ _ _ _
+
+pub loop-k-preserved : goal.loop-k-preserved
+loop-k-preserved c =
+    let d = c.args.device.now in
+    let Next : List ℕ → Type 0 =
+    λ b. GainedTo c.args.n c.args.burnt.now d.own.enabled d.settings.lamp_count b (c.loop-k.k + 1) in
+    elim c.if-is_enabled.branch [
+      | then-is_enabled w ↦ subst Next (sym w.burnt-is)
+          (one_gains _ _ _ _ c.loop-k.invariant (omega arith) (omega arith) (omega arith) w.if-is_enabled.true)
+      | else-is_enabled w ↦ subst Next (sym w.burnt-is)
+          (one_rests _ _ _ _ c.loop-k.invariant (omega arith) (omega arith) (omega arith) w.if-is_enabled.false)
+    ]
+
+pub returns : goal.returns
+returns c = all_gained _ _ _ _ c.loop-k.invariant (omega (arith, c.loop-k-test.false, c.loop-k.auto.k-end))
