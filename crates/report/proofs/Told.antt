@@ -5,15 +5,11 @@ use Rattle.std.specs.List.{flat_map, range_with_len}
 use Rattle.textio.specs.Forms.{form_filled}
 use Rattle.textio.proofs.FormsFilled.{form_filled_none, form_filled_next}
 use Rattle.numbers.specs.Decimal.{long_digits}
-use Rattle.report.specs.LampLines.{stretch_line, stretch_lines, total_line}
+use Rattle.report.specs.LampLines.{stretch_line, stretch_lines}
 
 joined : (a x b y c z n : List ℕ)
     → (((a ++ x) ++ (b ++ y)) ++ (c ++ z)) ++ n ≡ a ++ (x ++ (b ++ (y ++ (c ++ (z ++ n)))))
 joined a x b y c z n = simp append_assoc refl
-
-joined_more : (a x b y c z d w n : List ℕ) → ((((a ++ x) ++ (b ++ y)) ++ (c ++ z)) ++ (d ++ w)) ++ n
-    ≡ a ++ (x ++ (b ++ (y ++ (c ++ (z ++ (d ++ (w ++ n)))))))
-joined_more a x b y c z d w n = simp append_assoc refl
 
 pub stretch_filled : (lamp from to : ℕ)
     → form_filled (codes "lamp # from # to #\n") (lamp ∷ from ∷ to ∷ []) ≡ stretch_line lamp from to
@@ -21,14 +17,6 @@ unfolding stretch_line
 stretch_filled lamp from to = simp (form_filled_next, form_filled_none)
     (sym (joined (codes "lamp ") (long_digits lamp) (codes " from ") (long_digits from) (codes " to ")
     (long_digits to) (codes "\n")))
-
-pub total_filled : (lamp start burnt last : ℕ)
-    → form_filled (codes "lamp # start # burnt # now #\n") (lamp ∷ start ∷ burnt ∷ last ∷ [])
-    ≡ total_line lamp start burnt last
-unfolding total_line
-total_filled lamp start burnt last = simp (form_filled_next, form_filled_none)
-    (sym (joined_more (codes "lamp ") (long_digits lamp) (codes " start ") (long_digits start) (codes " burnt ")
-    (long_digits burnt) (codes " now ") (long_digits last) (codes "\n")))
 
 abbrev pub line_if : Bool → ℕ → ℕ → ℕ → List ℕ
 line_if is_lit from to k = if is_lit then stretch_line (k + 1) from to else []

@@ -1,14 +1,12 @@
 -- What stands around the days of a page (RULES, Floor log): "one HTML document with no script in it".
 --   head         the document's head, title and a line of help
 --   hours        "the hours 0 to 24 along the top"
---   total_at starts burnt lasts k     "each lamp's seconds at the start, burnt, and now", of the lamp at place k
---   table n starts burnt lasts        the same of n lamps
+--   table n starts burnt lasts        "each lamp's seconds at the start, burnt, and now", of n lamps
 --   page_begun       what stands above the rows
 --   page_ended rows seconds n ..    the rows up to the end of a log of so many seconds, and what stands below them
 -- Assumes nothing.
-use Rattle.std.specs.Prelude.{ℕ, ◌+◌, List, [], ◌∷◌, ◌++◌, codes, slice_index_or}
-use Rattle.std.specs.List.{flat_map, range_with_len}
-use Rattle.textio.specs.Forms.{form_filled}
+use Rattle.std.specs.Prelude.{ℕ, List, ◌++◌, codes}
+use Rattle.report.specs.LampLines.{totals_filled}
 use Rattle.report.specs.Days.{days_of, rows_opened, row_ended}
 
 unfoldable pub head : List ℕ
@@ -38,19 +36,16 @@ hours = codes "<svg viewBox=\"0 0 1100 16\" role=\"img\" aria-label=\"hours of t
     ++ (codes "<text y=\"12\" x=\"810\">18</text><text y=\"12\" x=\"890\">20</text><text y=\"12\" x=\"970\">22</text>"
     ++ codes "<text y=\"12\" x=\"1050\">24</text></g></svg>\n"))))
 
-unfoldable pub total_at : List ℕ → List ℕ → List ℕ → ℕ → List ℕ
-total_at starts burnt lasts k = form_filled (codes "<tr><th>#</th><td>#</td><td>#</td><td>#</td></tr>\n")
-    ((k + 1) ∷ slice_index_or starts k 0 ∷ slice_index_or burnt k 0 ∷ slice_index_or lasts k 0 ∷ [])
-
-unfoldable pub totals : ℕ → List ℕ → List ℕ → List ℕ → List ℕ
-totals lamps starts burnt lasts = flat_map (total_at starts burnt lasts) (range_with_len 0 lamps)
-
 abbrev pub table_begun : List ℕ
 table_begun = codes "<table><caption>Seconds of each lamp</caption>"
     ++ codes "<tr><th>lamp</th><th>at the start</th><th>burnt</th><th>now</th></tr>\n"
 
+-- the row of a lamp
+abbrev pub table_row : List ℕ
+table_row = codes "<tr><th>#</th><td>#</td><td>#</td><td>#</td></tr>\n"
+
 unfoldable pub table : ℕ → List ℕ → List ℕ → List ℕ → List ℕ
-table lamps starts burnt lasts = table_begun ++ (totals lamps starts burnt lasts ++ codes "</table>\n")
+table lamps starts burnt lasts = table_begun ++ (totals_filled table_row lamps starts burnt lasts ++ codes "</table>\n")
 
 unfoldable pub page_begun : List ℕ
 page_begun = head ++ hours

@@ -1,11 +1,10 @@
 // What stands around the rows of the days: the head and the hours above them, the table of totals below.
-ghost use Rattle.std.specs.Prelude.{◌<◌, ◌≤◌};
+ghost use Rattle.std.specs.Prelude.{◌≤◌};
 ghost use Rattle.textio.specs.Fronts.{WritesText};
-ghost use Rattle.report.specs.Frame.{head, hours, total_at, totals, table};
+ghost use Rattle.report.specs.Frame.{head, hours, table};
 
-use crate::lamps::Totals;
+use crate::lamps::{Totals, fill_totals};
 use std::io;
-use textio::forms::fill;
 use textio::writer::{ByteSink, put};
 
 /// The document's head, its title and a line of help.
@@ -49,35 +48,6 @@ pub fn put_hours<W: ByteSink>(out: &mut W) -> io::Result<()>
     )
 }
 
-// The row of the lamp at place k.
-fn put_total<W: ByteSink>(out: &mut W, t: Totals, k: usize) -> io::Result<()>
-    requires { k < 8 }
-    ensures { WritesText W.fails_with (W.contents out.old) (W.contents out.new) result
-        (total_at t.starts t.burnt t.lasts k) }
-{
-    fill(
-        out,
-        "<tr><th>#</th><td>#</td><td>#</td><td>#</td></tr>\n",
-        &[
-            k as u64 + 1,
-            t.starts[k] as u64,
-            t.burnt[k],
-            t.lasts[k] as u64,
-        ],
-    )
-}
-
-fn put_totals<W: ByteSink>(out: &mut W, t: Totals) -> io::Result<()>
-    requires { t.count ≤ 8 }
-    ensures { WritesText W.fails_with (W.contents out.old) (W.contents out.new) result
-        (totals t.count t.starts t.burnt t.lasts) }
-{
-    for k in 0..t.count {
-        put_total(out, t, k)?;
-    }
-    Ok(())
-}
-
 /// The table of totals: the row of each lamp.
 pub fn put_table<W: ByteSink>(out: &mut W, t: Totals) -> io::Result<()>
     requires { t.count ≤ 8 }
@@ -89,6 +59,10 @@ pub fn put_table<W: ByteSink>(out: &mut W, t: Totals) -> io::Result<()>
         b"<table><caption>Seconds of each lamp</caption>\
         <tr><th>lamp</th><th>at the start</th><th>burnt</th><th>now</th></tr>\n",
     )?;
-    put_totals(out, t)?;
+    fill_totals(
+        out,
+        "<tr><th>#</th><td>#</td><td>#</td><td>#</td></tr>\n",
+        t,
+    )?;
     put(out, b"</table>\n")
 }
