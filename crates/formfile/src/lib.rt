@@ -2,9 +2,9 @@
 // an argument names.
 #![tactic(auto)]
 
-ghost use Rattle.std.specs.Prelude.{[], ◌≡◌, ℕ, List, take, IfOk, OnOk, IfSome};
+ghost use Rattle.std.specs.Prelude.{[], ◌≡◌, ℕ, List, take, OnOk, IfSome};
 ghost use Rattle.textio.specs.Fronts.{WritesText};
-ghost use Rattle.formfile.specs.Begun.{IsBegun, form_room, IsBegunBy, unbegun_text};
+ghost use Rattle.formfile.specs.Begun.{IsBegun, form_room, IsBegunBy, IsReadBy, unbegun_text};
 
 use floorlog::cut;
 use record::types::Device;
@@ -23,12 +23,22 @@ use textio::writer::ByteSink;
 const ROOM: u64 = 68867;
 
 /// Why there is no device to begin with.
-#[derive(Clone, Copy)]
+#[derive(Drop)]
 pub enum NotBegun {
     /// The file could not be read to its end.
-    Unread,
+    Unread(Error),
     /// The form does not load.
     Refused(LoadError),
+}
+
+impl From<Error> for NotBegun {
+    ghost use Rattle.formfile.specs.declared.NotBegun.TheVariants.{Unread};
+
+    ghost from_gives = { λ error why. why ≡ Unread error };
+
+    fn from(error: Error) -> NotBegun {
+        NotBegun::Unread(error)
+    }
 }
 
 // By as many bytes of a form as are read.
@@ -44,29 +54,29 @@ fn loaded(bytes: &[u8]) -> Result<Device, NotBegun>
 }
 
 // By what a reader has left.
-fn read_from<R: Read + Drop>(mut from: R, alloc: Global) -> io::Result<Result<Device, NotBegun>>
-    ensures begun { IfOk result IsBegun }
-    ensures by_form { IfOk result (λ begun. IfSome (R.remaining from) (λ form. IsBegunBy form begun)) }
+fn read_from<R: Read + Drop>(mut from: R, alloc: Global) -> Result<Device, NotBegun>
+    ensures begun { IsBegun result }
+    ensures by_form { IfSome (R.remaining from) (λ form. IsReadBy form result) }
 {
     let mut bytes = Vec::new(alloc);
     (&mut from).take(ROOM).read_to_end(&mut bytes)?;
     // a read that fails where these bytes end is told too
     let mut more = [0u8; 1];
     from.read(&mut more)?;
-    Ok(loaded(&bytes))
+    loaded(&bytes)
 }
 
-fn of_file(rt: &HostRuntime, path: &str) -> io::Result<Result<Device, NotBegun>>
-    ensures { IfOk result IsBegun }
+fn of_file(rt: &HostRuntime, path: &str) -> Result<Device, NotBegun>
+    ensures { IsBegun result }
 {
     read_from(File::open(rt, path)?, rt.alloc())
 }
 
-fn by_argument(rt: &HostRuntime, place: usize) -> io::Result<Result<Device, NotBegun>>
-    ensures { IfOk result IsBegun }
+fn by_argument(rt: &HostRuntime, place: usize) -> Result<Device, NotBegun>
+    ensures { IsBegun result }
 {
     match env::args(rt)?.nth(place) {
-        None => Ok(Ok(floorlog::sample())),
+        None => Ok(floorlog::sample()),
         Some(path) => of_file(rt, path.as_str()),
     }
 }
@@ -76,13 +86,11 @@ fn by_argument(rt: &HostRuntime, place: usize) -> io::Result<Result<Device, NotB
 pub fn begun_by(rt: &HostRuntime, place: usize) -> Result<Device, NotBegun>
     ensures { IsBegun result }
 {
-    match by_argument(rt, place) {
-        Ok(begun) => begun,
-        Err(error) => {
-            let _told = eprintln!(rt; "form: {error}").is_ok();
-            Err(NotBegun::Unread)
-        }
+    let begun = by_argument(rt, place);
+    if let Err(NotBegun::Unread(error)) = &begun {
+        let _told = eprintln!(rt; "form: {error}").is_ok();
     }
+    begun
 }
 
 /// What is told in the place of what a log comes to, and all that waits is handed on: that the form cannot be read, or
@@ -92,7 +100,7 @@ pub fn tell<W: ByteSink>(why: NotBegun, to: &mut W) -> io::Result<()>
     ensures none_waits { OnOk result (W.waiting to.new ≡ []) }
 {
     match why {
-        NotBegun::Unread => cut::end_output(Err(Failure::Read(Error::other("no form"))), to),
+        NotBegun::Unread(error) => cut::end_output(Err(Failure::Read(error)), to),
         NotBegun::Refused(error) => cut::tell_number(to, error.number()),
     }
 }
