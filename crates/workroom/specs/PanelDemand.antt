@@ -1,9 +1,9 @@
 -- What RULES, Panel asks of a panel's step, sentence by sentence, over any panel: on a legal panel, for a projector
--- that it has, whatever line comes. Which lines are late, foreign or malformed is `IsStray` of panel/specs/StepTable, by
--- the reader's own numbers; what a line says is what the readers take from it.
+-- that it has, whatever line comes. Which lines are late, foreign or malformed is `IsStray` of panel/specs/StepTable,
+-- by the reader's own numbers; what a line says is what the readers take from it.
 -- TO BELIEVE IT, believe, and nothing else: the readers (controller/specs/Reading, pjlink/specs/Greetings), the codes
--- (codes/specs/Commands), an entry's parts and what is shown (panel/specs: Entries, Showing), `IsUnderWay` and `IsStray`
--- (panel/specs/StepTable), a legal panel (panel/specs/LegalPanels); here AnyPanel.
+-- (codes/specs/Commands), an entry's parts and what is shown (panel/specs: Entries, Showing), `IsUnderWay` and
+-- `IsStray` (panel/specs/StepTable), a legal panel (panel/specs/LegalPanels); here AnyPanel.
 --   IsServed p i       the panel is legal and has the projector i
 --   OnlyCounted e f    e and f differ in the count of strays alone, which is one more, or has stopped
 --   EndedBy e m f      the command is ended, and m is shown
