@@ -47,11 +47,13 @@ impl FlatVerdict {
             second,
         }
     }
+}
 
-    /// The verdict in numbers.
-    pub fn of(verdict: Result<(), CheckError>) -> FlatVerdict
-        ensures { result ≡ flat_verdict verdict }
-    {
+/// The verdict in numbers.
+impl From<Result<(), CheckError>> for FlatVerdict {
+    ghost from_gives = { λ verdict flat. flat ≡ flat_verdict verdict };
+
+    fn from(verdict: Result<(), CheckError>) -> FlatVerdict {
         match verdict {
             Ok(()) => FlatVerdict::broken(0, 0, 0),
             Err(CheckError::OutOfRange) => FlatVerdict {
@@ -68,11 +70,11 @@ impl FlatVerdict {
     }
 }
 
-impl FlatPlan {
-    /// The planner's answer in numbers; the rigs are in the list that the call was lent.
-    pub fn of(answer: Result<(), PlanError>) -> FlatPlan
-        ensures { result ≡ flat_plan answer }
-    {
+/// The planner's answer in numbers; the rigs are in the list that the call was lent.
+impl From<Result<(), PlanError>> for FlatPlan {
+    ghost from_gives = { λ answer flat. flat ≡ flat_plan answer };
+
+    fn from(answer: Result<(), PlanError>) -> FlatPlan {
         match answer {
             Ok(()) => FlatPlan {
                 number: 0,
@@ -153,7 +155,7 @@ pub extern "C" fn pj_check_day(
         cool,
         life,
     };
-    FlatVerdict::of(lists.check(rigs))
+    FlatVerdict::from(lists.check(rigs))
 }
 
 // The rigs of a plan, over the start of `out`.
@@ -190,8 +192,8 @@ pub extern "C" fn pj_plan_day(
     match lists.plan(out.len()) {
         Ok(plan) => {
             put_rigs_of(plan.placements(), out);
-            FlatPlan::of(Ok(()))
+            FlatPlan::from(Ok(()))
         }
-        Err(error) => FlatPlan::of(Err(error)),
+        Err(error) => FlatPlan::from(Err(error)),
     }
 }

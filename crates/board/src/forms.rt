@@ -19,7 +19,7 @@ pub extern "C" fn pj_store_in_place(device: &Device, out: &mut [u8]) -> Written
     ensures says { result ≡ writing_of (told_written (stored_by device.now (length out.old))) }
     ensures written { out.new ≡ over (stored_by device.now (length out.old)).bytes out.old }
 {
-    Written::of(storing::store(device, out))
+    Written::from(storing::store(device, out))
 }
 
 /// The same, of a record that is given by value.
@@ -28,7 +28,7 @@ pub extern "C" fn pj_store(d: Device, out: &mut [u8]) -> Written
     ensures says { result ≡ writing_of (told_written (stored_by d (length out.old))) }
     ensures written { out.new ≡ over (stored_by d (length out.old)).bytes out.old }
 {
-    Written::of(storing::store(&d, out))
+    Written::from(storing::store(&d, out))
 }
 
 /// The device that the form is of, into the record; the blank one where it is refused, with 20 to 23.

@@ -28,11 +28,13 @@ impl Report {
             place: 0,
         }
     }
+}
 
-    /// The answer in numbers; the differences are in the list that the call was lent.
-    pub fn of(answer: Result<Option<usize>, CompareError>) -> Report
-        ensures { result ≡ report_of answer }
-    {
+/// The answer in numbers; the differences are in the list that the call was lent.
+impl From<Result<Option<usize>, CompareError>> for Report {
+    ghost from_gives = { λ answer report. report ≡ report_of answer };
+
+    fn from(answer: Result<Option<usize>, CompareError>) -> Report {
         match answer {
             Ok(None) => Report {
                 number: 0,
@@ -59,9 +61,9 @@ pub extern "C" fn pj_compare_lamps(earlier: &[u32], later: &[u32], out: &mut [i6
     }
     // no room below for so many
     if TABLE_MOST < earlier.len() {
-        return Report::of(Err(CompareError::TooMany));
+        return Report::from(Err(CompareError::TooMany));
     }
     let mut readings = [lists::NO_READING; TABLE_MOST];
     lists::put_readings(earlier, later, &mut readings);
-    Report::of(service::compare(&readings[..earlier.len()], out))
+    Report::from(service::compare(&readings[..earlier.len()], out))
 }

@@ -136,7 +136,7 @@ pub extern "C" fn pj_open_in_place(device: &mut Device, random: u32, out: &mut [
     ensures reply { out.new ≡ over (opened_by device.old random (length out.old)).reply
         out.old }
 {
-    Opening::of(calls::open(device, random, out))
+    Opening::from(calls::open(device, random, out))
 }
 
 /// The connection at a place closed: 1, 3 and 4 in that order.
@@ -162,7 +162,7 @@ pub extern "C" fn pj_receive_in_place(
     ensures reply { out.new ≡ over (received_at device.old place bytes.now (length out.old)).reply
         out.old }
 {
-    Receiving::of(calls::receive(device, place, bytes, out))
+    Receiving::from(calls::receive(device, place, bytes, out))
 }
 
 /// The fault mark: 1.

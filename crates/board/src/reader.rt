@@ -15,7 +15,7 @@ use pjlink::greeting::Greeting;
 pub extern "C" fn pj_read_greeting(line: &[u8]) -> FlatGreeting
     ensures { result ≡ flat_greeting (read_greeting line.now) }
 {
-    FlatGreeting::of(Greeting::read(line))
+    FlatGreeting::from(Greeting::read(line))
 }
 
 /// What a reply to the command says; what is no command is 3 at once.

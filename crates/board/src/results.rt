@@ -93,11 +93,11 @@ pub struct Changed {
     pub device: Device,
 }
 
-impl Receiving {
-    /// The outcome of receiving in numbers; of a refusal its number, and all else 0.
-    pub fn of(outcome: Result<calls::Received, Refusal>) -> Receiving
-        ensures { result ≡ receiving_of (receiving_told outcome) }
-    {
+/// The outcome of receiving in numbers; of a refusal its number, and all else 0.
+impl From<Result<calls::Received, Refusal>> for Receiving {
+    ghost from_gives = { λ outcome told. told ≡ receiving_of (receiving_told outcome) };
+
+    fn from(outcome: Result<calls::Received, Refusal>) -> Receiving {
         match outcome {
             Ok(received) => Receiving {
                 number: 0,
@@ -113,11 +113,11 @@ impl Receiving {
     }
 }
 
-impl Opening {
-    /// The outcome of opening in numbers; of a refusal its number, and all else 0.
-    pub fn of(outcome: Result<calls::Opened, Refusal>) -> Opening
-        ensures { result ≡ opening_of (opening_told outcome) (opened_place outcome) }
-    {
+/// The outcome of opening in numbers; of a refusal its number, and all else 0.
+impl From<Result<calls::Opened, Refusal>> for Opening {
+    ghost from_gives = { λ outcome told. told ≡ opening_of (opening_told outcome) (opened_place outcome) };
+
+    fn from(outcome: Result<calls::Opened, Refusal>) -> Opening {
         match outcome {
             Ok(opened) => Opening {
                 number: 0,

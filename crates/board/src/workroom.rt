@@ -45,7 +45,7 @@ pub extern "C" fn pj_panel_command(
         out.old }
 {
     let mut panel = p;
-    let Written { number, length } = Written::of(panel.send(projector, k, out));
+    let Written { number, length } = Written::from(panel.send(projector, k, out));
     PanelSent {
         number,
         length,

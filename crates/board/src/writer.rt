@@ -21,11 +21,11 @@ pub struct Written {
     pub length: usize,
 }
 
-impl Written {
-    /// In numbers what a call gives that writes so many bytes, or refuses.
-    pub fn of<E: Numbered>(outcome: Result<usize, E>) -> Written
-        ensures { result ≡ writing_of (written_told E.number outcome) }
-    {
+/// In numbers what a call gives that writes so many bytes, or refuses.
+impl<E: Numbered> From<Result<usize, E>> for Written {
+    ghost from_gives = { λ outcome told. told ≡ writing_of (written_told E.number outcome) };
+
+    fn from(outcome: Result<usize, E>) -> Written {
         match outcome {
             Ok(length) => Written { number: 0, length },
             Err(refusal) => Written {
@@ -41,9 +41,9 @@ fn none_written(room: usize) -> Written
     ensures { result ≡ writing_of (told_written (none_written room)) }
 {
     if room < COMMAND_ROOM {
-        return Written::of(Err(Unwritten::NoRoom));
+        return Written::from(Err(Unwritten::NoRoom));
     }
-    Written::of(Err(Unwritten::OutOfRange))
+    Written::from(Err(Unwritten::OutOfRange))
 }
 
 /// The line of a command: 2, then 3, also for what is no command.
@@ -61,7 +61,7 @@ pub extern "C" fn pj_write(
         (length out.old)).bytes out.old }
 {
     match k.command() {
-        Some(command) => Written::of(writing::write_command(
+        Some(command) => Written::from(writing::write_command(
             command, secured, random, password, out,
         )),
         None => none_written(out.len()),

@@ -89,11 +89,11 @@ fn bit(on: bool) -> u8
     if on { 1 } else { 0 }
 }
 
-impl FlatGreeting {
-    /// The greeting by its kind: 1 open, 2 secured with its random number, 3 refused; else the number 10.
-    pub fn of(greeting: Option<Greeting>) -> FlatGreeting
-        ensures { result ≡ flat_greeting greeting }
-    {
+/// The greeting by its kind: 1 open, 2 secured with its random number, 3 refused; else the number 10.
+impl From<Option<Greeting>> for FlatGreeting {
+    ghost from_gives = { λ greeting flat. flat ≡ flat_greeting greeting };
+
+    fn from(greeting: Option<Greeting>) -> FlatGreeting {
         let (number, kind, random) = match greeting {
             Some(Greeting::Open) => (0, 1, 0),
             Some(Greeting::Secured(random)) => (0, 2, random),

@@ -14,6 +14,6 @@ returns-then-earlier-gt-TABLE_MOST c =
       (
         Err TooMany,
         record { told = omega (arith, long, c.if-earlier-gt-TABLE_MOST.true); written = tt; kept = refl },
-        c.of.ensures,
+        c.from.ensures,
       ),
     )
