@@ -87,7 +87,7 @@ impl Observer for Teller {
     ghost overflows = { λ t ls. 2 ^ 64 ≤ t.watch.time + seconds_together (map floor_event ls) };
 
     // A line, and the stretches that ended with it.
-    fn line<W: ByteSink>(&mut self, line: &mut KeptLine, to: &mut W) -> Result<(), Failure> {
+    fn line<W: ByteSink>(&mut self, line: &KeptLine, to: &mut W) -> Result<(), Failure> {
         let Some(ended) = self.watch.play(line) else {
             return Err(Failure::TooLong);
         };

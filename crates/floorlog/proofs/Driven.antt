@@ -13,8 +13,7 @@ use Rattle.clock.proofs.TimeAdds.{no_seconds}
 use Rattle.clock.proofs.Cases.{passed_by}
 use Rattle.device.specs.Calls.{reply_room, new_connection}
 use Rattle.device.proofs.Cases.{received_by, opened_by_lem, closed_by_lem}
-use Rattle.floorlog.specs.declared.line.Says.{Says}
-use Rattle.floorlog.specs.Events.{LogEvent, opens, receives, passes, closes, no_such, event_of}
+use Rattle.floorlog.specs.Events.{LogEvent, opens, receives, passes, closes, no_such}
 use Rattle.floorlog.specs.Doing.{log_place, event_result}
 use Rattle.floorlog.specs.Told.{seconds_of, places_after, Drives}
 use Rattle.floorlog.proofs.LogOpenings.{log_opened_by}
@@ -82,13 +81,5 @@ module _ (d : Device) where
       (closed_by_lem d log_place (λ q. Kept q.device) (λ n z. itself_kept) (λ h t c. put_there before _))
   did_drives no_such = none_pass d itself_kept
 
--- the seconds are the line's, whatever it would have received
-seconds_said : (says : Says) (bs : List ℕ) → seconds_of (event_of says []) ≡ seconds_of (event_of says bs)
-seconds_said says bs = grind arith
-
-pub driven : (d : Device) (says : Says) (bs : List ℕ) {after : Device}
-    → after ≡ (event_result d (event_of says bs)).device
-    → Drives (seconds_of (event_of says [])) d after
-driven d says bs {after} left =
-    subst (λ (n : ℕ). Drives n d after) (sym (seconds_said says bs))
-    (subst (Drives (seconds_of (event_of says bs)) d) (sym left) (did_drives d (event_of says bs)))
+  pub driven : (e : LogEvent) {after : Device} → after ≡ (event_result d e).device → Drives (seconds_of e) d after
+  driven e left = subst (Drives (seconds_of e) d) (sym left) (did_drives e)

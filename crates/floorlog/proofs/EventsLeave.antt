@@ -13,11 +13,11 @@ use Rattle.device.specs.Calls.{refused_by, reply_room, Result as Played}
 use Rattle.device.proofs.Untouched.{receiving_keeps_settings, opening_keeps_settings, closing_keeps_settings}
 use Rattle.device.proofs.Illegal.{received_illegal, closed_illegal, received_legality, opened_legality, closed_legality}
 use Rattle.record.specs.declared.refusal.Refusal.TheVariants.{NotLegal}
-use Rattle.floorlog.specs.declared.line.Says.{Says}
-use Rattle.floorlog.specs.declared.line.Says.TheVariants.{NoSuch}
+use Rattle.floorlog.specs.declared.event.Event.{Event}
+use Rattle.floorlog.specs.declared.event.Event.TheVariants.{NoSuch}
 use Rattle.floorlog.specs.declared.outcome.Outcome.TheVariants.{Refused}
 use Rattle.floorlog.specs.Outcomes.{outcome_text}
-use Rattle.floorlog.specs.Events.{LogEvent, opens, receives, passes, closes, no_such, event_of}
+use Rattle.floorlog.specs.Events.{LogEvent, opens, receives, passes, closes, no_such, event_said}
 use Rattle.floorlog.specs.Doing.{log_place, event_result, result_text}
 use Rattle.floorlog.proofs.LogOpenings.{log_opened_by, log_opened_illegal}
 
@@ -55,6 +55,6 @@ module _ (d : Device) where
   pub illegal_silent : (e : LogEvent) (m : List ℕ) → is_legal d ≡ false → m ≡ over (event_result d e).reply m
   illegal_silent e m h = ap (λ (r : Played Device). over r.reply m) (sym (did_illegal e h))
 
-  pub illegal_text : (says : Says) (bs m : List ℕ) → is_legal d ≡ false → (says ≡ NoSuch → ⊥)
-      → outcome_text (Refused NotLegal) m ≡ result_text (event_of says bs) (event_result d (event_of says bs))
-  illegal_text says bs m h g = grind (arith, did_illegal)
+  pub illegal_text : (e : Event) (m : List ℕ) → is_legal d ≡ false → (e ≡ NoSuch → ⊥)
+      → outcome_text (Refused NotLegal) m ≡ result_text (event_said e) (event_result d (event_said e))
+  illegal_text e m h g = grind (arith, did_illegal)

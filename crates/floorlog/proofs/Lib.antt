@@ -1,5 +1,4 @@
 mod Forms
-mod SecondsSaid
 pub mod Outcomes
 pub mod LastLineEnds
 mod NoLogPrints

@@ -1,4 +1,3 @@
-pub mod Lines
 pub mod Kept
 pub mod KeptText
 pub mod Observing

@@ -5,11 +5,10 @@ ghost use Rattle.text.specs.Words.{over};
 ghost use Rattle.record.specs.Legal.{is_legal};
 ghost use Rattle.device.specs.Calls.{reply_room, received_at, closed_by};
 ghost use Rattle.floorlog.specs.Outcomes.{outcome_text, IsReplyWithin};
-ghost use Rattle.floorlog.specs.Events.{event_of};
+ghost use Rattle.floorlog.specs.Events.{event_said};
 ghost use Rattle.floorlog.specs.Doing.{log_place, opened_in_log, event_result, outcome, result_text, printed_line};
 ghost use Rattle.floorlog.specs.Told.{seconds_of, Drives};
 
-use crate::line::Says;
 use crate::outcome::{Outcome, Printed};
 use device::on_legal;
 use device::on_legal::REPLY_ROOM;
@@ -17,6 +16,21 @@ use record::connection::SHUT;
 use record::legality::Tested;
 use record::refusal::Refusal;
 use record::types::Device;
+
+/// An event of a log, one a line.
+#[derive(Clone, Copy)]
+pub enum Event<'a> {
+    /// A connection opens, with this random number.
+    Opens(u32),
+    /// These bytes are received.
+    Receives(&'a [u8]),
+    /// So many seconds pass.
+    Passes(u32),
+    /// The connection closes.
+    Closes,
+    /// The line has none of these forms, and nothing happens.
+    NoSuch,
+}
 
 /// The place that a log drives (RULES, Floor log).
 pub const PLACE: usize = 0;
@@ -65,72 +79,67 @@ fn close(device: &mut Device) -> Outcome
     }
 }
 
-// The event that a line says, on a legal record; a text is lent with its CR.
+// An event on a legal record.
 #[tactic(auto, unfolding(crate::specs::Doing::event_result), using(device::proofs::EnoughRoom::closing_quiet))]
-fn call_legal(
-    device: &mut Device,
-    says: Says,
-    bytes: &[u8],
-    reply: &mut [u8; REPLY_ROOM],
-) -> Outcome
+fn call_legal(device: &mut Device, event: &Event<'_>, reply: &mut [u8; REPLY_ROOM]) -> Outcome
     requires { is_legal device.old ≡ true }
     ensures within { IsReplyWithin result reply_room }
     ensures text { outcome_text result reply.new
-        ≡ result_text (event_of says bytes.now) (event_result device.old (event_of says bytes.now)) }
-    ensures device { device.new ≡ (event_result device.old (event_of says bytes.now)).device }
-    ensures reply { reply.new ≡ over (event_result device.old (event_of says bytes.now)).reply reply.old }
+        ≡ result_text (event_said event.now) (event_result device.old (event_said event.now)) }
+    ensures device { device.new ≡ (event_result device.old (event_said event.now)).device }
+    ensures reply { reply.new ≡ over (event_result device.old (event_said event.now)).reply reply.old }
 {
-    match says {
-        Says::Opens(random) => open(device, random, reply),
-        Says::Receives => receive(device, bytes, reply),
-        Says::Passes(seconds) => {
-            clock::on_legal::pass(device, seconds);
+    match event {
+        Event::Opens(random) => open(device, *random, reply),
+        Event::Receives(bytes) => receive(device, bytes, reply),
+        Event::Passes(seconds) => {
+            clock::on_legal::pass(device, *seconds);
             Outcome::Served(0)
         }
-        Says::Closes => close(device),
-        Says::NoSuch => Outcome::NoSuch,
+        Event::Closes => close(device),
+        Event::NoSuch => Outcome::NoSuch,
     }
 }
 
-/// The event that a line says, on any record; a text is lent with its CR, and a reply stands at the front of the
-/// memory. A record that is not legal is refused where the line has a form.
-pub fn call(t: &mut Tested, says: Says, bytes: &[u8], reply: &mut [u8; REPLY_ROOM]) -> Outcome
+/// An event on any record; its reply stands at the front of the memory. A record that is not legal is refused where the
+/// line has a form.
+pub fn call(t: &mut Tested, event: &Event<'_>, reply: &mut [u8; REPLY_ROOM]) -> Outcome
     ensures within { IsReplyWithin result reply_room }
     ensures text { outcome_text result reply.new
-        ≡ result_text (event_of says bytes.now) (event_result t.old.device (event_of says bytes.now)) }
-    ensures device { t.new.device ≡ (event_result t.old.device (event_of says bytes.now)).device }
-    ensures reply { reply.new ≡ over (event_result t.old.device (event_of says bytes.now)).reply reply.old }
-    ensures places { Drives (seconds_of (event_of says [])) t.old.device t.new.device }
+        ≡ result_text (event_said event.now) (event_result t.old.device (event_said event.now)) }
+    ensures device { t.new.device ≡ (event_result t.old.device (event_said event.now)).device }
+    ensures reply { reply.new ≡ over (event_result t.old.device (event_said event.now)).reply reply.old }
+    ensures places { Drives (seconds_of (event_said event.now)) t.old.device t.new.device }
 {
     if t.legal {
-        return call_legal(&mut t.device, says, bytes, reply);
+        return call_legal(&mut t.device, event, reply);
     }
-    match says {
-        Says::NoSuch => Outcome::NoSuch,
+    match event {
+        Event::NoSuch => Outcome::NoSuch,
         _ => Outcome::Refused(Refusal::NotLegal),
     }
 }
 
-/// The seconds that a line lets pass.
-pub fn seconds_of(says: Says) -> u32
-    ensures { result ≡ seconds_of (event_of says []) }
+/// The seconds that an event lets pass.
+pub fn seconds_of(event: &Event<'_>) -> u32
+    ensures { result ≡ seconds_of (event_said event.now) }
 {
-    match says {
-        Says::Passes(seconds) => seconds,
+    match event {
+        Event::Passes(seconds) => *seconds,
         _ => 0,
     }
 }
 
-/// A line's event, and its printed line.
+/// An event, and its printed line.
 #[tactic(auto, using(crate::proofs::Outcomes::line_lengths), unfolding(crate::specs::Doing::printed_line))]
-pub fn print(t: &mut Tested, number: u64, says: Says, bytes: &[u8], out: &mut Printed)
+pub fn print(t: &mut Tested, number: u64, event: &Event<'_>, out: &mut Printed)
     requires { out.old.items ≡ [] }
     ensures printed { out.new.items
-        ≡ printed_line number (event_of says bytes.now) (event_result t.old.device (event_of says bytes.now)) }
-    ensures device { t.new.device ≡ (event_result t.old.device (event_of says bytes.now)).device }
+        ≡ printed_line number (event_said event.now) (event_result t.old.device (event_said event.now)) }
+    ensures device { t.new.device ≡ (event_result t.old.device (event_said event.now)).device }
 {
     let mut reply = [0; REPLY_ROOM];
-    let outcome = call(t, says, bytes, &mut reply);
+    let outcome = call(t, event, &mut reply);
     numbers::put_long(number, out);
     out.push(b' ');
     outcome.put(&reply, out);

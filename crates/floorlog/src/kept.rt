@@ -1,11 +1,13 @@
 // What is kept of a line of a log, in fixed memory.
-ghost use Rattle.std.specs.Prelude.{[], ◌≡◌, ◌≤◌, ◌++◌, take, drop, codes, true, false, None, IfOk, IfErr, IfSome};
+ghost use Rattle.std.specs.Prelude.{[], ◌≡◌, ◌+◌, ◌≤◌, ◌++◌, take, codes, true, false, None, IfOk, IfErr, IfSome};
 ghost use Rattle.std.specs.Io.KnownBytes.{Keeps};
 ghost use Rattle.textio.specs.Lines.{HasEndlessLine};
 ghost use Rattle.textio.specs.Ahead.{left_in};
 ghost use Rattle.textio.specs.NextLine.{ReadsPart, IsLine, FailureComesOf, OnFailedRead};
 ghost use Rattle.floorlog.specs.Kept.{kept_most};
 
+use crate::event::Event;
+use crate::line;
 use crate::line::LINE_MOST;
 use textio::lines;
 use textio::lines::Failure;
@@ -38,23 +40,35 @@ fn read_line<R: ByteSource, W: ByteSink>(
     lines::next_line(from, to, &mut line[..KEPT_MOST])
 }
 
-/// A line of a log, without its LF: all of it, or as much as tells that it has no form.
+// A CR behind the line that the memory holds.
+fn put_cr(line: &mut [u8; ROOM], held: usize)
+    requires { held ≤ kept_most }
+    ensures line { take held line.new ≡ take held line.old }
+    ensures ended { take (held + 1) line.new ≡ take held line.old ++ codes "\r" }
+{
+    line[held] = b'\r';
+}
+
+/// A line of a log, without its LF: all of it, or as much as tells that it has no form. A CR stands behind it, with
+/// which a text is received.
 #[derive(Drop)]
 pub struct KeptLine {
     bytes: [u8; ROOM],
     held: usize,
     ghost inside: { held ≤ 4097 },
+    ghost ended: { take (held + 1) bytes ≡ take held bytes ++ codes "\r" },
 }
 
 impl KeptLine {
     ghost use Rattle.floorlog.specs.KeptText.{kept_text};
+    ghost use Rattle.floorlog.specs.Events.{event_said, event};
 
     /// Before a line is read.
     pub fn new() -> KeptLine
         ensures { kept_text result ≡ [] }
     {
         KeptLine {
-            bytes: [0; ROOM],
+            bytes: [b'\r'; ROOM],
             held: 0,
         }
     }
@@ -66,13 +80,11 @@ impl KeptLine {
         &self.bytes[..self.held]
     }
 
-    /// The text that it would have received: what stands after two bytes, and CR.
-    #[tactic(auto, using(crate::proofs::KeptText::text_lent))]
-    pub fn received(&mut self) -> &[u8]
-        ensures { result.now ≡ drop 2 (kept_text self.old) ++ codes "\r" }
+    /// Its event.
+    pub fn event(&self) -> Event<'_>
+        ensures { event_said result ≡ event (kept_text self.now) }
     {
-        self.bytes[self.held] = b'\r';
-        &self.bytes[self.held.min(2)..self.held + 1]
+        line::read(&self.bytes[..self.held + 1])
     }
 
     /// The next line of a log in its place, if there is one.
@@ -91,12 +103,12 @@ impl KeptLine {
         ensures part { IfErr result
             (OnFailedRead (ReadsPart (left_in R.remaining from.old) (left_in R.remaining from.new))) }
     {
-        match read_line(from, to, &mut self.bytes)? {
-            Some(held) => {
-                self.held = held;
-                Ok(true)
-            }
-            None => Ok(false),
-        }
+        let held = read_line(from, to, &mut self.bytes);
+        self.held = match held {
+            Ok(Some(held)) => held,
+            _ => 0,
+        };
+        put_cr(&mut self.bytes, self.held);
+        Ok(held?.is_some())
     }
 }

@@ -1,23 +1,10 @@
 // What a line of a log says (RULES, Floor log).
 ghost use Rattle.std.specs.List.{list_all};
-ghost use Rattle.std.specs.Prelude.{◌≡◌};
+ghost use Rattle.std.specs.Prelude.{ℕ, List, ◌≡◌, ◌++◌, codes};
 ghost use Rattle.digest.specs.Hex.{is_hex_digit};
-ghost use Rattle.floorlog.specs.Lines.{random_said, seconds_said, form_said, line_said};
+ghost use Rattle.floorlog.specs.Events.{event_said, random_said, seconds_said, event};
 
-/// What a line says: one event, or that it has no such form.
-#[derive(Clone, Copy)]
-pub enum Says {
-    /// A connection opens, with this random number.
-    Opens(u32),
-    /// Bytes are received: those of the line after its first two, and CR.
-    Receives,
-    /// So many seconds pass.
-    Passes(u32),
-    /// The connection closes.
-    Closes,
-    /// The line has none of these forms, and nothing happens.
-    NoSuch,
-}
+use crate::event::Event;
 
 /// The most bytes of a line, without its LF.
 pub const LINE_MOST: usize = 4096;
@@ -37,53 +24,46 @@ fn are_hex_digits(s: &[u8]) -> bool
 }
 
 // Eight lowercase hexadecimal digits.
-#[tactic(auto, unfolding(crate::specs::Lines::random_said))]
-fn random_said(s: &[u8]) -> Says
-    ensures { result ≡ random_said s.now }
+#[tactic(auto, unfolding(crate::specs::Events::random_said))]
+fn random_said(s: &[u8]) -> Event<'_>
+    ensures { event_said result ≡ random_said s.now }
 {
     if s.len() == 8 && are_hex_digits(s) {
-        return Says::Opens(digest::hex_value(s));
+        return Event::Opens(digest::hex_value(s));
     }
-    Says::NoSuch
+    Event::NoSuch
 }
 
 // One to ten decimal digits, of a number that a u32 can hold.
-#[tactic(auto, unfolding(crate::specs::Lines::seconds_said))]
-fn seconds_said(s: &[u8]) -> Says
-    ensures { result ≡ seconds_said s.now }
+#[tactic(auto, unfolding(crate::specs::Events::seconds_said))]
+fn seconds_said(s: &[u8]) -> Event<'_>
+    ensures { event_said result ≡ seconds_said s.now }
 {
     if s.len() < 1 || 10 < s.len() {
-        return Says::NoSuch;
+        return Event::NoSuch;
     }
     match numbers::read_digits(s) {
-        Some(v) if v <= SECONDS_MOST => Says::Passes(v as u32),
-        _ => Says::NoSuch,
+        Some(v) if v <= SECONDS_MOST => Event::Passes(v as u32),
+        _ => Event::NoSuch,
     }
 }
 
-/// What the line l says, without its LF.
-#[tactic(auto, unfolding(crate::specs::Lines::line_said))]
-pub fn line_says(l: &[u8]) -> Says
-    ensures { result ≡ line_said l.now }
+/// The event of a line, without its LF, that is lent with a CR behind it: a text is received with that.
+#[tactic(auto, unfolding(crate::specs::Events::event, crate::specs::Events::form_said))]
+pub fn read(line: &[u8]) -> Event<'_>
+    ensures { (l : List ℕ) → line.now ≡ l ++ codes "\r" → event_said result ≡ event l }
 {
-    if LINE_MOST < l.len() {
-        return Says::NoSuch;
+    let [l @ .., _] = line else {
+        return Event::NoSuch;
+    };
+    if LINE_MOST < l.len() || !words::byte::no_cr(l) {
+        return Event::NoSuch;
     }
-    if !words::byte::no_cr(l) {
-        return Says::NoSuch;
-    }
-    form_says(l)
-}
-
-#[tactic(auto, unfolding(crate::specs::Lines::form_said))]
-fn form_says(l: &[u8]) -> Says
-    ensures { result ≡ form_said l.now }
-{
-    match l {
-        [b'X'] => Says::Closes,
-        [b'O', b' ', s @ ..] => random_said(s),
-        [b'R', b' ', ..] => Says::Receives,
-        [b'T', b' ', s @ ..] => seconds_said(s),
-        _ => Says::NoSuch,
+    match line {
+        [b'X', _] => Event::Closes,
+        [b'O', b' ', s @ .., _] => random_said(s),
+        [b'R', b' ', bytes @ ..] => Event::Receives(bytes),
+        [b'T', b' ', s @ .., _] => seconds_said(s),
+        _ => Event::NoSuch,
     }
 }

@@ -27,13 +27,13 @@ pub trait Observer {
     ghost overflows: { Self → List (List ℕ) → Type 0 };
 
     /// A line comes.
-    fn line<W: ByteSink>(&mut self, line: &mut KeptLine, to: &mut W) -> Result<(), Failure>
-        ensures ok { OnOk result (Observes output leaves overflows self.old self.new (kept_text line.old)
+    fn line<W: ByteSink>(&mut self, line: &KeptLine, to: &mut W) -> Result<(), Failure>
+        ensures ok { OnOk result (Observes output leaves overflows self.old self.new (kept_text line.now)
             (W.contents to.old) (W.contents to.new)) }
         ensures front { OnErr result ((ls : List (List ℕ)) → WritesFront (W.contents to.old) (W.contents to.new)
-            (output self.old (kept_text line.old ∷ ls))) }
+            (output self.old (kept_text line.now ∷ ls))) }
         ensures err { IfErr result
-            (FailsOn W.fails_with ((ls : List (List ℕ)) → overflows self.old (kept_text line.old ∷ ls))) };
+            (FailsOn W.fails_with ((ls : List (List ℕ)) → overflows self.old (kept_text line.now ∷ ls))) };
 
     /// No line comes any more.
     fn end<W: ByteSink>(&mut self, to: &mut W) -> io::Result<()>
@@ -80,7 +80,7 @@ pub fn follow<R: ByteSource, W: ByteSink, O: Observer>(
                 Err(e) => Err(Failure::Write(e)),
             };
         }
-        observer.line(&mut line, to)?;
+        observer.line(&line, to)?;
     }
     Err(Failure::TooLong)
 }

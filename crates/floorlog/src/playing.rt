@@ -10,7 +10,7 @@ ghost use Rattle.floorlog.specs.Playing.{state_after, lines_printed};
 use crate::kept::KeptLine;
 use crate::observer::Observer;
 use crate::outcome::Printed;
-use crate::{event, last, line};
+use crate::{event, last};
 use record::legality::Tested;
 use record::types::Device;
 use std::io;
@@ -40,14 +40,13 @@ impl Player {
 }
 
 // The line with that number, played and printed.
-fn play<W: ByteSink>(t: &mut Tested, number: u64, line: &mut KeptLine, to: &mut W) -> io::Result<()>
-    ensures device { t.new.device ≡ (event_result t.old.device (event (kept_text line.old))).device }
+fn play<W: ByteSink>(t: &mut Tested, number: u64, line: &KeptLine, to: &mut W) -> io::Result<()>
+    ensures device { t.new.device ≡ (event_result t.old.device (event (kept_text line.now))).device }
     ensures text { WritesText W.fails_with (W.contents to.old) (W.contents to.new) result
-        (printed_line number (event (kept_text line.old)) (event_result t.old.device (event (kept_text line.old)))) }
+        (printed_line number (event (kept_text line.now)) (event_result t.old.device (event (kept_text line.now)))) }
 {
     let mut out = Printed::new();
-    let says = line::line_says(line.text());
-    event::print(t, number, says, line.received(), &mut out);
+    event::print(t, number, &line.event(), &mut out);
     writer::put(to, &out)
 }
 
@@ -59,7 +58,7 @@ impl Observer for Player {
 
     ghost overflows = { λ p ls. 2 ^ 64 ≤ p.played + length ls };
 
-    fn line<W: ByteSink>(&mut self, line: &mut KeptLine, to: &mut W) -> Result<(), Failure> {
+    fn line<W: ByteSink>(&mut self, line: &KeptLine, to: &mut W) -> Result<(), Failure> {
         let Some(number) = self.played.checked_add(1) else {
             return Err(Failure::TooLong);
         };

@@ -5,6 +5,7 @@
 --   mark_said l       the place of the lamp that it names, from 0, and the mark, if it is one
 --   FloorEvent        an event of such a log
 --   floor_event l     that of the line l
+--   watched_said e    the same of an event as the code has it
 --   done_by d e       the device after it
 --   seconds_by e      the seconds that it lets pass
 -- Assumes nothing.
@@ -15,9 +16,11 @@ use Rattle.words.specs.Bytes.{◌at◌}
 use Rattle.record.specs.Given.{left_by}
 use Rattle.record.specs.HostCalls.{mark_set}
 use Rattle.record.specs.declared.types.Device.{Device}
-use Rattle.floorlog.specs.Events.{LogEvent, event}
+use Rattle.floorlog.specs.Events.{LogEvent, event_said, event}
 use Rattle.floorlog.specs.Doing.{event_result}
 use Rattle.floorlog.specs.Told.{seconds_of}
+use Rattle.watch.specs.declared.marking.WatchedEvent.{WatchedEvent}
+use Rattle.watch.specs.declared.marking.WatchedEvent.TheVariants.{Logged, Marked}
 
 abbrev pub is_mark_line : List ℕ → Bool
 is_mark_line l =
@@ -37,6 +40,10 @@ event_by None e = logged e
 
 unfoldable pub floor_event : List ℕ → FloorEvent
 floor_event l = event_by (mark_said l) (event l)
+
+abbrev pub watched_said : WatchedEvent → FloorEvent
+watched_said (Logged e) = logged (event_said e)
+watched_said (Marked lamp mark) = marked lamp mark
 
 unfoldable pub done_by : Device → FloorEvent → Device
 done_by d (logged e) = (event_result d e).device

@@ -9,7 +9,6 @@ ghost use Rattle.std.specs.Prelude.{ℕ, ◌+◌, ◌-◌, ◌^◌, ◌<◌, ◌
 ghost use Rattle.watch.specs.Watching.{is_burning_in, gained_by, is_sound};
 
 use floorlog::kept::KeptLine;
-use floorlog::line;
 use record::legality::Tested;
 use record::types::{Device, LAMPS_MOST};
 
@@ -95,22 +94,19 @@ impl Watch {
 
     /// A line of the log. It tells whether the line ended stretches: those of the lamps whose marks are set, from
     /// `from` to `time`. None where 64 bits cannot count the seconds that are then gone: nothing is done.
-    pub fn play(&mut self, line: &mut KeptLine) -> Option<bool>
+    pub fn play(&mut self, line: &KeptLine) -> Option<bool>
         ensures watched { IfSome result
-            (IsWatched (state_of self.old) (floor_event (kept_text line.old)) (state_of self.new)) }
+            (IsWatched (state_of self.old) (floor_event (kept_text line.now)) (state_of self.new)) }
         ensures kept { result ≡ None → state_of self.new ≡ state_of self.old }
-        ensures uncounted { result ≡ None → 2 ^ 64 ≤ self.old.time + seconds_by (floor_event (kept_text line.old)) }
-        ensures places { IfSome result (λ _. Drives (seconds_by (floor_event (kept_text line.old)))
+        ensures uncounted { result ≡ None → 2 ^ 64 ≤ self.old.time + seconds_by (floor_event (kept_text line.now)) }
+        ensures places { IfSome result (λ _. Drives (seconds_by (floor_event (kept_text line.now)))
             self.old.tested.device self.new.tested.device) }
     {
-        let mark = marking::mark_says(line.text());
-        let says = line::line_says(line.text());
-        let seconds = marking::seconds_of(mark, says);
-        let Some(time) = self.time.checked_add(seconds as u64) else {
-            return None;
-        };
+        let event = marking::read(line);
+        let seconds = marking::seconds_of(&event);
+        let time = self.time.checked_add(seconds as u64)?;
         let was = is_burning_in(&self.tested.device);
-        marking::end_line(&mut self.tested, mark, says, line);
+        marking::call(&mut self.tested, &event);
         self.time = time;
         Some(follow(
             &mut self.from,

@@ -1,5 +1,6 @@
 -- A record that is not legal is refused with 1, where the line has a form; and it stays as it was.
-use Rattle.std.proofs.Common.{arith, refl}
+use Rattle.std.proofs.Common.{arith, refl, sym, ◌∙◌}
+use Rattle.floorlog.specs.Events.{event_said}
 use Rattle.floorlog.proofs.EventsLeave.{did_legality, illegal_text, illegal_kept, illegal_silent}
 use Rattle.floorlog.proofs.Driven.{driven}
 use Rattle.floorlog.proofs.event.call.Goals as goal
@@ -14,7 +15,9 @@ pub returns-in-NoSuch-clause-text : goal.returns-in-NoSuch-clause-text
 returns-in-NoSuch-clause-text c = rw c.in-NoSuch.is refl
 
 pub returns-in_default-clause-text : goal.returns-in_default-clause-text
-returns-in_default-clause-text c = grind (arith, illegal_text)
+returns-in_default-clause-text c =
+    illegal_text c.args.t.now.device c.args.event.now c.args.reply.now (sym c.args.t.now.tested ∙ c.if-t.false)
+    c.in_default.not-NoSuch
 
 pub returns-in-NoSuch-clause-device : goal.returns-in-NoSuch-clause-device
 returns-in-NoSuch-clause-device c = grind (arith, illegal_kept)
@@ -24,11 +27,11 @@ returns-in_default-clause-device c = grind (arith, illegal_kept)
 
 pub returns-in-NoSuch-clause-places : goal.returns-in-NoSuch-clause-places
 returns-in-NoSuch-clause-places c =
-    driven c.args.t.now.device c.args.says c.args.bytes.now (returns-in-NoSuch-clause-device c)
+    driven c.args.t.now.device (event_said c.args.event.now) (returns-in-NoSuch-clause-device c)
 
 pub returns-in_default-clause-places : goal.returns-in_default-clause-places
 returns-in_default-clause-places c =
-    driven c.args.t.now.device c.args.says c.args.bytes.now (returns-in_default-clause-device c)
+    driven c.args.t.now.device (event_said c.args.event.now) (returns-in_default-clause-device c)
 
 pub returns-in-NoSuch-clause-reply : goal.returns-in-NoSuch-clause-reply
 returns-in-NoSuch-clause-reply c = grind (arith, illegal_silent)

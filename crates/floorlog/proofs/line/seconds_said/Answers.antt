@@ -8,7 +8,4 @@ pub returns-in-Some : goal.returns-in-Some
 returns-in-Some c = grind (arith, digits_told, seconds_passes)
 
 pub returns-in_default : goal.returns-in_default
-returns-in_default c = grind (arith, digits_told, seconds_over)
-
-pub returns-in_default-2 : goal.returns-in_default-2
-returns-in_default-2 c = grind (arith, seconds_no_digit, digits_untold)
+returns-in_default c = grind (arith, digits_told, digits_untold, seconds_over, seconds_no_digit)
