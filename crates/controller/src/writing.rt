@@ -1,14 +1,13 @@
 //! Writing a command, led on request by the digest that opens a secured connection.
-ghost use Rattle.std.specs.Prelude.{◌≡◌, ◌+◌, ◌≤◌, ◌++◌, length};
-ghost use Rattle.arrayvec.specs.ArrayVec.{array_vec_len};
 ghost use Rattle.std.proofs.Common.{arith};
+ghost use Rattle.std.specs.Prelude.{◌≡◌, length};
 ghost use Rattle.text.specs.Words.{over};
 ghost use Rattle.text.specs.Outcomes.{told_written, written_told};
 ghost use Rattle.controller.specs.Writing.{is_writable, led_by, written_command, unwritten_number};
 
 use pjlink::command::Command;
 use text::numbered::Numbered;
-use words::codec::{LINE_MOST, Line};
+use words::codec::Line;
 use words::{codec, texts};
 
 /// Room for the longest line of a command, led by a digest.
@@ -44,13 +43,14 @@ fn is_writable(c: Command, secured: bool, password: &[u8]) -> bool
 }
 
 // What leads the line: where it is asked for, the digest.
-fn put_lead(secured: bool, random: u32, password: &[u8], out: &mut Line)
-    requires { array_vec_len out.old + 32 ≤ LINE_MOST }
-    ensures { out.new.items ≡ out.old.items ++ led_by secured random password.now }
+fn led_by(secured: bool, random: u32, password: &[u8]) -> Line
+    ensures { result.items ≡ led_by secured random password.now }
 {
+    let mut line = Line::new();
     if secured {
-        codec::put_all(&digest::leading_digest(random, password), out);
+        codec::put_all(&digest::leading_digest(random, password), &mut line);
     }
+    line
 }
 
 /// The command's line from the start of the lent memory, led by the digest where one is asked for: so many bytes.
@@ -74,8 +74,7 @@ pub fn write_command(
     if !is_writable(c, secured, password) {
         return Err(Unwritten::OutOfRange);
     }
-    let mut line = Line::new();
-    put_lead(secured, random, password, &mut line);
+    let mut line = led_by(secured, random, password);
     c.put(&mut line);
     text::put(out, 0, line.as_slice());
     Ok(line.len())

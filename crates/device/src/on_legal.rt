@@ -59,7 +59,7 @@ pub fn receive(
 // The line from the start of the lent memory; its length.
 #[tactic(auto, using(text::proofs::Stores::sets_over))]
 fn lend(line: &Line, out: &mut [u8]) -> usize
-    requires { 136 ≤ length out.old }
+    requires { REPLY_ROOM ≤ length out.old }
     ensures length { result ≡ length line.now.items }
     ensures memory { out.new ≡ over line.now.items out.old }
 {
