@@ -25,9 +25,7 @@ outcome_text NoSuch m = codes "?"
 
 abbrev pub IsReplyWithin : Outcome → ℕ → Type 0
 IsReplyWithin (Served n) most = n ≤ most
-IsReplyWithin (Refused r) most = Unit {0}
-IsReplyWithin AlreadyOpen most = Unit {0}
-IsReplyWithin NoSuch most = Unit {0}
+IsReplyWithin o most = Unit {0}
 
 abbrev pub printed_most : ℕ
 printed_most = 158
