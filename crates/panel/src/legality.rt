@@ -37,11 +37,10 @@ impl Entry {
     fn is_command_kept(&self) -> bool
         ensures { result ≡ is_command_kept (talk_of self.now) }
     {
-        let k = self.command;
         if self.under_way {
-            return self.greeting != UNGREETED && k.command().is_some();
+            return self.greeting != UNGREETED && self.command.command().is_some();
         }
-        k.code == 0 && k.first == 0 && k.second == 0
+        self.command.code == 0 && self.command.first == 0 && self.command.second == 0
     }
 
     // A greeting or none; a random number and a digest of a secured one only.
@@ -69,12 +68,13 @@ impl Entry {
         ensures { result ≡ is_input_shown self.now.input_known self.now.input_type
             self.now.input_number }
     {
-        let source = self.input_type;
-        let number = self.input_number;
         if self.input_known {
-            return 1 <= source && source <= 6 && 1 <= number && number <= 35;
+            return 1 <= self.input_type
+                && self.input_type <= 6
+                && 1 <= self.input_number
+                && self.input_number <= 35;
         }
-        source == 0 && number == 0
+        self.input_type == 0 && self.input_number == 0
     }
 
     #[tactic(auto, unfolding(crate::specs::LegalPanels::is_lamp_count))]
