@@ -91,10 +91,7 @@ impl Observer for Teller {
         let Some(ended) = self.watch.play(line) else {
             return Err(Failure::TooLong);
         };
-        match tell_ended(ended, &mut self.report, &self.watch, to) {
-            Ok(()) => Ok(()),
-            Err(e) => Err(Failure::Write(e)),
-        }
+        tell_ended(ended, &mut self.report, &self.watch, to).map_err(Failure::Write)
     }
 
     // The stretches that are under way end with the log.
@@ -135,8 +132,6 @@ pub fn tell_log<R: ByteSource, W: ByteSink>(
         report,
         starts,
     };
-    match report.begin(to) {
-        Ok(()) => observer::follow(&mut teller, from, to),
-        Err(e) => Err(Failure::Write(e)),
-    }
+    report.begin(to).map_err(Failure::Write)?;
+    observer::follow(&mut teller, from, to)
 }

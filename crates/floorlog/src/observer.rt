@@ -75,10 +75,7 @@ pub fn follow<R: ByteSource, W: ByteSink, O: Observer>(
     let mut line = KeptLine::new();
     for _ in 0..u64::MAX {
         if !line.read(from, to)? {
-            return match end(observer, to) {
-                Ok(()) => Ok(()),
-                Err(e) => Err(Failure::Write(e)),
-            };
+            return end(observer, to).map_err(Failure::Write);
         }
         observer.line(&line, to)?;
     }

@@ -63,10 +63,7 @@ impl Observer for Player {
             return Err(Failure::TooLong);
         };
         self.played = number;
-        match play(&mut self.tested, number, line, to) {
-            Ok(()) => Ok(()),
-            Err(e) => Err(Failure::Write(e)),
-        }
+        play(&mut self.tested, number, line, to).map_err(Failure::Write)
     }
 
     fn end<W: ByteSink>(&mut self, to: &mut W) -> io::Result<()> {

@@ -47,10 +47,7 @@ fn loaded(bytes: &[u8]) -> Result<Device, NotBegun>
     ensures begun { IsBegun result }
     ensures by_form { (form : List ℕ) → bytes.now ≡ take form_room form → IsBegunBy form result }
 {
-    match loading::load(bytes) {
-        Ok(device) => Ok(device),
-        Err(error) => Err(NotBegun::Refused(error)),
-    }
+    loading::load(bytes).map_err(NotBegun::Refused)
 }
 
 // By what a reader has left.

@@ -88,10 +88,7 @@ pub fn next_line<R: ByteSource, W: ByteSink>(
 {
     let mut held = 0;
     for _ in 0..u64::MAX {
-        match flush_before_read(from, to) {
-            Ok(()) => {}
-            Err(e) => return Err(Failure::Write(e)),
-        }
+        flush_before_read(from, to).map_err(Failure::Write)?;
         match take_shown(from, line, held) {
             Ok(Shown::Part(place)) => held = place,
             Ok(Shown::Whole(place)) => return Ok(Some(place)),

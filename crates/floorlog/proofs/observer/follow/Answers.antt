@@ -1,6 +1,7 @@
 -- what is written so far is a front of what is written of the log; in the end it is all
 use Rattle.std.proofs.Common.{arith}
 use Rattle.std.proofs.lemmas.Option.{IfSome_then}
+use Rattle.std.proofs.lemmas.Result.{on_ok_weaker}
 use Rattle.textio.specs.Ahead.{left_in}
 use Rattle.textio.proofs.Fronts.{same_error}
 use Rattle.floorlog.specs.KeptText.{kept_text}
@@ -19,20 +20,18 @@ loop-preserved g c =
 pub returns-in_err-read-clause-front : goal.returns-in_err-read-clause-front
 returns-in_err-read-clause-front g c = grind (arith, so_far)
 
-pub returns-in-Ok-clause-whole : goal.returns-in-Ok-clause-whole
-returns-in-Ok-clause-whole g c = grind (arith, ended)
+pub returns-then-not-branch-clause-whole : goal.returns-then-not-branch-clause-whole
+returns-then-not-branch-clause-whole g c = grind (arith, ended)
 
-pub returns-in-Ok-clause-left : goal.returns-in-Ok-clause-left
-returns-in-Ok-clause-left g c =
+pub returns-then-not-branch-clause-left : goal.returns-then-not-branch-clause-left
+returns-then-not-branch-clause-left g c =
     let none = c.in_ok-read.ensures.end c.if-not-branch.true in
-    IfSome_then (left_in g.R.ByteSource.remaining c.args.from.now) c.loop.invariant
-    (λ log u. left_so u none _ c.in-Ok.ensures.left)
+    on_ok_weaker c.map_err.result
+    (λ h. IfSome_then (left_in g.R.ByteSource.remaining c.args.from.now) c.loop.invariant
+    (λ log u. left_so u none _ h)) (grind arith)
 
-pub returns-in-Ok-clause-front : goal.returns-in-Ok-clause-front
-returns-in-Ok-clause-front g c = grind (arith, IfSome_then, ended, flushed)
-
-pub returns-in-Err-clause-front : goal.returns-in-Err-clause-front
-returns-in-Err-clause-front g c = grind (arith, IfSome_then, ended, flushed)
+pub returns-then-not-branch-clause-front : goal.returns-then-not-branch-clause-front
+returns-then-not-branch-clause-front g c = grind (arith, IfSome_then, ended, flushed)
 
 pub returns-in_err-line-clause-front : goal.returns-in_err-line-clause-front
 returns-in_err-line-clause-front g c =

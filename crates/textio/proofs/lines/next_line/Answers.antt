@@ -36,8 +36,8 @@ returns-clause-err g c =
     (left_in g.R.ByteSource.remaining c.loop.from) c.loop.counter c.loop.held c.loop.invariant.read (omega arith)
 
 -- a read fails only where no byte was read ahead, and then nothing waits
-pub returns-in-Err-take_shown-clause-none_waits : goal.returns-in-Err-take_shown-clause-none_waits
-returns-in-Err-take_shown-clause-none_waits g c = grind arith
+pub returns-in-Err-clause-none_waits : goal.returns-in-Err-clause-none_waits
+returns-in-Err-clause-none_waits g c = grind arith
 
-pub returns-in-Err-take_shown-clause-part : goal.returns-in-Err-take_shown-clause-part
-returns-in-Err-take_shown-clause-part g c = read_part c.loop.invariant.read c.in-Err-take_shown.ensures.kept
+pub returns-in-Err-clause-part : goal.returns-in-Err-clause-part
+returns-in-Err-clause-part g c = read_part c.loop.invariant.read c.in-Err.ensures.kept

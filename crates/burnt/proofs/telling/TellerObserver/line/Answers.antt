@@ -1,5 +1,6 @@
 -- the line is played, and what ended with it told
-use Rattle.std.proofs.Common.{map, ◌∙◌}
+use Rattle.std.proofs.Common.{map, ◌∙◌, arith, List, ℕ}
+use Rattle.textio.proofs.Failures.{both_mapped}
 use Rattle.floorlog.specs.KeptText.{kept_text}
 use Rattle.watch.specs.Marking.{floor_event}
 use Rattle.watch.specs.States.{state_of}
@@ -12,26 +13,29 @@ returns-in_default-clause-err g c =
     λ ls. line_uncounted s (floor_event (kept_text c.args.line.now)) (map floor_event ls)
     (c.play.ensures.uncounted c.in_default.is)
 
-pub returns-in-Ok-clause-ok : goal.returns-in-Ok-clause-ok
-returns-in-Ok-clause-ok g c =
+pub returns-clause-ok : goal.returns-clause-ok
+returns-clause-ok g c =
     let t = c.args.self.now in
     let s = state_of t.watch in
     let e = floor_event (kept_text c.args.line.now) in
     let watched = c.in-Some.ensures.watched in
-    record {
+    both_mapped _ _ c.map_err.ensures.variant c.tell_ended.ensures.report c.tell_ended.ensures.text.whole
+    (λ reported written. record {
       text = _;
-      written = c.in-Ok.ensures.text.whole;
-      then = λ ls. line_told s e (map floor_event ls) watched t.starts t.report c.in-Ok.ensures.report;
+      written = written;
+      then = λ ls. line_told s e (map floor_event ls) watched t.starts t.report reported;
       leaves = λ ls last h. (
         h.0,
-        line_reported s e (map floor_event ls) watched t.starts t.report c.in-Ok.ensures.report h.1,
+        line_reported s e (map floor_event ls) watched t.starts t.report reported h.1,
         h.2 ∙ line_left s e (map floor_event ls) watched,
       );
       overflows = λ ls h. line_counted s e (map floor_event ls) watched h;
-    }
+    })
 
-pub returns-in-Err-clause-front : goal.returns-in-Err-clause-front
-returns-in-Err-clause-front g c =
+pub returns-clause-front : goal.returns-clause-front
+returns-clause-front g c =
     let t = c.args.self.now in
-    λ ls. line_cut (state_of t.watch) (floor_event (kept_text c.args.line.now)) (map floor_event ls)
-    c.in-Some.ensures.watched t.starts t.report c.in-Err.ensures.text.front
+    let e = floor_event (kept_text c.args.line.now) in
+    let cut = λ (ls : List (List ℕ)). line_cut (state_of t.watch) e (map floor_event ls) c.in-Some.ensures.watched
+    t.starts t.report c.tell_ended.ensures.text.front in
+    grind (arith, cut)
