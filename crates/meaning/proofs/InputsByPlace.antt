@@ -1,12 +1,32 @@
 -- Pairs of characters by their places: the inputs for which they stand.
 -- Assumes nothing.
-use Rattle.std.proofs.Common.{ℕ, zero, suc, ◌+◌, ◌*◌, ◌<◌, ◌≡◌, refl, ap, ◌∙◌, List, [], ◌∷◌, ◌++◌, arith, length}
-use Rattle.std.proofs.Common.{slice_index_or, take, length-take, get_or-take}
+use Rattle.std.proofs.Common.{ℕ, zero, suc, ◌+◌, ◌*◌, ◌<◌, ◌≡◌, refl, ap, ◌∙◌, List, [], ◌∷◌, arith, length}
+use Rattle.std.proofs.Common.{◌/◌, ◌≤◌, map, slice_index_or, take, length-take, get_or-take}
+use Rattle.std.specs.Simd.{first_chunks}
 use Rattle.text.proofs.Choices.{if_by}
 use Rattle.words.specs.Sources.{same_input}
 use Rattle.words.specs.declared.input.Input.{Input}
 use Rattle.words.proofs.SourcesFollowed.{same_input_is_one}
 use Rattle.meaning.specs.SetUpInputs.{input_of_pair, inputs_of_pairs, place_in}
+
+-- by pairs as std cuts them
+abbrev pub input_of : List ℕ → Input
+input_of p = input_of_pair (slice_index_or p 0 0) (slice_index_or p 1 0)
+
+map-first_chunks : (k : ℕ) (l : List ℕ) → 2 * k ≤ length l → length l < 2 * k + 2
+    → map input_of (first_chunks 2 k l) ≡ inputs_of_pairs l
+unfolding inputs_of_pairs
+map-first_chunks zero [] m h = refl
+map-first_chunks zero (a ∷ []) m h = refl
+map-first_chunks zero (a ∷ b ∷ l) m h = absurd (omega arith)
+map-first_chunks (suc k) [] m h = absurd (omega arith)
+map-first_chunks (suc k) (a ∷ []) m h = absurd (omega arith)
+map-first_chunks (suc k) (a ∷ b ∷ l) m h =
+    ap (λ (t : List Input). input_of_pair a b ∷ t) (map-first_chunks k l (omega arith) (omega arith))
+
+pub named_in_pairs : (l : List ℕ) (pairs : List (List ℕ)) → pairs ≡ first_chunks 2 (length l / 2) l
+    → map input_of pairs ≡ inputs_of_pairs l
+named_in_pairs l pairs e = ap (map input_of) e ∙ map-first_chunks (length l / 2) l (omega arith) (omega arith)
 
 -- twice k, in a form that computes by k
 abbrev twice : ℕ → ℕ
@@ -16,16 +36,6 @@ twice (suc k) = suc (suc (twice k))
 twice_is : (k : ℕ) → twice k ≡ 2 * k
 twice_is zero = refl
 twice_is (suc k) = omega (arith, twice_is k)
-
-named_more : (k : ℕ) (l : List ℕ) → suc (twice k) < length l
-    → inputs_of_pairs (take (twice (suc k)) l)
-    ≡ inputs_of_pairs (take (twice k) l)
-    ++ (input_of_pair (slice_index_or l (twice k) 0) (slice_index_or l (suc (twice k)) 0) ∷ [])
-unfolding inputs_of_pairs
-named_more k [] h = absurd (omega arith)
-named_more k (a ∷ []) h = absurd (omega arith)
-named_more zero (a ∷ b ∷ l) h = refl
-named_more (suc k) (a ∷ b ∷ l) h = ap (λ (t : List Input). input_of_pair a b ∷ t) (named_more k l (omega arith))
 
 named_at : (k : ℕ) (l : List ℕ) (d : Input) → suc (twice k) < length l
     → slice_index_or (inputs_of_pairs l) k d
@@ -45,19 +55,6 @@ named_long (suc k) (a ∷ []) h = absurd (omega arith)
 named_long (suc k) (a ∷ b ∷ l) h = ap suc (named_long k l (omega arith))
 
 module _ (l : List ℕ) where
-  pub one_more_named : (k : ℕ) → 2 * k + 1 < length l
-      → inputs_of_pairs (take (2 * (k + 1)) l)
-      ≡ inputs_of_pairs (take (2 * k) l)
-      ++ (input_of_pair (slice_index_or l (2 * k) 0) (slice_index_or l (2 * k + 1) 0) ∷ [])
-  one_more_named k h =
-      let even : 2 * (k + 1) ≡ twice (suc k) = omega (arith, twice_is k) in
-      let odd : suc (twice k) ≡ 2 * k + 1 = omega (arith, twice_is k) in
-      ap (λ (n : ℕ). inputs_of_pairs (take n l)) even
-      ∙ named_more k l (omega (arith, twice_is k))
-      ∙ (λ i.
-      inputs_of_pairs (take (twice_is k i) l)
-      ++ (input_of_pair (slice_index_or l (twice_is k i) 0) (slice_index_or l (odd i) 0) ∷ []))
-
   pub input_at_place : (k : ℕ) (d : Input) → 2 * k + 1 < length l
       → slice_index_or (inputs_of_pairs l) k d
       ≡ input_of_pair (slice_index_or l (2 * k) 0) (slice_index_or l (2 * k + 1) 0)

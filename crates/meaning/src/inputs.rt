@@ -5,6 +5,7 @@ ghost use Rattle.meaning.specs.SetUpInputs.{no_input, input_of_pair, inputs_of, 
 
 use arrayvec::ArrayVec;
 use record::types::{INPUTS_MOST, Settings};
+use text::rooms;
 use words::input;
 use words::input::{Input, Source};
 
@@ -32,8 +33,10 @@ pub fn inputs_of(s: &Settings) -> ArrayVec<Input, INPUTS_MOST>
     ensures { result.items ≡ inputs_of s.now }
 {
     let mut inputs = ArrayVec::new();
-    for k in 0..s.input_count.min(INPUTS_MOST) {
-        inputs.push(input_of_pair(s.inputs[2 * k], s.inputs[2 * k + 1]));
+    let used = rooms::first(&s.inputs, 2 * s.input_count.min(INPUTS_MOST));
+    let (pairs, _) = used.as_chunks::<2>();
+    for [a, b] in pairs {
+        inputs.push(input_of_pair(*a, *b));
     }
     inputs
 }

@@ -1,10 +1,7 @@
 -- The inputs of the pairs passed.
-use Rattle.std.proofs.Common.{◌≡◌, ◌*◌, length, take}
-use Rattle.meaning.specs.SetUpInputs.{inputs_of_pairs}
+use Rattle.std.proofs.Common.{◌≡◌, map, take}
+use Rattle.meaning.proofs.InputsByPlace.{input_of}
 use Rattle.meaning.proofs.inputs.inputs_of.Given as goal
 
-abbrev pub invariant-loop-k : goal.invariant-loop-k
-invariant-loop-k l = record {
-  many : length l.inputs.items ≡ l.k;
-  told : l.inputs.items ≡ inputs_of_pairs (take (2 * l.k) l.s.inputs);
-}
+abbrev pub invariant-loop-a : goal.invariant-loop-a
+invariant-loop-a l = l.inputs.items ≡ map input_of (take l.a-index l.pairs)
