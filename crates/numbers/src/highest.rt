@@ -10,12 +10,11 @@ pub fn two_at(s: &[u8], p: usize) -> u32
     u16::from_be_bytes([s[p], s[p + 1]]) as u32
 }
 
-/// The number of the four bytes from the place p on.
-pub fn four_at(s: &[u8], p: usize) -> u32
-    requires { p + 4 ≤ length s.now }
-    ensures { result ≡ number_in (take 4 (drop p s.now)) }
+/// The number of four bytes.
+pub fn four_of(bytes: &[u8; 4]) -> u32
+    ensures { result ≡ number_in bytes.now }
 {
-    u32::from_be_bytes([s[p], s[p + 1], s[p + 2], s[p + 3]])
+    u32::from_be_bytes(*bytes)
 }
 
 /// The two lowest bytes of a number.

@@ -7,11 +7,12 @@
 use Rattle.std.proofs.Common.{ℕ, zero, suc, ◌+◌, ◌-◌, ◌*◌, ◌/◌, ◌^◌, ◌<◌, ◌≡◌, Bool, true, false, if◌then◌else◌, List}
 use Rattle.std.proofs.Common.{[], ◌∷◌, ◌++◌, length, take, drop, slice_index_or, Option, Some, None, refl, sym, ap}
 use Rattle.std.proofs.Common.{◌∙◌, arith, append_assoc, length-append, length-take-le, take-append-drop, take_at}
-use Rattle.std.proofs.Common.{drop_at, drop-drop, length-drop}
+use Rattle.std.proofs.Common.{drop_at, length-drop}
 use Rattle.std.proofs.lemmas.Grind.{common_steps}
 use Rattle.std.proofs.lemmas.List.{take-append-le, get_or-append-add}
 use Rattle.std.proofs.Math.Seq.{take-append-add}
 use Rattle.std.specs.List.{list_all}
+use Rattle.std.specs.Simd.{first_chunks}
 use Rattle.record.specs.Rules.{at_most, is_lamp}
 use Rattle.text.proofs.Scanning.{list_all_at}
 use Rattle.text.specs.InTurn.{each_in_turn}
@@ -197,10 +198,11 @@ length-seconds_in zero s = refl
 length-seconds_in (suc n) s = grind (arith, length-seconds_in n (drop 4 s))
 
 pub read_at : (n : ℕ) (s : List ℕ) (i : ℕ) → i < n →
-    slice_index_or (seconds_in n s) i 0 ≡ number_in (take 4 (drop (4 * i) s))
+    slice_index_or (seconds_in n s) i 0 ≡ number_in (slice_index_or (first_chunks 4 n s) i [])
 unfolding seconds_in
-read_at (suc n) s (suc i) h = grind (arith, read_at n (drop 4 s) i, drop-drop (4 * i) 4 s)
-read_at n s i h = grind (arith, common_steps)
+read_at (suc n) s (suc i) h = read_at n (drop 4 s) i (omega arith)
+read_at (suc n) s zero h = refl
+read_at zero s i h = absurd (omega arith)
 
 pub seconds_back : (xs : List ℕ) → list_all is_lamp xs ≡ true → seconds_in (length xs) (seconds_bytes xs) ≡ xs
 unfolding seconds_in seconds_bytes

@@ -43,8 +43,8 @@ fn seconds_of(bytes: &[u8]) -> [u32; LAMPS_MOST]
     ensures { result ≡ in_room lamps_most (seconds_in (length bytes.now / 4) bytes.now) }
 {
     let mut list = [0u32; LAMPS_MOST];
-    for i in 0..bytes.len() / 4 {
-        list[i] = highest::four_at(bytes, 4 * i);
+    for (i, four) in bytes.as_chunks::<4>().0.iter().enumerate() {
+        list[i] = highest::four_of(four);
     }
     list
 }
