@@ -2,8 +2,8 @@ use Rattle.std.proofs.Common.{arith, drop_of_length-le}
 use Rattle.record.proofs.Pairs.{named_in_pairs}
 use Rattle.record.proofs.inputs.all_named.Goals as goal
 
-pub returns-then-ok : goal.returns-then-ok
-returns-then-ok c =
+pub returns : goal.returns
+returns c =
     let pairs = c.as_chunks.result.0.now in
     grind (
       arith,
