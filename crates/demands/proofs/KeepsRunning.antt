@@ -4,7 +4,7 @@
 -- reply has at most 136 bytes, and a digest with a command's line at most 168: no more than what the calls ask for.
 -- Assumes nothing.
 use Rattle.std.proofs.Common.{ℕ, ◌≤◌, ◌≡◌, ap, List, [], arith, length, take, drop, length-append, length-drop, Bool}
-use Rattle.std.proofs.Common.{true, refl, ◌∙◌, not, ◌∷◌, if◌then◌else◌}
+use Rattle.std.proofs.Common.{true, false, refl, ◌∙◌, not, ◌∷◌, if◌then◌else◌}
 use Rattle.std.proofs.Math.Seq.{take-append_seam, drop-append_seam}
 use Rattle.text.specs.Words.{over}
 use Rattle.digest.proofs.Laws.{length-leading_digest}
@@ -146,9 +146,12 @@ reader_number c l allowed said =
 module _ (l : List ℕ) where
   greeting_number-read_greeting : (plain erra secured : Bool) → same_by itself l greeting_open ≡ plain
       → same_by itself l erra_line ≡ erra → greets l (random_in l) ≡ secured
-      → greeting_number (read_greeting l) ≡ first_of (greeting_rows l)
-  greeting_number-read_greeting plain erra secured p e g =
-      grind (arith, greeting_open_lem, greeting_refused, greeting_secured_lem, greeting_none)
+      → greeting_number (read_greeting l)
+      ≡ first_of ((0 when plain) ∷ (0 when erra) ∷ (0 when secured) ∷ (10 when true) ∷ [])
+  greeting_number-read_greeting true erra secured p e g = ap greeting_number (greeting_open_lem l p)
+  greeting_number-read_greeting false true secured p e g = ap greeting_number (greeting_refused l p e)
+  greeting_number-read_greeting false false true p e g = ap greeting_number (greeting_secured_lem l p e g)
+  greeting_number-read_greeting false false false p e g = ap greeting_number (greeting_none l p e g)
 
   pub greeting_reader_number : greeting_number (ours.read_greeting l) ≡ first_of (greeting_rows l)
   greeting_reader_number = greeting_number-read_greeting _ _ _ refl refl refl

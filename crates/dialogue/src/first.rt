@@ -21,5 +21,5 @@ fn the_first_lines(rt: HostRuntime) {
     let mut memory = [0u8; 136];
     let told = answer(b"%1LAMP ?\r", &mut memory);
     assert_eq!(rt; told, Some(11));
-    assert!(rt; memory[0..11] == *b"%1LAMP=2 0\r");
+    assert!(rt; &memory[0..11] == b"%1LAMP=2 0\r".as_slice());
 }
