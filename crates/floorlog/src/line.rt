@@ -1,8 +1,8 @@
 // What a line of a log says (RULES, Floor log).
 ghost use Rattle.std.specs.List.{list_all};
-ghost use Rattle.std.specs.Prelude.{ℕ, List, ◌≡◌, ◌++◌, codes};
+ghost use Rattle.std.specs.Prelude.{ℕ, List, ◌≡◌, ◌++◌, codes, length, nat_le};
 ghost use Rattle.digest.specs.Hex.{is_hex_digit};
-ghost use Rattle.floorlog.specs.Events.{event_said, random_said, seconds_said, event};
+ghost use Rattle.floorlog.specs.Events.{event_said, line_most, random_said, seconds_said, event};
 
 use crate::event::Event;
 
@@ -48,6 +48,13 @@ fn seconds_said(s: &[u8]) -> Event<'_>
     }
 }
 
+// Whether it is no longer than a line can be.
+fn fits(l: &[u8]) -> bool
+    ensures { result ≡ nat_le (length l.now) line_most }
+{
+    l.len() <= LINE_MOST
+}
+
 /// The event of a line, without its LF, that is lent with a CR behind it: a text is received with that.
 #[tactic(auto, unfolding(crate::specs::Events::event, crate::specs::Events::form_said))]
 pub fn read(line: &[u8]) -> Event<'_>
@@ -56,7 +63,7 @@ pub fn read(line: &[u8]) -> Event<'_>
     let [l @ .., _] = line else {
         return Event::NoSuch;
     };
-    if LINE_MOST < l.len() || !words::byte::no_cr(l) {
+    if !fits(l) || !words::byte::no_cr(l) {
         return Event::NoSuch;
     }
     match line {

@@ -62,7 +62,6 @@ fn is_utf8(s: &[u8]) -> bool
 }
 
 /// The rule of the projector's name, for set-up, legality and reader alike (RULES, Texts).
-#[tactic(auto, unfolding(crate::specs::Texts::is_name))]
 pub fn is_name(s: &[u8]) -> bool
     ensures { result ≡ is_name s.now }
 {
