@@ -1,11 +1,15 @@
--- The function F of RFC 1321, 3.4, "if X then Y else Z" in each bit position, in two ways that agree.
+-- The function F of RFC 1321, 3.4, "if X then Y else Z" in each bit position, in two ways that agree, and G as a sum.
 --   mixed x y z         as the code has it
 --   chosen n x y z      as the definition has it, n being the word of ones
 -- Assumes nothing.
-use Rattle.std.proofs.lemmas.Nat.{and_shr, or_shr, xor_shr, and_mod, or_mod, xor_mod}
-use Rattle.std.proofs.Common.{◌≡◌, ℕ, zero, suc, ◌-◌, ◌*◌, ◌/◌, ◌%◌, ◌^◌, ◌<◌, pow-suc}
+use Rattle.std.proofs.lemmas.Nat.{or_disjoint, and_comm, and_assoc, and_shr, or_shr, xor_shr, and_mod, or_mod, xor_mod}
+use Rattle.std.specs.Int.Bits.{and_zero_l}
+use Rattle.std.proofs.lemmas.Grind.{and-not_self}
+use Rattle.std.proofs.Common.{◌≡◌, ℕ, zero, suc, ◌+◌, ◌-◌, ◌*◌, ◌/◌, ◌%◌, ◌^◌, ◌<◌, pow-suc, refl, sym, ap, ◌∙◌}
 use Rattle.std.proofs.Common.{arith, eqb-true, bit_and, bit_or, bit_xor}
 use Rattle.text.proofs.EachBelow.{each_below}
+use Rattle.digest.specs.Words.{complement}
+use Rattle.digest.specs.Rounds.{fn_g, by_round}
 
 abbrev mixed : ℕ → ℕ → ℕ → ℕ
 mixed x y z = bit_xor z (bit_and x (bit_xor y z))
@@ -48,3 +52,24 @@ mixed_is_chosen (suc k) x y z hx hz =
 
     odd_xor : (a b : ℕ) → bit_xor a b % 2 ≡ bit_xor (a % 2) (b % 2)
     odd_xor a b = xor_mod a b 1
+
+-- G's two halves have no bit in common
+none_in_both : (x y z : ℕ) → z < 2 ^ 32 → bit_and (bit_and x z) (bit_and y (complement z)) ≡ 0
+none_in_both x y z hz =
+    let apart : bit_and (bit_and y (complement z)) z ≡ 0 = and-not_self y (2 ^ 32 - 1) z z refl (omega arith) refl in
+    and_comm (bit_and x z) _
+    ∙ ap (bit_and (bit_and y (complement z))) (and_comm x z)
+    ∙ sym (and_assoc x (bit_and y (complement z)) z)
+    ∙ ap (λ (n : ℕ). bit_and n x) apart
+    ∙ and_zero_l x
+
+pub halves_added : (x y z : ℕ) → z < 2 ^ 32 → bit_and y (complement z) + bit_and x z ≡ fn_g x y z
+halves_added x y z hz =
+    let apart = or_disjoint (bit_and x z) (bit_and y (complement z)) (none_in_both x y z hz) in
+    omega (arith, apart)
+
+-- a function in two parts, of which round 2 alone has the first
+pub in_parts : (i f g h k early late : ℕ) → early + late ≡ g
+    → by_round i 0 early 0 0 + by_round i f late h k ≡ by_round i f g h k
+unfolding by_round
+in_parts i f g h k early late e = grind (arith, e)

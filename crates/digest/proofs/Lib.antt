@@ -1,4 +1,5 @@
 mod Tables
+mod Sums
 mod Rotation
 mod Chosen
 mod Rows

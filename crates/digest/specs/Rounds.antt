@@ -4,7 +4,6 @@
 --   word_numbers          the k of the 64 operations [abcd k s i], a round a row
 --   shifts                their s, a round a row: each row is gone through four times
 --   by_round i w x y z    w, x, y or z, as operation i is of round 1, 2, 3 or 4
---   in_row f i            what f is of four operations, a row [ABCD k s i] [DABC k s i] [CDAB k s i] [BCDA k s i]
 --   operated_with q f x s t  a = b + ((a + f + x + t) <<< s), after which DABC are called ABCD, for the next operation
 --   operation xs i q      operation i on the block xs
 --   operations i n xs q   n operations, the first of them operation i
@@ -71,9 +70,6 @@ shift_of i = slice_index shifts (i / 16 * 4 + i % 4)
 
 unfoldable pub function_of : ℕ → ℕ → ℕ → ℕ → ℕ
 function_of i b c d = by_round i (fn_f b c d) (fn_g b c d) (fn_h b c d) (fn_i b c d)
-
-abbrev pub in_row : (ℕ → ℕ) → ℕ → List ℕ
-in_row f i = f i ∷ f (i + 1) ∷ f (i + 2) ∷ f (i + 3) ∷ []
 
 unfoldable pub operated_with : Buffer → ℕ → ℕ → ℕ → ℕ → Buffer
 operated_with q f x s t =

@@ -26,8 +26,9 @@ pub fn block(s: &[u8], q: Buffer) -> Buffer
     requires { length s.now ≡ 64 }
     ensures { result ≡ block_of s.now q }
 {
-    let p = rounds::first_two(s, q);
-    let p = rounds::last_two(s, p);
+    let sums = rounds::sums(s);
+    let p = rounds::first_two(&sums, q);
+    let p = rounds::last_two(&sums, p);
     add(q, p)
 }
 

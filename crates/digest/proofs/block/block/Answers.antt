@@ -9,4 +9,6 @@ unfolding block_of
 returns c =
     c.add.ensures
     ∙ ap (buffer_sum _)
-    (c.last_two-p.ensures ∙ ap (operations 32 32 _) c.first_two-p.ensures ∙ operations-operations _ _)
+    (c.last_two-p.ensures _ c.sums-sums.ensures
+    ∙ ap (operations 32 32 _) (c.first_two-p.ensures _ c.sums-sums.ensures)
+    ∙ operations-operations _ _)

@@ -4,7 +4,8 @@ use Rattle.digest.proofs.Rows.{eight_rows, last_rows}
 use Rattle.digest.proofs.block.rounds.last_two.Goals as goal
 
 pub returns : goal.returns
-returns c =
-    eight_rows 32 _ _ c.row-q.ensures c.row-q-2.ensures c.row-q-3.ensures c.row-q-4.ensures c.row-q-5.ensures
-    c.row-q-6.ensures c.row-q-7.ensures c.row.ensures
+returns c xs sums =
+    eight_rows 32 _ _ (c.row-q.ensures xs sums) (c.row-q-2.ensures xs sums) (c.row-q-3.ensures xs sums)
+    (c.row-q-4.ensures xs sums) (c.row-q-5.ensures xs sums) (c.row-q-6.ensures xs sums) (c.row-q-7.ensures xs sums)
+    (c.row.ensures xs sums)
     ∙ last_rows _ _
