@@ -53,7 +53,7 @@ pub fn set_up_in(device: &mut Device, wanted: &Wanted<'_>) -> Result<(), SetUpEr
     ensures refused { OnErr result (device.new ≡ blank) }
 {
     if let Err(error) = wanted.check() {
-        *device = fresh::blank();
+        fresh::clear(device);
         return Err(error);
     }
     keep_settings(&mut device.settings, wanted);

@@ -158,7 +158,7 @@ pub fn load_in(device: &mut Device, bytes: &[u8]) -> Result<(), LoadError>
     let Err(error) = read_in(device, bytes) else {
         return Ok(());
     };
-    *device = fresh::blank();
+    fresh::clear(device);
     Err(error)
 }
 
