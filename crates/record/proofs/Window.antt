@@ -3,11 +3,15 @@
 -- Assumes nothing.
 use Rattle.std.specs.List.{list_all}
 use Rattle.std.proofs.Common.{◌≡◌, ℕ, ◌+◌, ◌-◌, ◌<◌, ◌≤◌, min, List, ◌++◌, length, take, drop, replicate, ◌∙◌, arith}
-use Rattle.std.proofs.Common.{false, not, ◌&&◌, slice_index_or, nat_le, ◌==◌, is_some}
+use Rattle.std.proofs.Common.{true, false, not, ◌&&◌, [], slice_index_or, nat_le, ◌==◌, is_some, refl}
 use Rattle.std.proofs.lemmas.List.{get_or-take, get_or-drop, get_or-replicate, get_or_append_left, length-replicate}
 use Rattle.std.proofs.Math.Seq.{get_or-append_right, length-take-le}
-use Rattle.words.specs.Texts.{is_text_byte, is_text, is_refusal}
+use Rattle.std.specs.Str.{is_utf8}
+use Rattle.words.specs.Bytes.{no_cr}
+use Rattle.words.specs.Texts.{is_text_byte, is_text, is_refusal, is_name, name_most}
 use Rattle.words.proofs.WithinLength.{text_within, text_longer}
+use Rattle.words.proofs.Characters.{no_cr_of}
+use Rattle.words.proofs.TextsTold.{name_by_tests}
 use Rattle.text.specs.Rooms.{used_part}
 use Rattle.record.specs.Legal.{is_zero, fills_room}
 use Rattle.record.proofs.Rules.{empty_text}
@@ -74,3 +78,16 @@ module _ (room : ℕ) (s : List ℕ) (long : length s ≡ room) where
 
   pub no_name : (n : ℕ) → fills_room room (is_text 0) s n ≡ (n == 0 && is_some (used_part is_zero room s 0))
   no_name n = grind (arith, none_named, some_named)
+
+-- no line in its room: all of it is zero
+pub empty_line : (room : ℕ) (s : List ℕ) → length s ≡ room → fills_room room no_cr s 0 ≡ list_all is_zero s
+unfolding fills_room
+empty_line room s long =
+    let none : no_cr [] ≡ true = no_cr_of [] refl in
+    grind (arith, holds_used, none)
+
+-- a name in its room: a text there, in UTF-8
+pub name_filled : (room : ℕ) (s : List ℕ) (n : ℕ) → length s ≡ room
+    → fills_room room is_name s n ≡ (fills_room room (is_text name_most) s n && is_utf8 (take n s))
+unfolding fills_room
+name_filled room s n long = grind (arith, used_blank, used_not_blank, used_many, name_by_tests)

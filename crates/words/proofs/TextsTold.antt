@@ -1,6 +1,6 @@
 -- What the rules of texts tell: their lengths and their bytes.
 -- Assumes nothing.
-use Rattle.std.proofs.Common.{arith, ℕ, ◌≤◌, ◌≡◌, true, List, length}
+use Rattle.std.proofs.Common.{arith, ℕ, ◌≤◌, ◌≡◌, ◌&&◌, true, List, length, refl}
 use Rattle.std.specs.List.{list_all}
 use Rattle.std.specs.Str.{is_utf8}
 use Rattle.text.proofs.Choices.{both_left}
@@ -12,7 +12,11 @@ module _ (s : List ℕ) where
   unfolding is_text
   text_long n h = grind arith
 
-  -- a name is such a text, and more
+  -- a name is such a text, and in UTF-8
+  pub name_by_tests : is_name s ≡ (is_text name_most s && is_utf8 s)
+  unfolding is_name
+  name_by_tests = refl
+
   pub name_is_text : is_name s ≡ true → is_text name_most s ≡ true
   unfolding is_name
   name_is_text h = both_left (is_text name_most s) (is_utf8 s) h

@@ -54,8 +54,8 @@ pub fn is_text(s: &[u8], most: usize) -> bool
     s.len() <= most && all_text(s) && !is_refusal(s)
 }
 
-// Whether s is well-formed UTF-8, by the table of RFC 3629 (`theorems::bytes_and_numbers_agree`).
-fn is_utf8(s: &[u8]) -> bool
+/// Whether s is well-formed UTF-8, by the table of RFC 3629 (`theorems::bytes_and_numbers_agree`).
+pub fn is_utf8(s: &[u8]) -> bool
     ensures { result ≡ is_utf8 s.now }
 {
     str::from_utf8(s).is_ok()
