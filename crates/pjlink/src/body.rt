@@ -96,9 +96,10 @@ pub struct Row {
     pub on: bool,
 }
 
-/// Every body, in the order of the enum: those of Class 1 in the order of RULES, then those of Class 2.
+/// Every body, in the order of the enum: those of Class 1 in the order of RULES, then those of Class 2. It is a static,
+/// since a constant would be put together on the stack at each look-up.
 #[rattlefmt::skip]
-pub const BODIES: [Row; 19] = [
+pub static BODIES: [Row; 19] = [
     Row { body: Body::Powr, class: One, letters: *b"POWR", set: SetsPower, asks: true, lamps: false, on: false },
     Row { body: Body::Inpt, class: One, letters: *b"INPT", set: SetsInput, asks: true, lamps: false, on: true },
     Row { body: Body::Avmt, class: One, letters: *b"AVMT", set: SetsMute, asks: true, lamps: false, on: true },
