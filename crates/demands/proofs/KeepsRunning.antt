@@ -80,7 +80,7 @@ module _ (d : Device) (m : List ℕ) where
       (λ h s c short. omega arith)
       (opening_short d random (length m))
 
-  lent_inside : (r : Result Device) → Fits r → Inside Device m (lent_by r m)
+  lent_inside : (r : Result Device) → Fits r → Inside m (lent_by r m)
   lent_inside r h = record { room = length-over r.reply m h; fits = h; later = over_later r.reply m }
 
 pub stays_inside : (d : Device) (c : Call) → StaysInside ours d c
@@ -156,7 +156,7 @@ module _ (l : List ℕ) where
   pub greeting_reader_number : greeting_number (ours.read_greeting l) ≡ first_of (greeting_rows l)
   greeting_reader_number = greeting_number-read_greeting _ _ _ refl refl refl
 
-lent_untouched : (d : Device) (r : Result Device) (m : List ℕ) → Refused d r → Untouched Device m (lent_by r m)
+lent_untouched : (d : Device) (r : Result Device) (m : List ℕ) → Refused d r → Untouched m (lent_by r m)
 lent_untouched d r m h = grind (arith, over_nothing)
 
 pub refused_keeps : (d : Device) (c : Call) → (number_of ours d c ≡ 0 → ⊥)

@@ -97,15 +97,15 @@ none_before zero cs h = refl
 none_before (suc n) [] h = refl
 none_before (suc n) (c ∷ cs) h = both (both_left _ _ h) (none_before n cs (both_right _ _ h))
 
-module _ (B : Board) (p : ℕ) where
-  never_before : (password : List ℕ) (n : ℕ) (d : B.Record) (s : Session) (cs : List Call)
+module _ {R : Type 0} (B : Board R) (p : ℕ) where
+  never_before : (password : List ℕ) (n : ℕ) (d : R) (s : Session) (cs : List Call)
       → IsNeverMatched B p password d s cs → IsNeverMatched B p password d s (take n cs)
   never_before password zero d s cs u = tt
   never_before password (suc n) d s [] u = tt
   never_before password (suc n) d s (c ∷ cs) u =
       (u.0, never_before password n (after B d c) (noted B p d s c) cs u.1)
 
-  quiet_before : (n : ℕ) (d e : B.Record) (xs ys : List Call) → QuietOnceApart B p d e xs ys
+  quiet_before : (n : ℕ) (d e : R) (xs ys : List Call) → QuietOnceApart B p d e xs ys
       → QuietOnceApart B p d e (take n xs) (take n ys)
   quiet_before zero d e xs ys q = tt
   quiet_before (suc n) d e [] ys q = tt
@@ -114,7 +114,7 @@ module _ (B : Board) (p : ℕ) where
       ((λ apart. none_before (suc n) (a ∷ xs) (q.0 apart)), quiet_before n (after B d a) (after B e b) xs ys q.1)
 
   -- nobody opens at all
-  pub nobody_opens : (d e : B.Record) (xs ys : List Call) → opens_none xs ≡ true → QuietOnceApart B p d e xs ys
+  pub nobody_opens : (d e : R) (xs ys : List Call) → opens_none xs ≡ true → QuietOnceApart B p d e xs ys
   nobody_opens d e [] ys h = tt
   nobody_opens d e (a ∷ xs) [] h = tt
   nobody_opens d e (a ∷ xs) (b ∷ ys) h =

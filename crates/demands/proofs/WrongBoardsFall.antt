@@ -64,7 +64,7 @@ changes_refused_falls h =
 
 -- ---- demand 2: lines. Here a power query, its body in small letters
 
-module _ (B : Board) (h : SpeaksPjlink B) (d : B.Record) (between : BetweenLines opened (B.shows d) 0) where
+module _ {R : Type 0} (B : Board R) (h : SpeaksPjlink B) (d : R) (between : BetweenLines opened (B.shows d) 0) where
   queried : AnsweredAs B d 0 (with_cr "%1powr ?") (answer_to (B.shows d) (codes "%1powr ?"))
       (B.receive d 0 (with_cr "%1powr ?") memory)
   unfolding computing
@@ -250,7 +250,7 @@ refuses_elsewhere_falls h =
 abbrev sessions : List Call
 sessions = opens 0 memory ∷ rounds 2 (says "%1POWR 1" ∷ passes 20 ∷ says "%1POWR 0" ∷ passes 60 ∷ [])
 
-module _ (B : Board) (h : CountsSeconds B) (accepted : IsAccepted B sets_up sample) where
+module _ {R : Type 0} (B : Board R) (h : CountsSeconds B) (accepted : IsAccepted B sets_up sample) where
   -- what the demand says of the one lamp
   told : slice_index_or (B.shows (run_of B sets_up sample sessions)).own.lamps 0 0
       ≡ lamp_with (burning_seconds sample (all_enabled sample) 0 (history_of B sets_up sample sessions)) 0
@@ -303,7 +303,7 @@ ours_answers_halves = (refl, refl)
 
 -- ---- demand 3: the second of two lamps, whose mark was cleared before they burnt for 100 seconds
 
-module _ (B : Board) (h : CountsSeconds B) (accepted : IsAccepted B sets_up two_lamps) where
+module _ {R : Type 0} (B : Board R) (h : CountsSeconds B) (accepted : IsAccepted B sets_up two_lamps) where
   -- what the demand says of the second lamp
   rests_told : slice_index_or (B.shows (run_of B sets_up two_lamps one_rests)).own.lamps 1 0
       ≡ lamp_with (burning_seconds two_lamps (all_enabled two_lamps) 1 (history_of B sets_up two_lamps one_rests)) 0

@@ -19,11 +19,11 @@ use Rattle.demands.specs.Unheard.{AllAlike, QuietOnceApart, HeardAlike}
 abbrev pub ClosedOr : ℕ → Connection → Type 0
 ClosedOr random c = (c.phase ≡ shut) ⊎ (c.random ≡ random)
 
-module _ (B : Board) where
+module _ {R : Type 0} (B : Board R) where
   -- whatever call comes, at whatever place, on a connection that is not closed
   abbrev pub RandomKept : Type 0
   RandomKept =
-      (d : B.Record) (p : ℕ) → ((connection_at (B.shows d) p).phase ≡ shut → ⊥) → (c : Call)
+      (d : R) (p : ℕ) → ((connection_at (B.shows d) p).phase ≡ shut → ⊥) → (c : Call)
       → ClosedOr (connection_at (B.shows d) p).random (connection_at (B.shows (after B d c)) p)
 
   abbrev pub UnheardThroughout : Type 0

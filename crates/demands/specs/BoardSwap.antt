@@ -17,16 +17,16 @@ use Rattle.demands.specs.Calls.{Call, run}
 use Rattle.demands.specs.History.{no_streams, history, marks_after, burning_seconds, lamp_with}
 use Rattle.demands.specs.CountsSeconds.{Beginning, IsClass1, start_marks, IsAccepted, run_of, history_of}
 
-pub record LoadsAs (B : Board) (s : List ℕ) (w : Wanted) (ms : List Bool) : Type 0 where
+pub record LoadsAs {R : Type 0} (B : Board R) (s : List ℕ) (w : Wanted) (ms : List Bool) : Type 0 where
   pub accepted : (B.load s).number ≡ 0
   pub fresh : B.shows (B.load s).device ≡ started_with w ms
 
-pub record BoardSwap (B : Board) : Type 0 where
+pub record BoardSwap {R : Type 0} (B : Board R) : Type 0 where
   -- the form of the settings, with each lamp's seconds as they are now
-  pub form_stored : (d : B.Record) (m : List ℕ) → (B.store d m).number ≡ 0
+  pub form_stored : (d : R) (m : List ℕ) → (B.store d m).number ≡ 0
       → bytes_written (B.store d m) ≡ stored_form (B.shows d)
   -- "Loading is a fresh set-up": of what was stored
-  pub stored_loads : (d : B.Record) (m : List ℕ) → (B.store d m).number ≡ 0
+  pub stored_loads : (d : R) (m : List ℕ) → (B.store d m).number ≡ 0
       → LoadsAs B (bytes_written (B.store d m)) (stored_of (B.shows d)) (marks_stored (B.shows d))
   -- RULES, Lamps: version 1 "loads with all set": it is the set-up of its settings, which are of Class 1 (RULES, Class
   -- 2)

@@ -39,8 +39,8 @@ gave_lent place r = record {
 abbrev pub gave_number : {R : Type 0} → Given R → Gave
 gave_number r = record { number = r.number; taken = 0; place = 0; length = 0; memory = [] }
 
-module _ (B : Board) where
-  abbrev pub after : B.Record → Call → B.Record
+module _ {R : Type 0} (B : Board R) where
+  abbrev pub after : R → Call → R
   after d (opens random m) = (B.opening d random m).device
   after d (closes p) = (B.closing d p).device
   after d (receives p bs m) = (B.receive d p bs m).device
@@ -49,7 +49,7 @@ module _ (B : Board) where
   after d (reports errors) = (B.set_errors d errors).device
   after d (enables lamp mark) = (B.set_mark d lamp mark).device
 
-  abbrev pub gave_by : B.Record → Call → Gave
+  abbrev pub gave_by : R → Call → Gave
   gave_by d (opens random m) = gave_lent (B.place_opened d random m) (B.opening d random m)
   gave_by d (closes p) = gave_number (B.closing d p)
   gave_by d (receives p bs m) = gave_lent 0 (B.receive d p bs m)
@@ -58,9 +58,9 @@ module _ (B : Board) where
   gave_by d (reports errors) = gave_number (B.set_errors d errors)
   gave_by d (enables lamp mark) = gave_number (B.set_mark d lamp mark)
 
-  abbrev pub number_of : B.Record → Call → ℕ
+  abbrev pub number_of : R → Call → ℕ
   number_of d c = (gave_by d c).number
 
-  abbrev pub run : B.Record → List Call → B.Record
+  abbrev pub run : R → List Call → R
   run d [] = d
   run d (c ∷ cs) = run (after d c) cs

@@ -12,12 +12,12 @@ use Rattle.device.specs.Calls.{greeting, new_connection}
 use Rattle.ours.specs.Board.{Board, Lent, reply}
 use Rattle.record.specs.Given.{Given}
 
-pub record OpenedAs (B : Board) (d : B.Record) (random place : ℕ) (r : Lent B.Record) : Type 0 where
+pub record OpenedAs {R : Type 0} (B : Board R) (d : R) (random place : ℕ) (r : Lent R) : Type 0 where
   pub replied : reply r ≡ greeting (B.shows d).settings random
   pub lowest : place ≡ lowest_shut (B.shows d).connections
   pub device : B.shows r.device
       ≡ with_place (B.shows d) (B.shows d).own place (new_connection (B.shows d).settings random)
 
 -- where it is accepted
-abbrev pub Leaves : (B : Board) → Given B.Record → Device → Type 0
+abbrev pub Leaves : {R : Type 0} → Board R → Given R → Device → Type 0
 Leaves B r e = r.number ≡ 0 → B.shows r.device ≡ e

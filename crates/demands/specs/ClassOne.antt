@@ -48,21 +48,21 @@ answer_before d l = if nat_le (length l) command_most then line_before d.setting
 abbrev pub longest_before : ℕ
 longest_before = 103
 
-abbrev pub OfClass1 : (B : Board) → B.Record → Type 0
+abbrev pub OfClass1 : {R : Type 0} → Board R → R → Type 0
 OfClass1 B d = (B.shows d).settings.class_number ≡ 1
 
-pub record ClassOneKept (B : Board) : Type 0 where
+pub record ClassOneKept {R : Type 0} (B : Board R) : Type 0 where
   -- any line, on an open connection and behind the matching digest
-  pub answers : (d : B.Record) (p : ℕ) (l m : List ℕ) → OfClass1 B d → BetweenLines opened (B.shows d) p
+  pub answers : (d : R) (p : ℕ) (l m : List ℕ) → OfClass1 B d → BetweenLines opened (B.shows d) p
       → no_cr l ≡ true → reply_room ≤ length m
       → let bs = l ++ codes "\r" in AnsweredAs B d p bs (answer_before (B.shows d) l) (B.receive d p bs m)
-  pub answers_led : (d : B.Record) (p : ℕ) (l m : List ℕ) → OfClass1 B d → BetweenLines awaiting (B.shows d) p
+  pub answers_led : (d : R) (p : ℕ) (l m : List ℕ) → OfClass1 B d → BetweenLines awaiting (B.shows d) p
       → no_cr l ≡ true → length l ≤ command_most → reply_room ≤ length m
       → let bs = digest_for (B.shows d) p ++ l ++ codes "\r" in
       AnsweredAs B d p bs (answer_before (B.shows d) l) (B.receive d p bs m)
   -- "and drops `%2` lines", whatever follows
-  pub drops_class_2 : (d : B.Record) (p : ℕ) (l m : List ℕ) → OfClass1 B d → BetweenLines opened (B.shows d) p
+  pub drops_class_2 : (d : R) (p : ℕ) (l m : List ℕ) → OfClass1 B d → BetweenLines opened (B.shows d) p
       → no_cr l ≡ true → (l at 1 is "2") ≡ true → reply_room ≤ length m
       → let bs = l ++ codes "\r" in AnsweredAs B d p bs (line_swallowed (B.shows d).own) (B.receive d p bs m)
   -- RULES, Inputs: "the longest reply is 103"
-  pub reply_short : (d : B.Record) (p : ℕ) (bs m : List ℕ) → OfClass1 B d → (B.receive d p bs m).length ≤ longest_before
+  pub reply_short : (d : R) (p : ℕ) (bs m : List ℕ) → OfClass1 B d → (B.receive d p bs m).length ≤ longest_before

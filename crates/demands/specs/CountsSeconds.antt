@@ -62,8 +62,8 @@ pub record IsClass1 (w : Wanted) : Type 0 where
   pub set_up : is_set_up w ≡ true
   pub class_1 : w.class ≡ 1
 
-module _ (B : Board) where
-  abbrev pub begun_by : Beginning → Wanted → Given B.Record
+module _ {R : Type 0} (B : Board R) where
+  abbrev pub begun_by : Beginning → Wanted → Given R
   begun_by sets_up w = B.set_up w
   begun_by (loads ms) w = B.load (form_of w ms)
   begun_by (loads_marked ms) w = B.load (marked_form_of w ms)
@@ -76,7 +76,7 @@ module _ (B : Board) where
   IsAccepted (loads_marked ms) w = IsClass1 w × ((B.load (marked_form_of w ms)).number ≡ 0)
   IsAccepted loads_old w = IsClass1 w × ((B.load (old_form_of w)).number ≡ 0)
 
-  abbrev pub run_of : Beginning → Wanted → List Call → B.Record
+  abbrev pub run_of : Beginning → Wanted → List Call → R
   run_of b w cs = run B (begun_by b w).device cs
 
   abbrev pub history_of : Beginning → Wanted → List Call → List Event
@@ -117,21 +117,21 @@ sum_of (suc n) f = sum_of n f + f n
 abbrev pub lamp_line : List LampHours → List ℕ
 lamp_line ls = codes "%1LAMP=" ++ said_bytes (lamps_are ls) ++ codes "\r"
 
-pub record LampsTold (B : Board) (ls : List LampHours) (answer : List ℕ) : Type 0 where
+pub record LampsTold {R : Type 0} (B : Board R) (ls : List LampHours) (answer : List ℕ) : Type 0 where
   pub bytes : answer ≡ lamp_line ls
   pub read : B.read_reply (Query Lamp) answer ≡ meaning (lamps_are ls)
 
 -- the whole result, number and record
-abbrev pub TimeAdds : Board → Type 0
-TimeAdds B = (d : B.Record) (a b : ℕ) → is_legal (B.shows d) ≡ true → a + b ≤ seconds_most
+abbrev pub TimeAdds : {R : Type 0} → Board R → Type 0
+TimeAdds {R = R} B = (d : R) (a b : ℕ) → is_legal (B.shows d) ≡ true → a + b ≤ seconds_most
     → B.pass (B.pass d a).device b ≡ B.pass d (a + b)
 
-pub record CountsSeconds (B : Board) : Type 0 where
+pub record CountsSeconds {R : Type 0} (B : Board R) : Type 0 where
   -- "From any legal state, letting a seconds pass and then b gives the very state that a + b gives at once, so long as
   -- a + b is at most 4,294,967,295"
   pub time_adds : TimeAdds B
   -- RULES, Time: "The meaning is a definition of one second, applied n times"
-  pub second_by_second : (d : B.Record) (n : ℕ) → Leaves B (B.pass d n) (times second n (B.shows d))
+  pub second_by_second : (d : R) (n : ℕ) → Leaves B (B.pass d n) (times second n (B.shows d))
   -- "After any calls since set-up, refused ones counting as nothing, each lamp's stored seconds are its starting
   -- seconds plus every second the history puts in warm-up or power-on, stopped at 359,999,999"; RULES, Places: "the
   -- history is the accepted calls of all places in the order made"

@@ -55,22 +55,22 @@ no_streams q = []
 abbrev pub going_on_at : Streams → ℕ → List ℕ → Streams
 going_on_at w p bs q = if q == p then w q ++ bs else w q
 
-module _ (B : Board) where
+module _ {R : Type 0} (B : Board R) where
   -- the streams with the bytes that a call took
-  abbrev pub streams_after : B.Record → Streams → Call → Streams
+  abbrev pub streams_after : R → Streams → Call → Streams
   streams_after d w (receives p bs m) =
       if (B.receive d p bs m).number == 0 then going_on_at w p (take (B.receive d p bs m).taken bs) else w
   streams_after d w c = w
 
   -- what a call tells; the bytes that it took are in its place's stream already
-  abbrev pub seen : B.Record → Streams → Call → List Event
+  abbrev pub seen : R → Streams → Call → List Event
   seen d w (receives p bs m) =
       if (B.receive d p bs m).number == 0 then power_set (w p) (reply (B.receive d p bs m)) else []
   seen d w (passes n) = if (B.pass d n).number == 0 then replicate n a_second else []
   seen d w (enables lamp mark) = if (B.set_mark d lamp mark).number == 0 then mark_switched lamp mark ∷ [] else []
   seen d w c = []
 
-  abbrev pub history : B.Record → Streams → List Call → List Event
+  abbrev pub history : R → Streams → List Call → List Event
   history d w [] = []
   history d w (c ∷ cs) = seen d (streams_after d w c) c ++ history (after B d c) (streams_after d w c) cs
 

@@ -54,22 +54,22 @@ heard_then h g = record {
 abbrev pub heard_of : Own → List ℕ → List ℕ → Heard
 heard_of o u r = record { taken = u; replied = r; owns = if no_cr u then [] else o ∷ [] }
 
-module _ (B : Board) (q : ℕ) where
-  abbrev pub heard_in : B.Record → Call → Heard
+module _ {R : Type 0} (B : Board R) (q : ℕ) where
+  abbrev pub heard_in : R → Call → Heard
   heard_in d (receives p bs m) =
       let r = B.receive d p bs m in
       if p == q then heard_of (B.shows d).own (take r.taken bs) (reply r) else heard_nothing
   heard_in d c = heard_nothing
 
-  abbrev pub heard : B.Record → List Call → Heard
+  abbrev pub heard : R → List Call → Heard
   heard d [] = heard_nothing
   heard d (c ∷ cs) = heard_then (heard_in d c) (heard (after B d c) cs)
 
-  abbrev pub ByBytes : B.Record → Call → Type 0
+  abbrev pub ByBytes : R → Call → Type 0
   ByBytes d (receives p bs m) = Unit {0}
   ByBytes d c = connection_at (B.shows (after B d c)) q ≡ connection_at (B.shows d) q
 
-  abbrev pub ByBytesOnly : B.Record → List Call → Type 0
+  abbrev pub ByBytesOnly : R → List Call → Type 0
   ByBytesOnly d [] = Unit {0}
   ByBytesOnly d (c ∷ cs) = ByBytes d c × ByBytesOnly (after B d c) cs
 
@@ -104,7 +104,7 @@ to_first_cr (b ∷ bs) = if b is "\r" then b ∷ [] else b ∷ to_first_cr bs
 
 -- ---- the promise
 
-module _ (B : Board) (q : ℕ) (d : B.Record) (cs : List Call) where
+module _ {R : Type 0} (B : Board R) (q : ℕ) (d : R) (cs : List Call) where
   abbrev pub alone_of : Alone
   alone_of =
       alone_at (B.shows d).settings (connection_at (B.shows d) q) (heard B q d cs).owns (heard B q d cs).taken
@@ -114,17 +114,17 @@ module _ (B : Board) (q : ℕ) (d : B.Record) (cs : List Call) where
     pub connection : connection_at (B.shows (run B d cs)) q ≡ alone_of.connection
     pub lines : length (heard B q d cs).owns ≡ line_ends (heard B q d cs).taken
 
-pub record Interleaved (B : Board) : Type 0 where
+pub record Interleaved {R : Type 0} (B : Board R) : Type 0 where
   -- RULES, Connection: receiving "takes bytes up to and including the first CR, or all of them if none", whatever the
   -- other places hold
-  pub takes_a_line : (d : B.Record) (q : ℕ) (bs m : List ℕ) → is_legal (B.shows d) ≡ true → q < places_count
+  pub takes_a_line : (d : R) (q : ℕ) (bs m : List ℕ) → is_legal (B.shows d) ≡ true → q < places_count
       → is_shut (connection_at (B.shows d) q) ≡ false → reply_room ≤ length m
       → let r = B.receive d q bs m in (r.number ≡ 0) × (take r.taken bs ≡ to_first_cr bs)
   -- from any record, over any calls of everybody
-  pub as_alone : (d : B.Record) (q : ℕ) (cs : List Call) → ByBytesOnly B q d cs → SeenAlone B q d cs
+  pub as_alone : (d : R) (q : ℕ) (cs : List Call) → ByBytesOnly B q d cs → SeenAlone B q d cs
   -- so two runs that give a place the same bytes, however cut and interleaved with whatever, and the same own parts at
   -- the ends of its lines, give it the same replies and leave it the same connection
-  pub same_however_interleaved : (d e : B.Record) (q : ℕ) (cs es : List Call)
+  pub same_however_interleaved : (d e : R) (q : ℕ) (cs es : List Call)
       → ByBytesOnly B q d cs → ByBytesOnly B q e es
       → (B.shows d).settings ≡ (B.shows e).settings → connection_at (B.shows d) q ≡ connection_at (B.shows e) q
       → (heard B q d cs).taken ≡ (heard B q e es).taken → (heard B q d cs).owns ≡ (heard B q e es).owns

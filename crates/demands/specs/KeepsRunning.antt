@@ -88,7 +88,7 @@ greeting_rows l =
 
 -- ---- the memory
 
-pub record Inside (R : Type 0) (m : List ℕ) (r : Lent R) : Type 0 where
+pub record Inside {R : Type 0} (m : List ℕ) (r : Lent R) : Type 0 where
   pub room : length r.memory ≡ length m
   pub fits : r.length ≤ length m
   pub later : drop r.length r.memory ≡ drop r.length m
@@ -98,51 +98,51 @@ pub record WroteInside (m : List ℕ) (w : Wrote) : Type 0 where
   pub fits : w.length ≤ length m
   pub later : drop w.length w.memory ≡ drop w.length m
 
-pub record Untouched (R : Type 0) (m : List ℕ) (r : Lent R) : Type 0 where
+pub record Untouched {R : Type 0} (m : List ℕ) (r : Lent R) : Type 0 where
   pub taken : r.taken ≡ 0
   pub length : r.length ≡ 0
   pub memory : r.memory ≡ m
 
-module _ (B : Board) where
-  abbrev pub StaysInside : B.Record → Call → Type 0
-  StaysInside d (opens random m) = Inside B.Record m (B.opening d random m)
+module _ {R : Type 0} (B : Board R) where
+  abbrev pub StaysInside : R → Call → Type 0
+  StaysInside d (opens random m) = Inside m (B.opening d random m)
   StaysInside d (receives p bs m) =
-      Inside B.Record m (B.receive d p bs m) × ((B.receive d p bs m).taken ≤ length bs)
+      Inside m (B.receive d p bs m) × ((B.receive d p bs m).taken ≤ length bs)
   StaysInside d c = Unit {0}
 
-  abbrev pub WritesNothing : B.Record → Call → Type 0
-  WritesNothing d (opens random m) = Untouched B.Record m (B.opening d random m)
-  WritesNothing d (receives p bs m) = Untouched B.Record m (B.receive d p bs m)
+  abbrev pub WritesNothing : R → Call → Type 0
+  WritesNothing d (opens random m) = Untouched m (B.opening d random m)
+  WritesNothing d (receives p bs m) = Untouched m (B.receive d p bs m)
   WritesNothing d c = Unit {0}
 
 -- ---- the demand
 
-pub record KeepsRunning (B : Board) : Type 0 where
+pub record KeepsRunning {R : Type 0} (B : Board R) : Type 0 where
   -- "Whatever bytes arrive, in whatever cuts, every call .. stays inside its memory": of any record, legal or not
-  pub stays_inside : (d : B.Record) (c : Call) → StaysInside B d c
+  pub stays_inside : (d : R) (c : Call) → StaysInside B d c
   pub writer_stays_inside : (c : Command) (secured : Bool) (random : ℕ) (password m : List ℕ)
       → WroteInside m (B.write c secured random password m)
-  pub store_stays_inside : (d : B.Record) (m : List ℕ) → WroteInside m (B.store d m)
+  pub store_stays_inside : (d : R) (m : List ℕ) → WroteInside m (B.store d m)
   -- "A call that can't be served gives the one number that the table lists for it"
-  pub number_is_first : (d : B.Record) (c : Call) → number_of B d c ≡ first_of (rows_of (B.shows d) c)
+  pub number_is_first : (d : R) (c : Call) → number_of B d c ≡ first_of (rows_of (B.shows d) c)
   pub set_up_number : (w : Wanted) → (B.set_up w).number ≡ first_of (set_up_rows w)
   pub writer_number : (c : Command) (secured : Bool) (random : ℕ) (password m : List ℕ)
       → (B.write c secured random password m).number ≡ first_of (writer_rows c secured password m)
   pub reader_number : (c : Command) (l : List ℕ) (allowed : Bool) → IsAllowed c (reply_parameter l) allowed
       → reading_outcome_number (B.read_reply c l).outcome ≡ first_of (reader_rows c l allowed)
   pub greeting_reader_number : (l : List ℕ) → greeting_number (B.read_greeting l) ≡ first_of (greeting_rows l)
-  pub store_number : (d : B.Record) (m : List ℕ) → (B.store d m).number ≡ first_of (storing_rows (B.shows d) (length m))
+  pub store_number : (d : R) (m : List ℕ) → (B.store d m).number ≡ first_of (storing_rows (B.shows d) (length m))
   pub load_number : (s : List ℕ) → (B.load s).number ≡ first_of (load_rows s)
   -- "returns the device record it was given .., and writes no byte of the reply memory"
-  pub refused_keeps : (d : B.Record) (c : Call) → (number_of B d c ≡ 0 → ⊥)
+  pub refused_keeps : (d : R) (c : Call) → (number_of B d c ≡ 0 → ⊥)
       → (after B d c ≡ d) × WritesNothing B d c
   -- RULES, Places: a refused opening tells no place but 0
-  pub refused_opening_place : (d : B.Record) (random : ℕ) (m : List ℕ) → ((B.opening d random m).number ≡ 0 → ⊥)
+  pub refused_opening_place : (d : R) (random : ℕ) (m : List ℕ) → ((B.opening d random m).number ≡ 0 → ⊥)
       → B.place_opened d random m ≡ 0
   pub refused_writer_writes_nothing : (c : Command) (secured : Bool) (random : ℕ) (password m : List ℕ)
       → let w = B.write c secured random password m in
       (w.number ≡ 0 → ⊥) → (w.length ≡ 0) × (w.memory ≡ m)
-  pub refused_store_writes_nothing : (d : B.Record) (m : List ℕ) → ((B.store d m).number ≡ 0 → ⊥)
+  pub refused_store_writes_nothing : (d : R) (m : List ℕ) → ((B.store d m).number ≡ 0 → ⊥)
       → ((B.store d m).length ≡ 0) × ((B.store d m).memory ≡ m)
   pub refused_reader_means_nothing : (c : Command) (l : List ℕ) →
       (reading_outcome_number (B.read_reply c l).outcome ≡ 0 → ⊥)
@@ -154,5 +154,5 @@ pub record KeepsRunning (B : Board) : Type 0 where
   -- RULES, Stored form: so does a refused load, and an accepted one is legal
   pub refused_load_blank : (s : List ℕ) → ((B.load s).number ≡ 0 → ⊥) → B.shows (B.load s).device ≡ blank
   pub load_legal : (s : List ℕ) → (B.load s).number ≡ 0 → is_legal (B.shows (B.load s).device) ≡ true
-  pub stays_legal : (d : B.Record) (c : Call) → is_legal (B.shows d) ≡ true
+  pub stays_legal : (d : R) (c : Call) → is_legal (B.shows d) ≡ true
       → is_legal (B.shows (after B d c)) ≡ true

@@ -52,11 +52,11 @@ module _ (p : ℕ) where
       } else s
   noted_of s c g = s
 
-module _ (B : Board) (p : ℕ) where
-  abbrev pub noted : B.Record → Session → Call → Session
+module _ {R : Type 0} (B : Board R) (p : ℕ) where
+  abbrev pub noted : R → Session → Call → Session
   noted d s c = noted_of p s c (gave_by B d c)
 
-  abbrev pub session_after : B.Record → Session → List Call → Session
+  abbrev pub session_after : R → Session → List Call → Session
   session_after d s [] = s
   session_after d s (c ∷ cs) = session_after (after B d c) (noted d s c) cs
 
@@ -69,7 +69,7 @@ first_line (b ∷ bs) = if b is "\r" then [] else b ∷ first_line bs
 abbrev pub is_matched : List ℕ → Session → Bool
 is_matched password s = not (no_cr s.taken) && is_led_by s.random password (first_line s.taken)
 
-abbrev pub IsNeverMatched : (B : Board) → ℕ → List ℕ → B.Record → Session → List Call → Type 0
+abbrev pub IsNeverMatched : {R : Type 0} → Board R → ℕ → List ℕ → R → Session → List Call → Type 0
 IsNeverMatched B p password d s [] = Unit {0}
 IsNeverMatched B p password d s (c ∷ cs) =
     (is_matched password (noted B p d s c) ≡ false) × IsNeverMatched B p password (after B d c) (noted B p d s c) cs
@@ -93,19 +93,19 @@ abbrev pub is_received_at : ℕ → Call → Bool
 is_received_at p (receives q bs m) = q == p
 is_received_at p c = false
 
-pub record SameDevicePart (B : Board) (d e : B.Record) : Type 0 where
+pub record SameDevicePart {R : Type 0} (B : Board R) (d e : R) : Type 0 where
   pub settings : (B.shows e).settings ≡ (B.shows d).settings
   pub own : (B.shows e).own ≡ (B.shows d).own
 
-abbrev pub IsKeptThere : (B : Board) → ℕ → B.Record → List Call → Type 0
+abbrev pub IsKeptThere : {R : Type 0} → Board R → ℕ → R → List Call → Type 0
 IsKeptThere B p d [] = Unit {0}
 IsKeptThere B p d (c ∷ cs) =
     (is_received_at p c ≡ true → SameDevicePart B d (after B d c)) × IsKeptThere B p (after B d c) cs
 
-pub record NoSay (B : Board) (p : ℕ) (d : B.Record) (s : Session) (cs : List Call) : Type 0 where
+pub record NoSay {R : Type 0} (B : Board R) (p : ℕ) (d : R) (s : Session) (cs : List Call) : Type 0 where
   pub kept : IsKeptThere B p d cs
   pub answers : RefusalAtMost (session_after B p d s cs).replied
 
-pub record HostsAlone (B : Board) (d : B.Record) (cs : List Call) : Type 0 where
+pub record HostsAlone {R : Type 0} (B : Board R) (d : R) (cs : List Call) : Type 0 where
   pub settings : (B.shows (run B d cs)).settings ≡ (B.shows d).settings
   pub own : (B.shows (run B d cs)).own ≡ (B.shows (run B d (host_calls cs))).own

@@ -51,8 +51,8 @@ rounds (suc n) cs = cs ++ rounds n cs
 abbrev pub opened_after : Wanted → Device
 opened_after w = (ours.opening (ours.set_up w).device 0 memory).device
 
-module _ (B : Board) where
-  abbrev pub two_opened : B.Record
+module _ {R : Type 0} (B : Board R) where
+  abbrev pub two_opened : R
   two_opened = run B (B.set_up sample).device (opens 0 memory ∷ opens 0 memory ∷ [])
 
 abbrev pub halves : List Call

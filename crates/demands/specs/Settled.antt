@@ -56,7 +56,7 @@ class_2_rows =
     ∷ ("%1INPT ?" gives "%1INPT=6A" after says "%1POWR 1" ∷ passes 20 ∷ says "%2INPT 6A" ∷ [])
     ∷ []
 
-module _ (B : Board) where
+module _ {R : Type 0} (B : Board R) where
   abbrev pub Holds : Wanted → SettledLine → Type 0
   Holds w row =
       let d = run B (B.set_up w).device (opens 0 memory ∷ row.before) in

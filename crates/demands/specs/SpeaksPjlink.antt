@@ -72,8 +72,8 @@ open_again c = phase_start c opened
 
 -- ---- what is read of the reply to a command
 
-module _ (B : Board) where
-  pub record ReadBack (d : B.Record) (p : ℕ) (c : Command) (w : Wrote) (r : Lent B.Record) : Type 0 where
+module _ {R : Type 0} (B : Board R) where
+  pub record ReadBack (d : R) (p : ℕ) (c : Command) (w : Wrote) (r : Lent R) : Type 0 where
     pub wrote : w.number ≡ 0
     pub number : r.number ≡ 0
     pub taken : r.taken ≡ w.length
@@ -83,7 +83,7 @@ module _ (B : Board) where
         (open_again (connection_at (B.shows d) p))
 
   -- ---- any line, from any controller: what it is answered by the tables of RULES, and what it leaves
-  pub record AnsweredAs (d : B.Record) (p : ℕ) (bs : List ℕ) (a : Answered) (r : Lent B.Record) : Type 0 where
+  pub record AnsweredAs (d : R) (p : ℕ) (bs : List ℕ) (a : Answered) (r : Lent R) : Type 0 where
     pub number : r.number ≡ 0
     pub taken : r.taken ≡ length bs
     pub replied : reply r ≡ a.reply
@@ -91,13 +91,13 @@ module _ (B : Board) where
 
   -- ---- the class (RULES, Class 2)
 
-  pub record IsSwallowed (d : B.Record) (p : ℕ) (w : Wrote) (r : Lent B.Record) : Type 0 where
+  pub record IsSwallowed (d : R) (p : ℕ) (w : Wrote) (r : Lent R) : Type 0 where
     pub wrote : w.number ≡ 0
     pub left : AnsweredAs d p (bytes_written w) (line_swallowed (B.shows d).own) r
 
   -- "the reader returns what the projector meant, for every command of a class no higher than the set-up's; a higher
   -- one gets no reply and changes nothing but what swallowing a line does"
-  pub record ByClass (d : B.Record) (p : ℕ) (c : Command) (w : Wrote) (r : Lent B.Record) : Type 0 where
+  pub record ByClass (d : R) (p : ℕ) (c : Command) (w : Wrote) (r : Lent R) : Type 0 where
     pub no_higher : command_class c ≤ (B.shows d).settings.class_number → ReadBack d p c w r
     pub higher : (B.shows d).settings.class_number < command_class c → IsSwallowed d p w r
 
@@ -115,19 +115,19 @@ is_led d p l = is_led_by (connection_at d p).random (set_up_password d.settings)
 
 -- ---- a stream in cuts
 
-abbrev pub call_on : (B : Board) → List ℕ → ℕ → B.Record → List ℕ → Took B.Record
+abbrev pub call_on : {R : Type 0} → Board R → List ℕ → ℕ → R → List ℕ → Took R
 call_on B m p d bs =
     let r = B.receive d p bs m in
     record { taken = r.taken; state = r.device; reply = reply r }
 
-abbrev pub handed_on : (B : Board) → List ℕ → ℕ → B.Record → List (List ℕ) → Out B.Record
+abbrev pub handed_on : {R : Type 0} → Board R → List ℕ → ℕ → R → List (List ℕ) → Out R
 handed_on B m p d ps = handed_parts (call_on B m p) d ps
 
 -- ---- the other places
 
 -- the call c is not at place q: closing and receiving name another place, opening takes another one, the host's calls
 -- name none; time passes for every place
-abbrev pub Elsewhere : (B : Board) → B.Record → Call → ℕ → Type 0
+abbrev pub Elsewhere : {R : Type 0} → Board R → R → Call → ℕ → Type 0
 Elsewhere B d (opens random m) q = q ≡ B.place_opened d random m → ⊥
 Elsewhere B d (closes p) q = q ≡ p → ⊥
 Elsewhere B d (receives p bs m) q = q ≡ p → ⊥
@@ -135,7 +135,7 @@ Elsewhere B d (passes n) q = ⊥
 Elsewhere B d c q = Unit {0}
 
 -- what someone without the password gets, and leaves as it was
-pub record RefusalOnly (B : Board) (d : B.Record) (p : ℕ) (out : Out B.Record) : Type 0 where
+pub record RefusalOnly {R : Type 0} (B : Board R) (d : R) (p : ℕ) (out : Out R) : Type 0 where
   pub refusal : out.reply ≡ erra_line
   pub settings : (B.shows out.state).settings ≡ (B.shows d).settings
   pub own : (B.shows out.state).own ≡ (B.shows d).own
@@ -145,20 +145,20 @@ pub record RefusalOnly (B : Board) (d : B.Record) (p : ℕ) (out : Out B.Record)
 
 -- ---- the demand
 
-pub record SpeaksPjlink (B : Board) : Type 0 where
+pub record SpeaksPjlink {R : Type 0} (B : Board R) : Type 0 where
   -- "with the digest of RFC 1321"
   pub digest : (s : List ℕ) → B.md5 s ≡ md5_of s
   -- "The projector's lines .. are those of PJLink Class 1", and of Class 2 (RULES, Class 2): any line of any
   -- controller, on an open connection and behind the matching digest, is answered as the tables of RULES say
-  pub answers : (d : B.Record) (p : ℕ) (l m : List ℕ) → BetweenLines opened (B.shows d) p → no_cr l ≡ true
+  pub answers : (d : R) (p : ℕ) (l m : List ℕ) → BetweenLines opened (B.shows d) p → no_cr l ≡ true
       → reply_room ≤ length m
       → let bs = l ++ codes "\r" in AnsweredAs B d p bs (answer_to (B.shows d) l) (B.receive d p bs m)
-  pub answers_led : (d : B.Record) (p : ℕ) (l m : List ℕ) → BetweenLines awaiting (B.shows d) p → no_cr l ≡ true
+  pub answers_led : (d : R) (p : ℕ) (l m : List ℕ) → BetweenLines awaiting (B.shows d) p → no_cr l ≡ true
       → length l ≤ command_most → reply_room ≤ length m
       → let bs = digest_for (B.shows d) p ++ l ++ codes "\r" in
       AnsweredAs B d p bs (answer_to (B.shows d) l) (B.receive d p bs m)
   -- RULES, Class 2: an input's name, and eight around it; 103 holds of Class 1 (ClassOne)
-  pub reply_short : (d : B.Record) (p : ℕ) (bs m : List ℕ) → (B.receive d p bs m).length ≤ longest_reply
+  pub reply_short : (d : R) (p : ℕ) (bs m : List ℕ) → (B.receive d p bs m).length ≤ longest_reply
   -- "and the controller's reading of them": whatever line comes, what is read was said by it, and what it says is read;
   -- the ERRA line and no other is read as such
   pub reads_what_is_said : (c : Command) (l : List ℕ) → (B.read_reply c l).outcome ≡ means_it
@@ -171,12 +171,12 @@ pub record SpeaksPjlink (B : Board) : Type 0 where
       w.number ≡ 0 → bytes_written w ≡ led_by secured random password ++ command_line c
   -- "On an open connection between lines, for every command our writer makes without a digest and in every legal state,
   -- what our reader, told the command, takes from the reply is what the projector meant"; RULES, Class 2: by its class
-  pub reads_back : (d : B.Record) (p : ℕ) (c : Command) (random : ℕ) (password paper m : List ℕ)
+  pub reads_back : (d : R) (p : ℕ) (c : Command) (random : ℕ) (password paper m : List ℕ)
       → BetweenLines opened (B.shows d) p → is_command c ≡ true → command_room ≤ length paper → reply_room ≤ length m
       → let w = B.write c false random password paper in ByClass B d p c w (B.receive d p (bytes_written w) m)
   -- RULES, Connection: "its reading holds as well on an awaiting connection between lines, for a command led by the
   -- matching digest"
-  pub reads_back_secured : (d : B.Record) (p : ℕ) (c : Command) (paper m : List ℕ)
+  pub reads_back_secured : (d : R) (p : ℕ) (c : Command) (paper m : List ℕ)
       → BetweenLines awaiting (B.shows d) p → is_command c ≡ true → command_room ≤ length paper → reply_room ≤ length m
       → let w = B.write c true (connection_at (B.shows d) p).random (set_up_password (B.shows d).settings) paper in
       ByClass B d p c w (B.receive d p (bytes_written w) m)
@@ -185,39 +185,39 @@ pub record SpeaksPjlink (B : Board) : Type 0 where
       → B.read_reply (Query Name) (codes "%1NAME=" ++ w.name ++ codes "\r") ≡ meaning (text_is w.name)
   -- "On a secured connection a first line without the matching digest yields the refusal line only; power, input, mutes
   -- and lamps stay": whatever follows it, and however it all is cut
-  pub outsider_refused : (d : B.Record) (p : ℕ) (l more m : List ℕ) (ps : List (List ℕ))
+  pub outsider_refused : (d : R) (p : ℕ) (l more m : List ℕ) (ps : List (List ℕ))
       → BetweenLines awaiting (B.shows d) p → no_cr l ≡ true → is_led (B.shows d) p l ≡ false → reply_room ≤ length m
       → stream_of ps ≡ l ++ codes "\r" ++ more
       → RefusalOnly B d p (handed_on B m p d ps)
   -- and over any calls, whoever else makes them: at a place that starts closed on a device with a password, so long as
   -- no first line of a connection there is led by the digest of its opening's number
-  pub outsider_has_no_say : (d : B.Record) (p : ℕ) (cs : List Call) → is_legal (B.shows d) ≡ true
+  pub outsider_has_no_say : (d : R) (p : ℕ) (cs : List Call) → is_legal (B.shows d) ≡ true
       → has_password (B.shows d).settings ≡ true → is_shut (connection_at (B.shows d) p) ≡ true
       → IsNeverMatched B p (set_up_password (B.shows d).settings) d unopened cs
       → NoSay B p d unopened cs
   -- and where that holds of every place, the own part is what time and the host's calls make of it
-  pub outsiders_have_no_say : (d : B.Record) (cs : List Call) → is_legal (B.shows d) ≡ true
+  pub outsiders_have_no_say : (d : R) (cs : List Call) → is_legal (B.shows d) ≡ true
       → has_password (B.shows d).settings ≡ true
       → ((p : ℕ) → p < places_count → is_shut (connection_at (B.shows d) p) ≡ true)
       → ((p : ℕ) → p < places_count → IsNeverMatched B p (set_up_password (B.shows d).settings) d unopened cs)
       → HostsAlone B d cs
   -- RULES, The legal record, Connection and Time: what the other calls leave, where they are accepted
   pub set_up_shows : (w : Wanted) → Leaves B (B.set_up w) (start_device w)
-  pub opens : (d : B.Record) (random : ℕ) (m : List ℕ) → (B.opening d random m).number ≡ 0
+  pub opens : (d : R) (random : ℕ) (m : List ℕ) → (B.opening d random m).number ≡ 0
       → OpenedAs B d random (B.place_opened d random m) (B.opening d random m)
-  pub closes : (d : B.Record) (p : ℕ)
+  pub closes : (d : R) (p : ℕ)
       → Leaves B (B.closing d p) (with_place (B.shows d) (B.shows d).own p closed)
-  pub marks : (d : B.Record) (fault : Bool)
+  pub marks : (d : R) (fault : Bool)
       → Leaves B (B.set_fault d fault) (with_own (B.shows d) (with_fault (B.shows d).own fault))
-  pub reports : (d : B.Record) (errors : List ℕ)
+  pub reports : (d : R) (errors : List ℕ)
       → Leaves B (B.set_errors d errors) (with_own (B.shows d) (with_errors (B.shows d).own errors))
   -- RULES, Lamps: the lamp's mark, and nothing else
-  pub enables : (d : B.Record) (lamp : ℕ) (mark : Bool)
+  pub enables : (d : R) (lamp : ℕ) (mark : Bool)
       → Leaves B (B.set_mark d lamp mark)
       (with_own (B.shows d) (with_marks (B.shows d).own (set (B.shows d).own.enabled lamp mark)))
   -- what the greeting reader takes from the opening reply is what opening did, where some place is closed; it takes no
   -- other line for a greeting
-  pub greets_back : (d : B.Record) (random : ℕ) (m : List ℕ) → is_legal (B.shows d) ≡ true
+  pub greets_back : (d : R) (random : ℕ) (m : List ℕ) → is_legal (B.shows d) ≡ true
       → (q : ℕ) → q < places_count → is_shut (connection_at (B.shows d) q) ≡ true → reply_room ≤ length m
       → random < 2 ^ 32
       → let r = B.opening d random m in
@@ -226,10 +226,10 @@ pub record SpeaksPjlink (B : Board) : Type 0 where
   pub greeting_is : (l : List ℕ) → Exactly l (B.read_greeting l)
   -- RULES, Connection: "Handed on until all is taken, with no time between, a stream gives the same reply bytes and end
   -- state however it is cut"
-  pub same_however_cut : (d : B.Record) (p : ℕ) (m : List ℕ) (ps qs : List (List ℕ)) → is_legal (B.shows d) ≡ true
+  pub same_however_cut : (d : R) (p : ℕ) (m : List ℕ) (ps qs : List (List ℕ)) → is_legal (B.shows d) ≡ true
       → p < places_count → is_shut (connection_at (B.shows d) p) ≡ false → reply_room ≤ length m
       → stream_of ps ≡ stream_of qs
       → handed_on B m p d ps ≡ handed_on B m p d qs
   -- RULES, Places: "One place's bytes never touch another's connection"
-  pub others_untouched : (d : B.Record) (c : Call) (q : ℕ) → Elsewhere B d c q
+  pub others_untouched : (d : R) (c : Call) (q : ℕ) → Elsewhere B d c q
       → connection_at (B.shows (after B d c)) q ≡ connection_at (B.shows d) q

@@ -44,12 +44,12 @@ is_opening c = false
 abbrev pub opens_none : List Call → Bool
 opens_none cs = list_all (λ c. not (is_opening c)) cs
 
-abbrev pub phase_at : (B : Board) → ℕ → B.Record → ℕ
+abbrev pub phase_at : {R : Type 0} → Board R → ℕ → R → ℕ
 phase_at B p d = (connection_at (B.shows d) p).phase
 
 -- "as closing frees a place, the premise is that nobody opens after the first moment the two runs differ in that
 -- place's phase"
-abbrev pub QuietOnceApart : (B : Board) → ℕ → B.Record → B.Record → List Call → List Call → Type 0
+abbrev pub QuietOnceApart : {R : Type 0} → Board R → ℕ → R → R → List Call → List Call → Type 0
 QuietOnceApart B p d e (a ∷ xs) (b ∷ ys) =
     ((phase_at B p d ≡ phase_at B p e → ⊥) → opens_none (a ∷ xs) ≡ true)
     × QuietOnceApart B p (after B d a) (after B e b) xs ys
@@ -63,24 +63,24 @@ is_at_place p (closes q) = q == p
 is_at_place p (receives q bs m) = q == p
 is_at_place p c = false
 
-abbrev pub others_got : (B : Board) → ℕ → B.Record → List Call → List Gave
+abbrev pub others_got : {R : Type 0} → Board R → ℕ → R → List Call → List Gave
 others_got B p d [] = []
 others_got B p d (c ∷ cs) =
     if is_at_place p c then others_got B p (after B d c) cs else gave_by B d c ∷ others_got B p (after B d c) cs
 
 -- ---- the request
 
-pub record SameElsewhere (B : Board) (p : ℕ) (d e : B.Record) : Type 0 where
+pub record SameElsewhere {R : Type 0} (B : Board R) (p : ℕ) (d e : R) : Type 0 where
   pub device : SameDevicePart B d e
   pub others : (q : ℕ) → (q ≡ p → ⊥) → connection_at (B.shows e) q ≡ connection_at (B.shows d) q
 
 -- "Then every reply on the other places, the whole device part of the record, the results of open calls and the other
 -- connections are equal"
-pub record HeardAlike (B : Board) (p : ℕ) (d e : B.Record) (xs ys : List Call) : Type 0 where
+pub record HeardAlike {R : Type 0} (B : Board R) (p : ℕ) (d e : R) (xs ys : List Call) : Type 0 where
   pub got : others_got B p d xs ≡ others_got B p e ys
   pub left : SameElsewhere B p (run B d xs) (run B e ys)
 
-pub record Unheard (B : Board) : Type 0 where
+pub record Unheard {R : Type 0} (B : Board R) : Type 0 where
   pub outsider_unheard : (w : Wanted) (p : ℕ) (xs ys : List Call)
       → let d = (B.set_up w).device in
       let password = set_up_password (B.shows d).settings in

@@ -13,7 +13,7 @@ use Rattle.ours.specs.Board.{Board, ours, lent_by}
 use Rattle.demands.specs.OursBut.{but_receive, but_reader}
 
 -- a set-up of Class 1 knows that there is a Class 2: it says that it has no such body
-abbrev pub answers_class_2 : Board
+abbrev pub answers_class_2 : Board Device
 answers_class_2 = but_receive (λ d p bs m.
     let r = ours.receive d p bs m in
     if d.settings.class_number == 1 && bs at 1 is "2"
@@ -26,7 +26,7 @@ answers_class_2 = but_receive (λ d p bs m.
     else r)
 
 -- keeps the rule of Class 1 for the input that is told: a digit 1 to 9
-abbrev pub refuses_letters : Board
+abbrev pub refuses_letters : Board Device
 refuses_letters = but_reader (λ c l.
     if same_by itself (reply_parameter l) (codes "6A") then outcome_alone disallowed else read_reply c l)
 
@@ -36,7 +36,7 @@ from_the_top before now =
     if before.own.speaker == volume_most && now.own.speaker == volume_most
     then with_own now (with_volumes now.own 0 now.own.microphone) else now
 
-abbrev pub volume_wraps : Board
+abbrev pub volume_wraps : Board Device
 volume_wraps = but_receive (λ d p bs m.
     let r = ours.receive d p bs m in
     record {

@@ -9,7 +9,7 @@ use Rattle.ours.specs.Board.{Board, Lent, ours}
 use Rattle.record.specs.Given.{Given}
 use Rattle.demands.specs.OursBut.{but_receive, but_pass}
 
-abbrev pub still_clock : Board
+abbrev pub still_clock : Board Device
 still_clock = but_pass (λ d n. record { number = 0; device = d })
 
 abbrev having_lamps : Device → List ℕ → Device
@@ -23,7 +23,7 @@ abbrev whole_hours : Device → Device → Device
 whole_hours before now =
     if goes_dark before now then having_lamps now (map (λ s. s / 3600 * 3600) now.own.lamps) else now
 
-abbrev pub drops_part_hour : Board
+abbrev pub drops_part_hour : Board Device
 drops_part_hour = but_receive (λ d p bs m.
     let r = ours.receive d p bs m in
     record {
@@ -54,9 +54,8 @@ marked_lent b r = record {
   device = session_on b r.device;
 }
 
-abbrev pub first_only : Board
+abbrev pub first_only : Board Marked
 first_only = record {
-  Record = Marked;
   shows = λ b. b.0;
   set_up = λ w. record { number = (ours.set_up w).number; device = ((ours.set_up w).device, false) };
   opening = λ b random m. marked_lent b (ours.opening b.0 random m);

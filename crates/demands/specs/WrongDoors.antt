@@ -17,7 +17,7 @@ use Rattle.demands.specs.OursBut.{but_set_up, but_opening, but_closing, but_pass
 abbrev pub secured_sample : Wanted
 secured_sample = with_password (codes "JBMIAProjectorLink") sample
 
-abbrev pub forgets_password : Board
+abbrev pub forgets_password : Board Device
 forgets_password = but_set_up (λ w. ours.set_up (with_password [] w))
 
 -- the device with the connection at place p open, whatever it was
@@ -35,15 +35,15 @@ opened_openly p r =
           r.device p;
     } else r
 
-abbrev pub ignores_password : Board
+abbrev pub ignores_password : Board Device
 ignores_password =
     but_opening (λ d random m. lent_by (opened_openly (place_taken d (length m)) (opened_by d random (length m))) m)
 
-abbrev pub greets_with_zero : Board
+abbrev pub greets_with_zero : Board Device
 greets_with_zero = but_opening (λ d random m. ours.opening d 0 m)
 
 -- time lets him in at place 0 whose connection is in this phase
-abbrev time_lets_in : ℕ → Board
+abbrev time_lets_in : ℕ → Board Device
 time_lets_in phase = but_pass (λ d n.
     let r = ours.pass d n in
     record {
@@ -51,18 +51,18 @@ time_lets_in phase = but_pass (λ d n.
       device = if (connection_at r.device 0).phase == phase then let_in r.device 0 else r.device;
     })
 
-abbrev pub time_opens : Board
+abbrev pub time_opens : Board Device
 time_opens = time_lets_in awaiting
 
 -- a failed connection answers commands once a second has passed
-abbrev pub failed_answers : Board
+abbrev pub failed_answers : Board Device
 failed_answers = time_lets_in failed
 
-abbrev pub never_closes : Board
+abbrev pub never_closes : Board Device
 never_closes = but_closing (λ d p. record { number = (ours.closing d p).number; device = d })
 
-abbrev pub hides_faults : Board
+abbrev pub hides_faults : Board Device
 hides_faults = but_fault (λ d mark. record { number = (ours.set_fault d mark).number; device = d })
 
-abbrev pub hides_errors : Board
+abbrev pub hides_errors : Board Device
 hides_errors = but_errors (λ d errors. record { number = (ours.set_errors d errors).number; device = d })

@@ -23,16 +23,16 @@ abbrev having_marks : Device → List Bool → Device
 having_marks d ms = with_own d (with_marks d.own ms)
 
 -- time passes with these marks in the place of its own, which come back
-abbrev passing_with : (Device → List Bool) → Board
+abbrev passing_with : (Device → List Bool) → Board Device
 passing_with marks = but_pass (λ d n.
     let r = ours.pass (having_marks d (marks d)) n in
     record { number = r.number; device = having_marks r.device d.own.enabled })
 
-abbrev pub burns_all_lamps : Board
+abbrev pub burns_all_lamps : Board Device
 burns_all_lamps = passing_with (λ d. all_marks d.settings.lamp_count)
 
 -- the second lamp burns, whatever its mark
-abbrev pub counts_disabled : Board
+abbrev pub counts_disabled : Board Device
 counts_disabled = passing_with (λ d. set d.own.enabled 1 true)
 
 -- as the lamps are switched on, each is enabled again
@@ -41,7 +41,7 @@ switched_on before now =
     if before.own.power == off && now.own.power == warming
     then having_marks now (all_marks now.settings.lamp_count) else now
 
-abbrev pub forgets_marks : Board
+abbrev pub forgets_marks : Board Device
 forgets_marks = but_receive (λ d p bs m.
     let r = ours.receive d p bs m in
     record {

@@ -22,23 +22,22 @@ use Rattle.record.specs.Given.{Given}
 use Rattle.demands.specs.OursBut.{but_receive, but_reader}
 
 -- takes every byte, and says this to them
-abbrev always_replying : (List ℕ → List ℕ) → Board
+abbrev always_replying : (List ℕ → List ℕ) → Board Device
 always_replying answer =
     but_receive (λ d p bs m. lent_by (record { number = 0; taken = length bs; reply = answer bs; device = d }) m)
 
-abbrev pub drops_all : Board
+abbrev pub drops_all : Board Device
 drops_all = always_replying (λ bs. [])
 
 -- with the body as received
-abbrev pub ok_to_all : Board
+abbrev pub ok_to_all : Board Device
 ok_to_all = always_replying (λ bs. codes "%1" ++ take 4 (drop 2 bs) ++ codes "=OK\r")
 
 abbrev refused_given : ℕ → Device → Given Device
 refused_given n d = record { number = n; device = d }
 
-abbrev pub refuses_all : Board
+abbrev pub refuses_all : Board Device
 refuses_all = record {
-  Record = Device;
   shows = λ d. d;
   set_up = λ w. refused_given 3 blank;
   opening = λ d random m. lent_by (refused_by 1 d) m;
@@ -58,10 +57,10 @@ refuses_all = record {
 }
 
 -- our receiving, with its result changed
-abbrev retelling_by : (Lent Device → Lent Device) → Board
+abbrev retelling_by : (Lent Device → Lent Device) → Board Device
 retelling_by change = but_receive (λ d p bs m. change (ours.receive d p bs m))
 
-abbrev pub made_up_length : Board
+abbrev pub made_up_length : Board Device
 made_up_length = retelling_by (λ r. record {
   number = r.number;
   taken = r.taken;
@@ -70,7 +69,7 @@ made_up_length = retelling_by (λ r. record {
   device = r.device;
 })
 
-abbrev pub made_up_taken : Board
+abbrev pub made_up_taken : Board Device
 made_up_taken = retelling_by (λ r. record {
   number = r.number;
   taken = suc r.taken;
@@ -80,7 +79,7 @@ made_up_taken = retelling_by (λ r. record {
 })
 
 -- "Upper-casing the echoed body"
-abbrev pub upper_cases : Board
+abbrev pub upper_cases : Board Device
 upper_cases = retelling_by (λ r. record {
   number = r.number;
   taken = r.taken;
@@ -96,7 +95,7 @@ forgetting_at d p [] m =
     lent_by (record { number = 0; taken = 0; reply = []; device = none }) m
 forgetting_at d p (b ∷ bs) m = ours.receive d p (b ∷ bs) m
 
-abbrev pub forgets_at_nothing : Board
+abbrev pub forgets_at_nothing : Board Device
 forgets_at_nothing = but_receive forgetting_at
 
 -- takes a NAME reply in other letters than our projector's for the empty text
@@ -112,5 +111,5 @@ reads_our_names c l =
     if is_body 1 (head_body l) Name && not (same_by itself (head_body l) (codes "NAME"))
     then empty_reading (read_reply c l).outcome else read_reply c l
 
-abbrev pub others_nameless : Board
+abbrev pub others_nameless : Board Device
 others_nameless = but_reader reads_our_names

@@ -19,7 +19,7 @@ use Rattle.demands.specs.OursBut.{but_receive}
 abbrev fails_now : Device → ℕ → Device → Bool
 fails_now d p e = (connection_at d p).phase == awaiting && (connection_at e p).phase == failed
 
-abbrev on_failure : (Device → ℕ → Device) → Board
+abbrev on_failure : (Device → ℕ → Device) → Board Device
 on_failure change = but_receive (λ d p bs m.
     let r = ours.receive d p bs m in
     record {
@@ -31,11 +31,11 @@ on_failure change = but_receive (λ d p bs m.
     })
 
 -- closes the next place with it
-abbrev pub closes_next : Board
+abbrev pub closes_next : Board Device
 closes_next = on_failure (λ d p. with_place d d.own (p + 1) closed)
 
 -- counts failed log-ins in the last error digit
-abbrev pub counts_failures : Board
+abbrev pub counts_failures : Board Device
 counts_failures = on_failure (λ d p.
     let errors = d.own.errors in
     with_own d (with_errors d.own (set errors 5 (min error_most (slice_index_or errors 5 0 + 1)))))
@@ -74,9 +74,8 @@ answered_elsewhere b p bs m =
     else if is_no_place b.1 || b.1 == p then owing_then r b.1
     else owing_then (replying_with r erra_line m) places_count
 
-abbrev pub refuses_elsewhere : Board
+abbrev pub refuses_elsewhere : Board Owing
 refuses_elsewhere = record {
-  Record = Owing;
   shows = λ b. b.0;
   set_up = λ w. record { number = (ours.set_up w).number; device = ((ours.set_up w).device, places_count) };
   opening = λ b random m. owing_then (ours.opening b.0 random m) b.1;

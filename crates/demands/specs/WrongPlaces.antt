@@ -25,9 +25,8 @@ module _ {X : Type 0} where
   }
 
 module _ (X : Type 0) (x : X) (receive : Device × X → ℕ → List ℕ → List ℕ → Lent (Device × X)) where
-  abbrev besides : Board
+  abbrev besides : Board (Device × X)
   besides = record {
-    Record = Device × X;
     shows = λ b. b.0;
     set_up = λ w. given_beside x (ours.set_up w);
     opening = λ b random m. lent_beside b.1 (ours.opening b.0 random m);
@@ -50,12 +49,12 @@ module _ (X : Type 0) (x : X) (receive : Device × X → ℕ → List ℕ → Li
 abbrev power_forgotten : Device → Device
 power_forgotten d = with_own d (with_power_left d.own off 0)
 
-abbrev pub forgets_others_power : Board
+abbrev pub forgets_others_power : Board (Device × ℕ)
 forgets_others_power = besides ℕ 0 (λ b p bs m.
     lent_beside p (ours.receive (if p == b.1 then b.0 else power_forgotten b.0) p bs m))
 
 -- every place's bytes are collected in one line
-abbrev pub one_line_for_all : Board
+abbrev pub one_line_for_all : Board (Device × Line)
 one_line_for_all = besides Line empty_line (λ b p bs m.
     let d = b.0 in
     let r = ours.receive (with_place d d.own p (with_line (connection_at d p) b.1)) p bs m in

@@ -4,11 +4,12 @@ use Rattle.std.specs.Prelude.{if◌then◌else◌, ◌==◌, codes}
 use Rattle.text.specs.Words.{over}
 use Rattle.record.specs.Record.{closed}
 use Rattle.record.specs.Places.{with_place}
+use Rattle.record.specs.declared.types.Device.{Device}
 use Rattle.ours.specs.Board.{Board, ours}
 use Rattle.demands.specs.OursBut.{but_receive}
 
 -- writes the start of a reply before it refuses
-abbrev pub writes_first : Board
+abbrev pub writes_first : Board Device
 writes_first = but_receive (λ d p bs m.
     let r = ours.receive d p bs m in
     record {
@@ -20,7 +21,7 @@ writes_first = but_receive (λ d p bs m.
     })
 
 -- closes the connection where it refuses
-abbrev pub changes_refused : Board
+abbrev pub changes_refused : Board Device
 changes_refused = but_receive (λ d p bs m.
     let r = ours.receive d p bs m in
     record {

@@ -4,7 +4,7 @@
 --   Lent R        what a call gives that is lent reply memory: its number, the bytes taken, the reply's length, the
 --                 memory as the call leaves it, and the record
 --   reply r       the reply: as many bytes of the memory as the length tells
---   Board         the calls; a board may keep more than the device record, which `shows` gives
+--   Board R       the calls, on a record R: it may hold more than the device record, which `shows` gives
 --   ours          our calls: beside each, the function whose contract says this very definition
 -- Assumes nothing.
 use Rattle.std.specs.Prelude.{ℕ, Bool, List, Option, length, take}
@@ -46,21 +46,20 @@ abbrev pub bytes_written : Wrote → List ℕ
 bytes_written w = take w.length w.memory
 
 -- memory is the last argument wherever it is lent; closing and receiving are at a place
-pub record Board : Type 1 where
-  pub Record : Type 0
-  pub shows : Record → Device
-  pub set_up : Wanted → Given Record
-  pub opening : Record → ℕ → List ℕ → Lent Record
+pub record Board (R : Type 0) : Type 0 where
+  pub shows : R → Device
+  pub set_up : Wanted → Given R
+  pub opening : R → ℕ → List ℕ → Lent R
   -- what an opening tells beside that: the place
-  pub place_opened : Record → ℕ → List ℕ → ℕ
-  pub closing : Record → ℕ → Given Record
-  pub receive : Record → ℕ → List ℕ → List ℕ → Lent Record
-  pub pass : Record → ℕ → Given Record
-  pub set_fault : Record → Bool → Given Record
-  pub set_errors : Record → List ℕ → Given Record
-  pub set_mark : Record → ℕ → Bool → Given Record
-  pub store : Record → List ℕ → Wrote
-  pub load : List ℕ → Given Record
+  pub place_opened : R → ℕ → List ℕ → ℕ
+  pub closing : R → ℕ → Given R
+  pub receive : R → ℕ → List ℕ → List ℕ → Lent R
+  pub pass : R → ℕ → Given R
+  pub set_fault : R → Bool → Given R
+  pub set_errors : R → List ℕ → Given R
+  pub set_mark : R → ℕ → Bool → Given R
+  pub store : R → List ℕ → Wrote
+  pub load : List ℕ → Given R
   pub md5 : List ℕ → List ℕ
   pub write : Command → Bool → ℕ → List ℕ → List ℕ → Wrote
   pub read_reply : Command → List ℕ → ReadAs
@@ -82,9 +81,8 @@ lent_by r m = record {
 abbrev pub wrote_by : WrittenAs → List ℕ → Wrote
 wrote_by w m = record { number = w.number; length = length w.bytes; memory = over w.bytes m }
 
-abbrev pub ours : Board
+abbrev pub ours : Board Device
 ours = record {
-  Record = Device;
   shows = λ d. d;
   -- setup::set_up; what it cannot be lent, a class that there is not, is out of range
   set_up = λ w. set_up_given (set_up w);
