@@ -1,6 +1,7 @@
 pub mod WrittenAndRead
 pub mod LinesAnswered
 pub mod KeepsRunning
+pub mod Received
 pub mod SpeaksPjlink
 pub mod Sessions
 pub mod CallsDo
@@ -17,5 +18,6 @@ pub mod CountsSeconds
 pub mod Interleaved
 pub mod BoardSwap
 pub mod Samples
+pub mod TwoBoards
 pub mod WrongBoardsFall
 pub mod Settled

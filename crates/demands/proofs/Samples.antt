@@ -2,7 +2,7 @@
 -- reach in Class 1 (RULES, Inputs) and an input's name in Class 2 (RULES, Class 2). A line shorter than a digest is
 -- not led by it: so are those that somebody without the password sends here.
 -- Assumes nothing.
-use Rattle.std.proofs.Common.{ℕ, ◌<◌, ◌≡◌, false, List, arith, length, codes, refl, sym, ap, ◌∙◌, ◌==◌, eq-eqb}
+use Rattle.std.proofs.Common.{ℕ, ◌<◌, ◌≡◌, false, List, [], arith, length, codes, refl, sym, ap, ◌∙◌, ◌==◌, eq-eqb}
 use Rattle.text.specs.Scans.{same_by, itself}
 use Rattle.text.proofs.Scanning.{long_differs}
 use Rattle.digest.specs.Hex.{leading_digest}
@@ -46,3 +46,7 @@ pub longest_reply_reached :
     (ours.receive (opened_after long_named) 0 (codes "%2INNM ?11\r") memory).length ≡ longest_reply
 unfolding computing
 longest_reply_reached = refl
+
+pub nothing_loads : (ours.load []).number ≡ 21
+unfolding computing
+nothing_loads = refl

@@ -23,6 +23,8 @@ use Rattle.demands.proofs.KeepsRunning.{over_front}
 use Rattle.device.proofs.Short.{receiving_short}
 use Rattle.pjlink.proofs.GreetingsHeard.{heard_exactly}
 use Rattle.controller.proofs.ReadsSound.{means_what_was_written, what_was_written_is_meant, erra_exactly}
+use Rattle.controller.proofs.Refusals.{erra_read}
+use Rattle.demands.proofs.Received.{received}
 use Rattle.demands.specs.Calls.{closes, marks, reports, enables}
 use Rattle.demands.specs.SpeaksPjlink.{SpeaksPjlink}
 use Rattle.demands.proofs.LinesAnswered.{line_answered, led_line_answered, same_however_cut, outsider_refused}
@@ -49,7 +51,12 @@ module _ (d : Device) where
   opens random m =
       opened_placed_by d random (length m)
       (λ p r. r.number ≡ 0 → OpenedAs ours d random p (lent_by r m)) (λ n z e. absurd (z e))
-      (λ h k c e. record { replied = over_front (greeting d.settings random) m; lowest = refl; device = refl })
+      (λ h k c e. record {
+        taken = refl;
+        replied = over_front (greeting d.settings random) m;
+        lowest = refl;
+        device = refl;
+      })
 
 pub ours_speaks_pjlink : SpeaksPjlink ours
 ours_speaks_pjlink = record {
@@ -60,6 +67,7 @@ ours_speaks_pjlink = record {
   reads_what_is_said = means_what_was_written;
   what_is_said_is_read = what_was_written_is_meant;
   erra_exactly = erra_exactly;
+  erra_means_nothing = erra_read;
   writes = writes;
   reads_back = λ d p c random password paper m between writable roomy enough.
       reads_back d p c paper m writable roomy enough random password between;
@@ -71,6 +79,7 @@ ours_speaks_pjlink = record {
   outsiders_have_no_say = outsiders_have_no_say;
   set_up_shows = set_up_shows;
   opens = opens;
+  receives = received;
   closes = λ d p. served_after d (closes p);
   marks = λ d fault. served_after d (marks fault);
   reports = λ d errors. served_after d (reports errors);

@@ -1,7 +1,8 @@
 -- The wrong boards of specs/ fall, each to what the demand that it was made against says of one sample: what is said
 -- equal there differs by a number.
 -- Assumes nothing.
-use Rattle.std.proofs.Common.{ℕ, refl, List, arith, replicate, [], ◌∷◌, length, codes, ap, true, slice_index_or, ◌≡◌}
+use Rattle.std.proofs.Common.{ℕ, refl, sym, ◌∙◌, List, arith, replicate, [], ◌∷◌, length, codes, ap, true, false}
+use Rattle.std.proofs.Common.{slice_index_or, ◌≡◌}
 use Rattle.words.specs.Bytes.{◌at◌}
 use Rattle.record.specs.Places.{connection_at}
 use Rattle.record.specs.declared.types.Device.{Device}
@@ -11,9 +12,10 @@ use Rattle.demands.specs.Sample.{with_cr, memory, class_2_sample, opened_after, 
 use Rattle.demands.specs.Sample.{halves}
 use Rattle.demands.specs.WrongRefusals.{writes_first, changes_refused}
 use Rattle.demands.specs.Computing.{computing}
+use Rattle.demands.proofs.SpeaksPjlink.{ours_speaks_pjlink}
 use Rattle.demands.proofs.Samples.{apart, opened_sample, ready, same_by-leading_digest, x_unled}
 use Rattle.pjlink.specs.declared.command.Command.TheVariants.{Query}
-use Rattle.pjlink.specs.declared.body.Body.TheVariants.{Name, Inpt, Snum}
+use Rattle.pjlink.specs.declared.body.Body.TheVariants.{Name, Inpt, Powr, Snum}
 use Rattle.pjlink.specs.Said.{text_is, said_bytes, chosen_is}
 use Rattle.pjlink.specs.CanSay.{name, input}
 use Rattle.record.specs.Limits.{opened, on, volume_most, volume_start}
@@ -22,7 +24,7 @@ use Rattle.controller.specs.Reading.{ReadAs, LineSays, reading_outcome_number}
 use Rattle.ours.specs.Board.{Board, ours}
 use Rattle.demands.specs.SpeaksPjlink.{SpeaksPjlink, BetweenLines, AnsweredAs, answer_to}
 use Rattle.demands.specs.WrongLines.{drops_all, ok_to_all, refuses_all, made_up_length, made_up_taken, upper_cases}
-use Rattle.demands.specs.WrongLines.{forgets_at_nothing, others_nameless}
+use Rattle.demands.specs.WrongLines.{forgets_at_nothing, others_nameless, off_at_erra, darkens_swallowing}
 use Rattle.words.specs.declared.input.Source.TheVariants.{Internal}
 use Rattle.words.specs.declared.input.Input.{Input}
 use Rattle.record.specs.Updates.{with_own, with_power_left, with_volumes}
@@ -30,7 +32,7 @@ use Rattle.controller.specs.Writing.{command_room}
 use Rattle.demands.specs.WrongClasses.{answers_class_2, refuses_letters, volume_wraps}
 use Rattle.std.proofs.lemmas.Bool.{false≢true}
 use Rattle.demands.specs.WrongDoors.{secured_sample, forgets_password, ignores_password, greets_with_zero, time_opens}
-use Rattle.demands.specs.WrongDoors.{failed_answers, never_closes, hides_faults, hides_errors}
+use Rattle.demands.specs.WrongDoors.{failed_answers, never_closes, hides_faults, hides_errors, takes_at_opening}
 use Rattle.record.specs.declared.types.Own.{Own}
 use Rattle.record.specs.declared.types.Connection.{Connection}
 use Rattle.demands.specs.WrongOutsiders.{closes_next, counts_failures, refuses_elsewhere}
@@ -115,6 +117,33 @@ others_nameless_falls h =
     apart (λ (r : ReadAs). length (said_bytes r.said))
     (h.what_is_said_is_read (Query Name) (with_cr "%1name=Foo") (text_is foo) line) refl
 
+-- the bytes that say what is read: `0`, and none
+pub off_at_erra_falls : SpeaksPjlink off_at_erra → ⊥
+unfolding computing
+off_at_erra_falls h = apart (λ (r : ReadAs). length (said_bytes r.said)) (h.erra_means_nothing (Query Powr)) refl
+
+-- a byte more than a line may have: the picture is dark, and by our board, which does what is said, it is not
+abbrev overlong : List ℕ
+overlong = replicate 136 0
+
+taken : (ours.receive opened_sample 0 overlong memory).number ≡ 0
+unfolding computing
+taken = refl
+
+shown : (ours.receive opened_sample 0 overlong memory).device.own.video_muted ≡ false
+unfolding computing
+shown = refl
+
+darkened : (darkens_swallowing.receive opened_sample 0 overlong memory).device.own.video_muted ≡ true
+unfolding computing
+darkened = refl
+
+pub darkens_swallowing_falls : SpeaksPjlink darkens_swallowing → ⊥
+darkens_swallowing_falls h =
+    let by_both = ours_speaks_pjlink.receives opened_sample 0 overlong memory taken
+    ∙ sym (h.receives opened_sample 0 overlong memory taken) in
+    false≢true (sym shown ∙ ap (λ (d : Device). d.own.video_muted) by_both ∙ darkened)
+
 -- ---- demand 2: the class
 
 -- the reply's length: a set-up of Class 1 replies nothing to `%2SNUM ?`
@@ -173,6 +202,11 @@ pub greets_with_zero_falls : SpeaksPjlink greets_with_zero → ⊥
 unfolding computing
 greets_with_zero_falls h =
     apart (λ (d : Device). (connection_at d 0).random) (h.opens secured 7 memory refl).device refl
+
+-- the bytes taken
+pub takes_at_opening_falls : SpeaksPjlink takes_at_opening → ⊥
+unfolding computing
+takes_at_opening_falls h = apart (λ (n : ℕ). n) (h.opens secured 7 memory refl).taken refl
 
 -- ---- the outsider, who powers on
 

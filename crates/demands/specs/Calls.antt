@@ -5,7 +5,7 @@
 --   Gave            what a call gives beside the record: the reply is as much of the memory as the length tells, the
 --                   place is what an opening tells; 0 or nothing where there is none
 --   gave_by B d c   what the call c gives so, lent d;    number_of B d c   the number of that
---   run B d cs      the record after the calls cs
+--   run B d cs      the record after the calls cs;         gave_all B d cs    what each of them gives
 -- Assumes nothing.
 use Rattle.std.specs.Prelude.{ℕ, Bool, List, [], ◌∷◌}
 use Rattle.record.specs.Given.{Given}
@@ -64,3 +64,7 @@ module _ {R : Type 0} (B : Board R) where
   abbrev pub run : R → List Call → R
   run d [] = d
   run d (c ∷ cs) = run (after d c) cs
+
+  abbrev pub gave_all : R → List Call → List Gave
+  gave_all d [] = []
+  gave_all d (c ∷ cs) = gave_by d c ∷ gave_all (after d c) cs

@@ -10,6 +10,7 @@ pub mod ClassOne
 pub mod CountsSeconds
 pub mod Interleaved
 pub mod BoardSwap
+pub mod TwoBoards
 pub mod Beside
 pub mod Sample
 pub mod OursBut

@@ -9,8 +9,9 @@
 -- an answer is and which bytes say it (pjlink/specs: Said, CanSay, Writings); what a reading means and a greeting is
 -- (controller/specs: `meaning`, `LineSays` of Reading, `Exactly` of Greetings; here Greeted); what is meant and done
 -- (meaning/specs); how a line is answered and a connection greeted (device/specs: Answering, `is_led_by` of Receiving,
--- and `greeting`, `greeted` of Calls); the record (record/specs); a stream in cuts (stream/specs/Machine);
--- ours/specs/Board; here Calls, CallsDone, Outsider. RULES, Places: "Demand 2 holds place by place": what is said of a
+-- and `greeting`, `greeted` of Calls); what a byte and a line's end do to a connection (`keeping_line`, `line_ended` of
+-- Receiving; `line_after` of stream/specs/Collecting); the record (record/specs); a stream in cuts (stream/specs/
+-- Machine); ours/specs/Board; here Calls, CallsDone, Outsider. RULES, Places: "Demand 2 holds place by place": what is said of a
 -- connection is said of that at any place p, whatever the other places hold. RULES, Class 2: lines, commands and
 -- set-ups are of Class 1 or Class 2, and all is said of both; that a Class 1 set-up is as it was before is in ClassOne.
 --   BetweenLines phase d p   legal, at place p in that phase, no collected bytes and no overlong mark
@@ -49,12 +50,12 @@ use Rattle.device.specs.Answering.{Answered, line_answer, line_swallowed}
 use Rattle.device.specs.Receiving.{phase_start, set_up_password, is_led_by}
 use Rattle.device.specs.Calls.{longest_reply, reply_room, has_password}
 use Rattle.controller.specs.Writing.{command_room, led_by}
-use Rattle.controller.specs.Reading.{meaning, LineSays, means_it, erra_said}
+use Rattle.controller.specs.Reading.{meaning, LineSays, means_it, erra_said, outcome_alone}
 use Rattle.pjlink.specs.Greetings.{Exactly}
 use Rattle.demands.specs.Greeted.{greeted_on}
 use Rattle.ours.specs.Board.{Board, Lent, Wrote, reply, bytes_written}
 use Rattle.demands.specs.Calls.{Call, opens, closes, receives, passes, after}
-use Rattle.demands.specs.CallsDone.{OpenedAs, Leaves}
+use Rattle.demands.specs.CallsDone.{OpenedAs, ReceivedAs, Leaves}
 use Rattle.demands.specs.Outsider.{unopened, IsNeverMatched, NoSay, HostsAlone}
 
 -- ---- a connection between lines
@@ -160,11 +161,12 @@ pub record SpeaksPjlink {R : Type 0} (B : Board R) : Type 0 where
   -- RULES, Class 2: an input's name, and eight around it; 103 holds of Class 1 (ClassOne)
   pub reply_short : (d : R) (p : ℕ) (bs m : List ℕ) → (B.receive d p bs m).length ≤ longest_reply
   -- "and the controller's reading of them": whatever line comes, what is read was said by it, and what it says is read;
-  -- the ERRA line and no other is read as such
+  -- the ERRA line and no other is read as such, and nothing else is read in it
   pub reads_what_is_said : (c : Command) (l : List ℕ) → (B.read_reply c l).outcome ≡ means_it
       → LineSays c l (B.read_reply c l).said
   pub what_is_said_is_read : (c : Command) (l : List ℕ) (m : Said) → LineSays c l m → B.read_reply c l ≡ meaning m
   pub erra_exactly : (c : Command) (l : List ℕ) → ((B.read_reply c l).outcome ≡ erra_said) ↔ (l ≡ erra_line)
+  pub erra_means_nothing : (c : Command) → B.read_reply c erra_line ≡ outcome_alone erra_said
   -- "for every command our writer makes": its line, led by the digest where one was asked for
   pub writes : (c : Command) (secured : Bool) (random : ℕ) (password m : List ℕ)
       → let w = B.write c secured random password m in
@@ -205,6 +207,9 @@ pub record SpeaksPjlink {R : Type 0} (B : Board R) : Type 0 where
   pub set_up_shows : (w : Wanted) → Leaves B (B.set_up w) (start_device w)
   pub opens : (d : R) (random : ℕ) (m : List ℕ) → (B.opening d random m).number ≡ 0
       → OpenedAs B d random (B.place_opened d random m) (B.opening d random m)
+  -- whatever bytes these are, a part of a line, a line or more, whoever sends them
+  pub receives : (d : R) (p : ℕ) (bs m : List ℕ) → (B.receive d p bs m).number ≡ 0
+      → ReceivedAs B d p bs (B.receive d p bs m)
   pub closes : (d : R) (p : ℕ)
       → Leaves B (B.closing d p) (with_place (B.shows d) (B.shows d).own p closed)
   pub marks : (d : R) (fault : Bool)

@@ -66,3 +66,15 @@ hides_faults = but_fault (λ d mark. record { number = (ours.set_fault d mark).n
 
 abbrev pub hides_errors : Board Device
 hides_errors = but_errors (λ d errors. record { number = (ours.set_errors d errors).number; device = d })
+
+-- tells a byte taken by an opening
+abbrev pub takes_at_opening : Board Device
+takes_at_opening = but_opening (λ d random m.
+    let r = ours.opening d random m in
+    record {
+      number = r.number;
+      taken = if r.number == 0 then 1 else r.taken;
+      length = r.length;
+      memory = r.memory;
+      device = r.device;
+    })

@@ -1,16 +1,20 @@
 -- Wrong boards against demand 2, as to lines, their cuts and their reading (RULES, What the product holds and
 -- "Readings that look right"); proofs/WrongBoardsFall.antt has where each falls.
 -- Assumes nothing.
-use Rattle.std.specs.Prelude.{ℕ, suc, not, ◌&&◌, List, [], ◌∷◌, ◌++◌, map, length, take, drop, if◌then◌else◌, codes}
+use Rattle.std.specs.Prelude.{ℕ, suc, Bool, not, ◌&&◌, List, [], ◌∷◌, ◌++◌, map, length, take, drop, ◌==◌, codes}
+use Rattle.std.specs.Prelude.{if◌then◌else◌}
 use Rattle.text.specs.Scans.{same_by, itself}
 use Rattle.words.specs.Bytes.{upper_of}
-use Rattle.pjlink.specs.Forms.{head_body}
+use Rattle.words.specs.declared.power.Power.TheVariants.{Off}
+use Rattle.pjlink.specs.Forms.{head_body, erra_line}
 use Rattle.pjlink.specs.declared.command.Command.{Command}
 use Rattle.pjlink.specs.declared.body.Body.TheVariants.{Name}
 use Rattle.pjlink.specs.Bodies.{is_body}
-use Rattle.pjlink.specs.Said.{text_is}
-use Rattle.record.specs.Updates.{with_line}
+use Rattle.pjlink.specs.Said.{text_is, power_is}
+use Rattle.record.specs.Limits.{opened}
+use Rattle.record.specs.Updates.{with_line, with_own, with_mutes}
 use Rattle.record.specs.Record.{blank}
+use Rattle.record.specs.declared.types.Own.{Own}
 use Rattle.record.specs.declared.types.Device.{Device}
 use Rattle.stream.specs.Collecting.{empty_line}
 use Rattle.record.specs.Places.{connection_at, with_place}
@@ -113,3 +117,34 @@ reads_our_names c l =
 
 abbrev pub others_nameless : Board Device
 others_nameless = but_reader reads_our_names
+
+-- takes a power off from the ERRA line
+abbrev reads_off_at_erra_line : Command → List ℕ → ReadAs
+reads_off_at_erra_line c l =
+    if same_by itself l erra_line then record { outcome = erra_said; said = power_is Off } else read_reply c l
+
+abbrev pub off_at_erra : Board Device
+off_at_erra = but_reader reads_off_at_erra_line
+
+-- the connection at place p is open, and swallows an overlong line
+abbrev swallows_at : Device → ℕ → Bool
+swallows_at d p = (connection_at d p).phase == opened && (connection_at d p).line.overlong
+
+abbrev are_apart : Bool → Bool → Bool
+are_apart a b = if a then not b else b
+
+abbrev turned_if : Bool → Own → Own
+turned_if t o = with_mutes o (are_apart t o.video_muted) o.audio_muted
+
+-- the picture goes dark as it begins to swallow a line, and comes back at that line's CR, not at a hang-up
+abbrev pub darkens_swallowing : Board Device
+darkens_swallowing = but_receive (λ d p bs m.
+    let r = ours.receive d p bs m in
+    let turned = are_apart (swallows_at d p) (swallows_at r.device p) in
+    record {
+      number = r.number;
+      taken = r.taken;
+      length = r.length;
+      memory = r.memory;
+      device = with_own r.device (turned_if turned r.device.own);
+    })

@@ -10,7 +10,7 @@ ghost use Rattle.stream.specs.Collecting.{gathered_from};
 ghost use Rattle.device.specs.Receiving.{is_match, set_up_password};
 ghost use Rattle.device.specs.Calls.{reply_room, longest_reply, has_password, received_at};
 ghost use Rattle.controller.specs.Reading.{read_reply, outcome_alone, erra_said};
-ghost use Rattle.ours.specs.Board.{ours, reply};
+ghost use Rattle.ours.specs.Board.{Board, ours, reply};
 ghost use Rattle.demands.specs.Calls.{run, after, opens, receives};
 ghost use Rattle.demands.specs.ClassOne.{longest_before};
 ghost use Rattle.demands.specs.CountsSeconds.{sets_up, run_of};
@@ -18,10 +18,18 @@ ghost use Rattle.demands.specs.Interleaved.{heard};
 ghost use Rattle.demands.specs.Outsider.{unopened, IsNeverMatched};
 ghost use Rattle.demands.specs.Sample.{sockets, long_named, memory, with_cr, opened_after, two_opened, halves};
 ghost use Rattle.demands.specs.Settled.{Settles, SettlesClass2};
+ghost use Rattle.demands.specs.TwoBoards.{MeetsDemands, AreAlike};
 ghost use Rattle.demands.specs.TwoRuns.{fresh_secured, led_on, calls_given, asking, waiting};
 ghost use Rattle.demands.specs.Unheard.{AllAlike, QuietOnceApart, phase_at};
 ghost use Rattle.demands.specs.WrongDoors.{secured_sample};
 ghost use Rattle.demands.specs.WrongLamps.{two_lamps, one_rests};
+
+/// Any two boards that meet the demands give and show the same, whatever else each keeps; ours is such a board.
+#[tactic(auto, using(crate::proofs::TwoBoards::ours_meets, crate::proofs::TwoBoards::are_alike))]
+pub fn boards_that_meet_the_demands_are_alike<R, S>()
+    ensures ours_is_one { MeetsDemands ours }
+    ensures alike { (B : Board R) (C : Board S) → MeetsDemands B → MeetsDemands C → AreAlike B C }
+{}
 
 /// A controller whose first line ends without the matching digest reads the ERRA line, whatever it asked, and whatever
 /// part of that line came before (RULES, Connection and Controller).

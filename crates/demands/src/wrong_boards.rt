@@ -8,11 +8,11 @@ ghost use Rattle.demands.specs.Unheard.{Unheard};
 ghost use Rattle.demands.specs.WrongRefusals.{writes_first, changes_refused};
 ghost use Rattle.demands.specs.WrongLines.{drops_all, ok_to_all, refuses_all, made_up_length};
 ghost use Rattle.demands.specs.WrongLines.{made_up_taken, upper_cases, forgets_at_nothing};
-ghost use Rattle.demands.specs.WrongLines.{others_nameless};
+ghost use Rattle.demands.specs.WrongLines.{others_nameless, off_at_erra, darkens_swallowing};
 ghost use Rattle.demands.specs.WrongClasses.{answers_class_2, refuses_letters, volume_wraps};
 ghost use Rattle.demands.specs.WrongDoors.{forgets_password, ignores_password, greets_with_zero};
 ghost use Rattle.demands.specs.WrongDoors.{time_opens, failed_answers, never_closes, hides_faults};
-ghost use Rattle.demands.specs.WrongDoors.{hides_errors};
+ghost use Rattle.demands.specs.WrongDoors.{hides_errors, takes_at_opening};
 ghost use Rattle.demands.specs.WrongOutsiders.{closes_next, counts_failures, refuses_elsewhere};
 ghost use Rattle.demands.specs.WrongClocks.{still_clock, first_only, drops_part_hour};
 ghost use Rattle.demands.specs.WrongPlaces.{forgets_others_power, one_line_for_all};
@@ -34,6 +34,8 @@ pub fn wrong_lines_fall()
     ensures echoes_in_upper_case { SpeaksPjlink upper_cases → ⊥ }
     ensures forgets_what_it_collected { SpeaksPjlink forgets_at_nothing → ⊥ }
     ensures reads_other_names_as_empty { SpeaksPjlink others_nameless → ⊥ }
+    ensures reads_off_at_the_refusal_line { SpeaksPjlink off_at_erra → ⊥ }
+    ensures darkens_as_it_swallows { SpeaksPjlink darkens_swallowing → ⊥ }
 {}
 
 /// Demand 2: the class of the set-up.
@@ -53,6 +55,7 @@ pub fn wrong_doors_fall()
     ensures never_closes { SpeaksPjlink never_closes → ⊥ }
     ensures hides_the_fault { SpeaksPjlink hides_faults → ⊥ }
     ensures hides_the_errors { SpeaksPjlink hides_errors → ⊥ }
+    ensures takes_a_byte_at_opening { SpeaksPjlink takes_at_opening → ⊥ }
 {}
 
 /// An outsider is unheard.

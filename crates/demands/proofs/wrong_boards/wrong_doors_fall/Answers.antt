@@ -1,7 +1,7 @@
 use Rattle.std.proofs.Common.{arith}
 use Rattle.demands.proofs.WrongBoardsFall.{forgets_password_falls, ignores_password_falls, greets_with_zero_falls}
 use Rattle.demands.proofs.WrongBoardsFall.{time_opens_falls, failed_answers_falls, never_closes_falls}
-use Rattle.demands.proofs.WrongBoardsFall.{hides_faults_falls, hides_errors_falls}
+use Rattle.demands.proofs.WrongBoardsFall.{hides_faults_falls, hides_errors_falls, takes_at_opening_falls}
 use Rattle.demands.proofs.wrong_boards.wrong_doors_fall.Goals as goal
 
 pub returns : goal.returns
@@ -16,4 +16,5 @@ returns c =
       never_closes_falls,
       hides_faults_falls,
       hides_errors_falls,
+      takes_at_opening_falls,
     )
