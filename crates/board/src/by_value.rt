@@ -1,16 +1,11 @@
 // The same calls by value, for a host that keeps its record by copying: the record is given, and the changed one comes
 // back. Each is its call in place on a copy; set-up, which is given none, makes its record in a blank one.
-ghost use Rattle.std.specs.Prelude.{◌≡◌, length};
-ghost use Rattle.text.specs.Words.{over};
+ghost use Rattle.std.specs.Prelude.{◌≡◌};
 ghost use Rattle.record.specs.Legal.{is_legal};
 ghost use Rattle.record.specs.Wanted.{wanted_of, wanted_of_2, names_in};
-ghost use Rattle.record.specs.SetUp.{set_up};
-ghost use Rattle.record.specs.HostCalls.{fault_set, errors_set, mark_set};
-ghost use Rattle.record.specs.Given.{given_by, set_up_given};
 ghost use Rattle.setup.specs.Lent.{wanted_settings};
-ghost use Rattle.clock.specs.Passing.{time_passed};
-ghost use Rattle.device.specs.Calls.{received_at, opened_by, place_taken, closed_by};
-ghost use Rattle.board.specs.Results.{received_of, opened_of, changed_of, closing_given};
+ghost use Rattle.ours.specs.Board.{ours};
+ghost use Rattle.board.specs.Results.{received_of, opened_of, changed_of};
 
 use crate::projector;
 use crate::results::{Changed, Opened, Opening, Received, Receiving};
@@ -21,7 +16,7 @@ use setup::wanted::{Class, Names, Wanted};
 // Not put into its callers: its copy of the record would lie on their stack.
 #[inline(never)]
 fn set_up(wanted: &Wanted<'_>) -> Changed
-    ensures { result ≡ changed_of (set_up_given (set_up (wanted_settings wanted.now))) }
+    ensures { result ≡ changed_of (ours.set_up (wanted_settings wanted.now)) }
 {
     let mut changed = Changed {
         number: 0,
@@ -44,8 +39,8 @@ pub extern "C" fn pj_set_up<'a>(
     warm: u32,
     cool: u32,
 ) -> Changed
-    ensures { result ≡ changed_of (set_up_given (set_up (wanted_of name.now maker.now model.now other.now
-        password.now inputs.now lamps.now warm cool))) }
+    ensures { result ≡ changed_of (ours.set_up (wanted_of name.now maker.now model.now other.now
+        password.now inputs.now lamps.now warm cool)) }
 {
     let class = Class::One;
     set_up(&Wanted {
@@ -80,9 +75,9 @@ pub extern "C" fn pj_set_up_2<'a>(
     names: &'a [u8],
     lengths: &'a [usize],
 ) -> Changed
-    ensures { result ≡ changed_of (set_up_given (set_up (wanted_of_2 name.now maker.now model.now other.now
+    ensures { result ≡ changed_of (ours.set_up (wanted_of_2 name.now maker.now model.now other.now
         password.now inputs.now lamps.now warm cool serial.now
-        version.now (names_in lengths.now names.now)))) }
+        version.now (names_in lengths.now names.now))) }
 {
     let class = Class::Two {
         serial,
@@ -117,10 +112,8 @@ pub extern "C" fn pj_legal(d: Device) -> bool
 /// A new connection, greeted, by value: 1, 2 and 6 in that order.
 #[unsafe(no_mangle)]
 pub extern "C" fn pj_open(d: Device, random: u32, out: &mut [u8]) -> Opened
-    ensures says { result ≡ opened_of (place_taken d (length out.old))
-        (opened_by d random (length out.old)) }
-    ensures written { out.new ≡ over (opened_by d random (length out.old)).reply
-        out.old }
+    ensures says { result ≡ opened_of (ours.opening d random out.old) (ours.place_opened d random out.old) }
+    ensures written { out.new ≡ (ours.opening d random out.old).memory }
 {
     let mut device = d;
     let Opening {
@@ -139,7 +132,7 @@ pub extern "C" fn pj_open(d: Device, random: u32, out: &mut [u8]) -> Opened
 /// The connection at a place closed, by value: 1, 3 and 4 in that order.
 #[unsafe(no_mangle)]
 pub extern "C" fn pj_close(d: Device, place: usize) -> Changed
-    ensures { result ≡ changed_of (closing_given (closed_by d place)) }
+    ensures { result ≡ changed_of (ours.closing d place) }
 {
     let mut device = d;
     let number = projector::pj_close_in_place(&mut device, place);
@@ -149,9 +142,8 @@ pub extern "C" fn pj_close(d: Device, place: usize) -> Changed
 /// Bytes from the network at a place, by value: 1, 2, 3 and 4 in that order.
 #[unsafe(no_mangle)]
 pub extern "C" fn pj_receive(d: Device, place: usize, bytes: &[u8], out: &mut [u8]) -> Received
-    ensures says { result ≡ received_of (received_at d place bytes.now (length out.old)) }
-    ensures written { out.new ≡ over (received_at d place bytes.now (length out.old)).reply
-        out.old }
+    ensures says { result ≡ received_of (ours.receive d place bytes.now out.old) }
+    ensures written { out.new ≡ (ours.receive d place bytes.now out.old).memory }
 {
     let mut device = d;
     let Receiving {
@@ -170,7 +162,7 @@ pub extern "C" fn pj_receive(d: Device, place: usize, bytes: &[u8], out: &mut [u
 /// The fault mark, by value: 1.
 #[unsafe(no_mangle)]
 pub extern "C" fn pj_set_fault(d: Device, mark: bool) -> Changed
-    ensures { result ≡ changed_of (given_by d (fault_set d mark)) }
+    ensures { result ≡ changed_of (ours.set_fault d mark) }
 {
     let mut device = d;
     let number = projector::pj_set_fault_in_place(&mut device, mark);
@@ -180,7 +172,7 @@ pub extern "C" fn pj_set_fault(d: Device, mark: bool) -> Changed
 /// The six error digits, by value: 1 and 3 in that order.
 #[unsafe(no_mangle)]
 pub extern "C" fn pj_set_errors(d: Device, digits: &[u8]) -> Changed
-    ensures { result ≡ changed_of (given_by d (errors_set d digits.now)) }
+    ensures { result ≡ changed_of (ours.set_errors d digits.now) }
 {
     let mut device = d;
     let number = projector::pj_set_errors_in_place(&mut device, digits);
@@ -190,7 +182,7 @@ pub extern "C" fn pj_set_errors(d: Device, digits: &[u8]) -> Changed
 /// A lamp's enabled mark, by value: 1, 3 and 7 in that order.
 #[unsafe(no_mangle)]
 pub extern "C" fn pj_set_mark(d: Device, lamp: usize, enabled: bool) -> Changed
-    ensures { result ≡ changed_of (given_by d (mark_set d lamp enabled)) }
+    ensures { result ≡ changed_of (ours.set_mark d lamp enabled) }
 {
     let mut device = d;
     let number = projector::pj_set_mark_in_place(&mut device, lamp, enabled);
@@ -200,7 +192,7 @@ pub extern "C" fn pj_set_mark(d: Device, lamp: usize, enabled: bool) -> Changed
 /// So many seconds pass, by value: 1.
 #[unsafe(no_mangle)]
 pub extern "C" fn pj_pass(d: Device, seconds: u32) -> Changed
-    ensures { result ≡ changed_of (given_by d (time_passed d seconds)) }
+    ensures { result ≡ changed_of (ours.pass d seconds) }
 {
     let mut device = d;
     let number = projector::pj_pass_in_place(&mut device, seconds);

@@ -1,20 +1,11 @@
 // The projector's calls on a record that the host lends: it changes where it lies, and what the call says comes back. A
 // refused call leaves the record as it was; a refused set-up leaves the blank one.
-ghost use Rattle.std.specs.Prelude.{◌≡◌, length};
-ghost use Rattle.text.specs.Words.{over};
-ghost use Rattle.text.specs.Outcomes.{outcome_number};
+ghost use Rattle.std.specs.Prelude.{◌≡◌};
 ghost use Rattle.record.specs.Legal.{is_legal};
 ghost use Rattle.record.specs.Wanted.{wanted_of, wanted_of_2, names_in};
-ghost use Rattle.record.specs.SetUp.{set_up};
-ghost use Rattle.record.specs.HostCalls.{fault_set, errors_set, mark_set};
-ghost use Rattle.record.specs.Record.{blank};
-ghost use Rattle.record.specs.Refusals.{refusal_number};
-ghost use Rattle.record.specs.SetUpErrors.{set_up_error_number};
-ghost use Rattle.record.specs.Given.{left_by};
 ghost use Rattle.setup.specs.Lent.{wanted_settings};
-ghost use Rattle.clock.specs.Passing.{time_passed};
-ghost use Rattle.device.specs.Calls.{received_at, opened_by, place_taken, closed_by};
-ghost use Rattle.device.specs.Outcomes.{result_told};
+ghost use Rattle.ours.specs.Board.{ours};
+ghost use Rattle.ours.specs.Tied.{lent_told};
 ghost use Rattle.board.specs.Results.{receiving_of, opening_of};
 
 use crate::results::{Opening, Receiving};
@@ -26,8 +17,8 @@ use text::numbered;
 
 /// Sets the host's record up, and tells the number: where it is refused, the record is the blank one.
 pub fn set_up_in(device: &mut Device, wanted: &Wanted<'_>) -> u32
-    ensures number { result ≡ outcome_number set_up_error_number (set_up (wanted_settings wanted.now)) }
-    ensures device { device.new ≡ left_by blank (set_up (wanted_settings wanted.now)) }
+    ensures number { result ≡ (ours.set_up (wanted_settings wanted.now)).number }
+    ensures device { device.new ≡ (ours.set_up (wanted_settings wanted.now)).device }
 {
     numbered::number_of(setup::set_up_in(device, wanted))
 }
@@ -46,10 +37,10 @@ pub extern "C" fn pj_set_up_in_place<'a>(
     warm: u32,
     cool: u32,
 ) -> u32
-    ensures number { result ≡ outcome_number set_up_error_number (set_up (wanted_of name.now maker.now model.now
-        other.now password.now inputs.now lamps.now warm cool)) }
-    ensures device { device.new ≡ left_by blank (set_up (wanted_of name.now maker.now model.now other.now
-        password.now inputs.now lamps.now warm cool)) }
+    ensures number { result ≡ (ours.set_up (wanted_of name.now maker.now model.now other.now password.now inputs.now
+        lamps.now warm cool)).number }
+    ensures device { device.new ≡ (ours.set_up (wanted_of name.now maker.now model.now other.now password.now
+        inputs.now lamps.now warm cool)).device }
 {
     let class = Class::One;
     set_up_in(
@@ -87,12 +78,10 @@ pub extern "C" fn pj_set_up_2_in_place<'a>(
     names: &'a [u8],
     lengths: &'a [usize],
 ) -> u32
-    ensures number { result ≡ outcome_number set_up_error_number (set_up (wanted_of_2 name.now maker.now model.now
-        other.now password.now inputs.now lamps.now warm cool serial.now
-        version.now (names_in lengths.now names.now))) }
-    ensures device { device.new ≡ left_by blank (set_up (wanted_of_2 name.now maker.now model.now other.now
-        password.now inputs.now lamps.now warm cool serial.now
-        version.now (names_in lengths.now names.now))) }
+    ensures number { result ≡ (ours.set_up (wanted_of_2 name.now maker.now model.now other.now password.now inputs.now
+        lamps.now warm cool serial.now version.now (names_in lengths.now names.now))).number }
+    ensures device { device.new ≡ (ours.set_up (wanted_of_2 name.now maker.now model.now other.now password.now
+        inputs.now lamps.now warm cool serial.now version.now (names_in lengths.now names.now))).device }
 {
     let class = Class::Two {
         serial,
@@ -130,11 +119,10 @@ pub extern "C" fn pj_legal_in_place(device: &Device) -> bool
 /// A new connection, greeted: 1, 2 and 6 in that order.
 #[unsafe(no_mangle)]
 pub extern "C" fn pj_open_in_place(device: &mut Device, random: u32, out: &mut [u8]) -> Opening
-    ensures says { result ≡ opening_of (result_told (opened_by device.old random (length out.old)))
-        (place_taken device.old (length out.old)) }
-    ensures device { device.new ≡ (opened_by device.old random (length out.old)).device }
-    ensures reply { out.new ≡ over (opened_by device.old random (length out.old)).reply
-        out.old }
+    ensures says { result ≡ opening_of (lent_told (ours.opening device.old random out.old))
+        (ours.place_opened device.old random out.old) }
+    ensures device { device.new ≡ (ours.opening device.old random out.old).device }
+    ensures reply { out.new ≡ (ours.opening device.old random out.old).memory }
 {
     Opening::from(calls::open(device, random, out))
 }
@@ -142,8 +130,8 @@ pub extern "C" fn pj_open_in_place(device: &mut Device, random: u32, out: &mut [
 /// The connection at a place closed: 1, 3 and 4 in that order.
 #[unsafe(no_mangle)]
 pub extern "C" fn pj_close_in_place(device: &mut Device, place: usize) -> u32
-    ensures number { result ≡ (closed_by device.old place).number }
-    ensures device { device.new ≡ (closed_by device.old place).device }
+    ensures number { result ≡ (ours.closing device.old place).number }
+    ensures device { device.new ≡ (ours.closing device.old place).device }
 {
     numbered::number_of(calls::close(device, place))
 }
@@ -156,11 +144,9 @@ pub extern "C" fn pj_receive_in_place(
     bytes: &[u8],
     out: &mut [u8],
 ) -> Receiving
-    ensures says { result ≡ receiving_of (result_told (received_at device.old place bytes.now
-        (length out.old))) }
-    ensures device { device.new ≡ (received_at device.old place bytes.now (length out.old)).device }
-    ensures reply { out.new ≡ over (received_at device.old place bytes.now (length out.old)).reply
-        out.old }
+    ensures says { result ≡ receiving_of (lent_told (ours.receive device.old place bytes.now out.old)) }
+    ensures device { device.new ≡ (ours.receive device.old place bytes.now out.old).device }
+    ensures reply { out.new ≡ (ours.receive device.old place bytes.now out.old).memory }
 {
     Receiving::from(calls::receive(device, place, bytes, out))
 }
@@ -169,8 +155,8 @@ pub extern "C" fn pj_receive_in_place(
 #[unsafe(no_mangle)]
 #[tactic(auto, using(crate::proofs::Gives::number_as, crate::proofs::Gives::device_as))]
 pub extern "C" fn pj_set_fault_in_place(device: &mut Device, mark: bool) -> u32
-    ensures number { result ≡ outcome_number refusal_number (fault_set device.old mark) }
-    ensures device { device.new ≡ left_by device.old (fault_set device.old mark) }
+    ensures number { result ≡ (ours.set_fault device.old mark).number }
+    ensures device { device.new ≡ (ours.set_fault device.old mark).device }
 {
     numbered::number_of(device.set_fault(mark))
 }
@@ -179,8 +165,8 @@ pub extern "C" fn pj_set_fault_in_place(device: &mut Device, mark: bool) -> u32
 #[unsafe(no_mangle)]
 #[tactic(auto, using(crate::proofs::Gives::number_as, crate::proofs::Gives::device_as))]
 pub extern "C" fn pj_set_errors_in_place(device: &mut Device, digits: &[u8]) -> u32
-    ensures number { result ≡ outcome_number refusal_number (errors_set device.old digits.now) }
-    ensures device { device.new ≡ left_by device.old (errors_set device.old digits.now) }
+    ensures number { result ≡ (ours.set_errors device.old digits.now).number }
+    ensures device { device.new ≡ (ours.set_errors device.old digits.now).device }
 {
     numbered::number_of(device.set_errors(digits))
 }
@@ -189,8 +175,8 @@ pub extern "C" fn pj_set_errors_in_place(device: &mut Device, digits: &[u8]) -> 
 #[unsafe(no_mangle)]
 #[tactic(auto, using(crate::proofs::Gives::number_as, crate::proofs::Gives::device_as))]
 pub extern "C" fn pj_set_mark_in_place(device: &mut Device, lamp: usize, enabled: bool) -> u32
-    ensures number { result ≡ outcome_number refusal_number (mark_set device.old lamp enabled) }
-    ensures device { device.new ≡ left_by device.old (mark_set device.old lamp enabled) }
+    ensures number { result ≡ (ours.set_mark device.old lamp enabled).number }
+    ensures device { device.new ≡ (ours.set_mark device.old lamp enabled).device }
 {
     numbered::number_of(device.set_mark(lamp, enabled))
 }
@@ -199,8 +185,8 @@ pub extern "C" fn pj_set_mark_in_place(device: &mut Device, lamp: usize, enabled
 #[unsafe(no_mangle)]
 #[tactic(auto, using(crate::proofs::Gives::number_as, crate::proofs::Gives::device_as))]
 pub extern "C" fn pj_pass_in_place(device: &mut Device, seconds: u32) -> u32
-    ensures number { result ≡ outcome_number refusal_number (time_passed device.old seconds) }
-    ensures device { device.new ≡ left_by device.old (time_passed device.old seconds) }
+    ensures number { result ≡ (ours.pass device.old seconds).number }
+    ensures device { device.new ≡ (ours.pass device.old seconds).device }
 {
     numbered::number_of(pass::pass(device, seconds))
 }

@@ -1,8 +1,9 @@
 //! The controller's readers.
-ghost use Rattle.std.specs.Prelude.{◌≡◌};
-ghost use Rattle.pjlink.specs.Greetings.{read_greeting};
+ghost use Rattle.std.specs.Prelude.{◌≡◌, Some};
+ghost use Rattle.pjlink.specs.declared.command.Command.{Command};
+ghost use Rattle.ours.specs.Board.{ours};
 ghost use Rattle.codes.specs.Commands.{coded_command};
-ghost use Rattle.codes.specs.Readings.{flat_greeting};
+ghost use Rattle.codes.specs.Readings.{flat_greeting, flat_reading};
 ghost use Rattle.codes.specs.ByCode.{read_by};
 
 use codes::command::Coded;
@@ -13,7 +14,7 @@ use pjlink::greeting::Greeting;
 /// What a projector greets with.
 #[unsafe(no_mangle)]
 pub extern "C" fn pj_read_greeting(line: &[u8]) -> FlatGreeting
-    ensures { result ≡ flat_greeting (read_greeting line.now) }
+    ensures { result ≡ flat_greeting (ours.read_greeting line.now) }
 {
     FlatGreeting::from(Greeting::read(line))
 }
@@ -22,7 +23,9 @@ pub extern "C" fn pj_read_greeting(line: &[u8]) -> FlatGreeting
 #[tactic(auto, using(controller::proofs::ReadShort::reading_short))]
 #[unsafe(no_mangle)]
 pub extern "C" fn pj_read_reply(k: Coded, line: &[u8]) -> FlatReading
-    ensures { result ≡ read_by (coded_command k) line.now }
+    ensures reading { result ≡ read_by (coded_command k) line.now }
+    ensures of_a_command { (c : Command) → coded_command k ≡ Some c
+        → result ≡ flat_reading (ours.read_reply c line.now) }
 {
     match k.command() {
         Some(command) => FlatReading::of(&reading::read_reply(command, line)),

@@ -1,13 +1,13 @@
 // The digest over any lent bytes.
 ghost use Rattle.std.specs.Prelude.{◌≡◌};
-ghost use Rattle.digest.specs.Md5.{md5_of};
+ghost use Rattle.ours.specs.Board.{ours};
 
 use digest::Digest;
 
 /// The MD5 digest of the bytes (RFC 1321).
 #[unsafe(no_mangle)]
 pub extern "C" fn pj_md5(bytes: &[u8]) -> Digest
-    ensures { result.bytes ≡ md5_of bytes.now }
+    ensures { result.bytes ≡ ours.md5 bytes.now }
 {
     digest::md5(bytes)
 }

@@ -1,5 +1,8 @@
 // The controller's writer.
-ghost use Rattle.std.specs.Prelude.{◌≡◌, length};
+ghost use Rattle.std.specs.Prelude.{◌≡◌, length, Some};
+ghost use Rattle.pjlink.specs.declared.command.Command.{Command};
+ghost use Rattle.ours.specs.Board.{ours};
+ghost use Rattle.ours.specs.Tied.{wrote_told};
 ghost use Rattle.text.specs.Words.{over};
 ghost use Rattle.text.specs.Outcomes.{told_written, written_told};
 ghost use Rattle.codes.specs.Commands.{coded_command};
@@ -59,6 +62,9 @@ pub extern "C" fn pj_write(
         (length out.old))) }
     ensures written { out.new ≡ over (written_by (coded_command k) secured random password.now
         (length out.old)).bytes out.old }
+    ensures of_a_command { (c : Command) → coded_command k ≡ Some c
+        → (result ≡ writing_of (wrote_told (ours.write c secured random password.now out.old)))
+        × (out.new ≡ (ours.write c secured random password.now out.old).memory) }
 {
     match k.command() {
         Some(command) => Written::from(writing::write_command(

@@ -5,13 +5,13 @@
 -- lamps stay." What the projector meant is `answer_for`, the table of RULES, Commands (crate `meaning`), which knows no
 -- bytes but a set-up's inputs, two characters each, by the table of RULES, Inputs.
 -- TO BELIEVE IT, believe, and nothing else: MD5 and its digits (digest/specs); inputs, texts, UTF-8 and values
--- (words/specs), lines, commands and requests (pjlink/specs: Bodies, Commands, Forms, Requests); what
--- an answer is and which bytes say it (pjlink/specs: Said, CanSay, Writings); what a reading means and a greeting is
--- (controller/specs: `meaning`, `LineSays` of Reading, `Exactly` of Greetings; here Greeted); what is meant and done
--- (meaning/specs); how a line is answered and a connection greeted (device/specs: Answering, `is_led_by` of Receiving,
--- and `greeting`, `greeted` of Calls); what a byte and a line's end do to a connection (`keeping_line`, `line_ended` of
--- Receiving; `line_after` of stream/specs/Collecting); the record (record/specs); a stream in cuts (stream/specs/
--- Machine); ours/specs/Board; here Calls, CallsDone, Outsider. RULES, Places: "Demand 2 holds place by place": what is said of a
+-- (words/specs), lines, commands and requests (pjlink/specs: Bodies, Commands, Forms, Requests); what an answer is and
+-- which bytes say it (pjlink/specs: Said, CanSay, Writings); what a reading means and a greeting is (controller/specs:
+-- `meaning`, `LineSays` of Reading, `Exactly` of Greetings; here Greeted); what is meant and done (meaning/specs); how
+-- a line is answered and a connection greeted (device/specs: Answering, `is_led_by` of Receiving, and `greeting`,
+-- `greeted` of Calls); what a byte and a line's end do to a connection (`keeping_line`, `line_ended` of Receiving;
+-- `line_after` of stream/specs/Collecting); the record (record/specs); a stream in cuts (stream/specs/Machine);
+-- ours/specs/Board; here Calls, CallsDone, Outsider. RULES, Places: "Demand 2 holds place by place": what is said of a
 -- connection is said of that at any place p, whatever the other places hold. RULES, Class 2: lines, commands and
 -- set-ups are of Class 1 or Class 2, and all is said of both; that a Class 1 set-up is as it was before is in ClassOne.
 --   BetweenLines phase d p   legal, at place p in that phase, no collected bytes and no overlong mark
