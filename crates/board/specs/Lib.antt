@@ -5,3 +5,4 @@ pub mod Lamps
 pub mod Which
 pub mod Results
 pub mod Writable
+pub mod Header

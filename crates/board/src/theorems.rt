@@ -1,16 +1,19 @@
 // What is proved beside the contracts of the functions. Nothing is done here: that these functions have their contracts
 // is that the theorems stand.
-ghost use Rattle.std.specs.Prelude.{[], ◌≡◌, ◌≢◌, ◌≤◌, ℕ, ℤ, List, length, Bool, not, if◌then◌else◌, nat_lt};
+ghost use Rattle.std.specs.Prelude.{[], ◌≡◌, ◌≢◌, ◌≤◌, ℕ, ℤ, List, length, Bool, true, not, if◌then◌else◌, nat_lt};
 ghost use Rattle.std.specs.Prelude.{Option, Some, None, Result};
+ghost use Rattle.std.specs.List.{list_all};
 ghost use Rattle.pjlink.specs.declared.command.Command.{Command};
 ghost use Rattle.codes.specs.declared.command.Coded.{Coded};
 ghost use Rattle.codes.specs.Commands.{coded_command};
 ghost use Rattle.text.specs.Outcomes.{nothing_written, told_written};
 ghost use Rattle.controller.specs.Writing.{command_room};
-ghost use Rattle.controller.specs.Reading.{reading_outcome_number, read_reply};
+ghost use Rattle.controller.specs.Writing.{unwritten_number};
+ghost use Rattle.controller.specs.declared.writing.Unwritten.{Unwritten};
+ghost use Rattle.controller.specs.Reading.{Outcome, not_a_line, reading_outcome_number, read_reply};
 ghost use Rattle.codes.specs.ByCode.{written_by, read_by};
 ghost use Rattle.codes.specs.Readings.{flat_greeting, no_reading};
-ghost use Rattle.pjlink.specs.Greetings.{read_greeting};
+ghost use Rattle.pjlink.specs.Greetings.{greeting_number, read_greeting};
 ghost use Rattle.day.specs.declared.check.CheckError.{CheckError};
 ghost use Rattle.day.specs.declared.plan.PlanError.{PlanError};
 ghost use Rattle.board.specs.Lists.{Lists};
@@ -22,8 +25,18 @@ ghost use Rattle.board.specs.declared.results.PanelChanged.{PanelChanged};
 ghost use Rattle.board.specs.declared.results.PanelSent.{PanelSent};
 ghost use Rattle.panel.specs.PanelCalls.{panel_made, no_panel, added_to, command_at, stepped_at, lost_at};
 ghost use Rattle.panel.specs.declared.types.Panel.{Panel};
+ghost use Rattle.panel.specs.Refusals.{panel_refusal_number};
+ghost use Rattle.panel.specs.declared.refusal.Refusal.{Refusal as PanelRefusal};
 ghost use Rattle.record.specs.declared.types.Setting.{Setting};
+ghost use Rattle.record.specs.Refusals.{refusal_number};
+ghost use Rattle.record.specs.declared.refusal.Refusal.{Refusal};
+ghost use Rattle.record.specs.declared.set_up_error.SetUpError.{SetUpError};
+ghost use Rattle.stored.specs.Told.{load_error_number};
+ghost use Rattle.stored.specs.declared.error.LoadError.{LoadError};
 ghost use Rattle.board.specs.Which.{setting_number};
+ghost use Rattle.board.specs.Header.{refusal_constant, panel_refusal_constant, set_up_error_constant};
+ghost use Rattle.board.specs.Header.{load_error_constant, unwritten_constant, outcome_constant, setting_constant};
+ghost use Rattle.board.specs.Header.{rule_constant, limits, phases, powers_kept, awaited, has_its_number};
 ghost use Rattle.board.specs.Writable.{is_writable_by};
 ghost use Rattle.board.specs.declared.writer.Written.{Written};
 ghost use Rattle.text.specs.Words.{over};
@@ -34,7 +47,7 @@ ghost use Rattle.board.specs.declared.days.FlatPlan.{FlatPlan};
 ghost use Rattle.record.specs.Wanted.{Wanted};
 ghost use Rattle.record.specs.OutOfRange.{setting_place};
 ghost use Rattle.record.specs.SetUp.{first_out_of_range, set_up};
-ghost use Rattle.record.specs.SetUpErrors.{setting_told};
+ghost use Rattle.record.specs.SetUpErrors.{set_up_error_number, setting_told};
 ghost use Rattle.record.specs.Given.{set_up_given};
 ghost use Rattle.record.specs.declared.types.Setting.TheVariants.{Password};
 
@@ -43,6 +56,24 @@ pub fn numbers_tell_apart()
     ensures verdicts { (v w : Result (Unit {0}) CheckError) → flat_verdict v ≡ flat_verdict w → v ≡ w }
     ensures plans { (p q : Result (Unit {0}) PlanError) → flat_plan p ≡ flat_plan q → p ≡ q }
     ensures settings { (m n : Option Setting) → setting_number m ≡ setting_number n → m ≡ n }
+{}
+
+/// The numbers of refusals, settings and a day's rules, the limits and the numbers in a record are those of the constants
+/// of the header; codes and kinds are by `codes` (`the_header_names_the_codes`).
+pub fn the_header_names_the_numbers()
+    ensures refusals { (r : Refusal) → refusal_number r ≡ (refusal_constant r).number }
+    ensures panel_refusals { (r : PanelRefusal) → panel_refusal_number r ≡ (panel_refusal_constant r).number }
+    ensures set_up_errors { (e : SetUpError) → set_up_error_number e ≡ (set_up_error_constant e).number }
+    ensures load_errors { (e : LoadError) → load_error_number e ≡ (load_error_constant e).number }
+    ensures unwritten { (r : Unwritten) → unwritten_number r ≡ (unwritten_constant r).number }
+    ensures readings { (o : Outcome) → reading_outcome_number o ≡ (outcome_constant o).number }
+    ensures no_greeting { greeting_number None ≡ (outcome_constant not_a_line).number }
+    ensures settings { (m : Option Setting) → setting_number m ≡ (setting_constant m).number }
+    ensures rules { (v : Result (Unit {0}) CheckError) → (flat_verdict v).rule ≡ (rule_constant v).number }
+    ensures limits { list_all has_its_number limits ≡ true }
+    ensures phases { list_all has_its_number phases ≡ true }
+    ensures powers { list_all has_its_number powers_kept ≡ true }
+    ensures awaited { list_all has_its_number awaited ≡ true }
 {}
 
 /// The numbers of the writer and of the reader of a command by its code are the first row of the table that applies

@@ -1,4 +1,5 @@
 pub mod Commands
 pub mod Readings
+pub mod Header
 pub mod Computing
 pub mod ByCode

@@ -1,16 +1,25 @@
 // What is proved beside the contracts of the functions. Nothing is done here: that these functions have their contracts
 // is that the theorems stand.
-ghost use Rattle.std.specs.Prelude.{◌≡◌, true, Some};
+ghost use Rattle.std.specs.Prelude.{◌≡◌, Bool, true, Option, Some};
 ghost use Rattle.pjlink.specs.declared.command.Command.{Command};
-ghost use Rattle.pjlink.specs.Commands.{is_command};
+ghost use Rattle.pjlink.specs.declared.command.Half.{Half};
+ghost use Rattle.pjlink.specs.declared.greeting.Greeting.{Greeting};
+ghost use Rattle.pjlink.specs.Commands.{is_command, half_code};
+ghost use Rattle.pjlink.specs.Said.{Said};
 ghost use Rattle.words.specs.declared.input.Source.{Source};
+ghost use Rattle.words.specs.declared.power.Power.{Power};
+ghost use Rattle.words.specs.Inputs.{number_digit};
+ghost use Rattle.words.specs.Powers.{power_code, switch_code};
 ghost use Rattle.words.specs.Sources.{type_of};
-ghost use Rattle.codes.specs.Commands.{coded_command, code_of, used_of, source_number};
+ghost use Rattle.controller.specs.Reading.{Outcome};
+ghost use Rattle.codes.specs.Commands.{coded_command, code_of, used_of, bit, half_number, source_number};
+ghost use Rattle.codes.specs.Readings.{greeting_kind, flat_as, power_at_face};
+ghost use Rattle.codes.specs.Header.{command_constant, reading_constant, greeting_constant, power_constant};
 ghost use Rattle.codes.specs.declared.command.Coded.{Coded};
 
 /// Each command that can be written has one code, and each code stands for a command that can be written, or for none.
 /// `stands_for_its_command`, with `command_back` and `command_writable`, says for which: no other reading of codes
-/// meets them. A type of inputs has the number that the table of types gives it.
+/// meets them.
 pub fn a_command_has_one_code()
     ensures code_back { (c : Command) → is_command c ≡ true → coded_command (code_of c) ≡ Some c }
     ensures command_back { (k : Coded) (c : Command) → coded_command k ≡ Some c → code_of c ≡ used_of k }
@@ -19,5 +28,23 @@ pub fn a_command_has_one_code()
         → used_of j ≡ used_of k }
     ensures stands_for_its_command { (k : Coded) (c : Command) → is_command c ≡ true → code_of c ≡ used_of k
         → coded_command k ≡ Some c }
+{}
+
+/// A value crosses as the digit by which a line has it: a power, on and off or up and down, what a mute is of. A type
+/// of inputs has the number that the table of types gives it.
+#[tactic(auto, using(crate::proofs::CommandsCoded::face_follows))]
+pub fn a_value_is_its_digit()
+    ensures power { (p : Power) → power_code p ≡ number_digit (power_at_face p) }
+    ensures switch { (on : Bool) → switch_code on ≡ number_digit (bit on) }
+    ensures half { (h : Half) → half_code h ≡ number_digit (half_number h) }
     ensures type_by_the_table { (s : Source) → source_number s ≡ type_of s }
+{}
+
+/// The codes of commands, the kinds of readings and of greetings, and the powers have the numbers that the constants of
+/// the header have.
+pub fn the_header_names_the_codes()
+    ensures codes { (c : Command) → (code_of c).code ≡ (command_constant c).number }
+    ensures readings { (o : Outcome) (m : Said) → (flat_as o m).kind ≡ (reading_constant o m).number }
+    ensures greetings { (g : Option Greeting) → greeting_kind g ≡ (greeting_constant g).number }
+    ensures powers { (p : Power) → power_at_face p ≡ (power_constant p).number }
 {}

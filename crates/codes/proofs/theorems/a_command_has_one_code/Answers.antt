@@ -1,4 +1,4 @@
-use Rattle.codes.proofs.CommandsCoded.{code_back, face_follows}
+use Rattle.codes.proofs.CommandsCoded.{code_back}
 use Rattle.codes.proofs.CodesBack.{command_back, command_writable, one_code, stands_for_its_command}
 use Rattle.codes.proofs.theorems.a_command_has_one_code.Goals as goal
 
@@ -9,5 +9,4 @@ returns c = record {
   command_writable = command_writable;
   one_code = one_code;
   stands_for_its_command = stands_for_its_command;
-  type_by_the_table = face_follows;
 }
