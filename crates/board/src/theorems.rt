@@ -58,8 +58,8 @@ pub fn numbers_tell_apart()
     ensures settings { (m n : Option Setting) → setting_number m ≡ setting_number n → m ≡ n }
 {}
 
-/// The numbers of refusals, settings and a day's rules, the limits and the numbers in a record are those of the constants
-/// of the header; codes and kinds are by `codes` (`the_header_names_the_codes`).
+/// The numbers of refusals, settings and a day's rules, the limits and the numbers in a record are those of the
+/// constants of the header; codes and kinds are by `codes` (`the_header_names_the_codes`).
 pub fn the_header_names_the_numbers()
     ensures refusals { (r : Refusal) → refusal_number r ≡ (refusal_constant r).number }
     ensures panel_refusals { (r : PanelRefusal) → panel_refusal_number r ≡ (panel_refusal_constant r).number }

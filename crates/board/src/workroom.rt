@@ -2,7 +2,7 @@
 // panel's own call on a copy.
 ghost use Rattle.std.specs.Prelude.{◌≡◌, length};
 ghost use Rattle.text.specs.Words.{over};
-ghost use Rattle.panel.specs.PanelCalls.{panel_made, no_panel, added_to, command_at, stepped_at, lost_at};
+ghost use Rattle.panel.specs.AnyPanel.{ours_panel};
 ghost use Rattle.board.specs.Results.{panel_changed_of, panel_sent_of};
 
 use crate::results::{PanelChanged, PanelSent};
@@ -14,7 +14,7 @@ use text::numbered;
 /// The panel of no projector.
 #[unsafe(no_mangle)]
 pub extern "C" fn pj_panel_none() -> PanelChanged
-    ensures { result ≡ panel_changed_of (panel_made no_panel) }
+    ensures { result ≡ panel_changed_of ours_panel.none }
 {
     PanelChanged {
         number: 0,
@@ -25,7 +25,7 @@ pub extern "C" fn pj_panel_none() -> PanelChanged
 /// A projector more: 1, then 3.
 #[unsafe(no_mangle)]
 pub extern "C" fn pj_panel_add(p: Panel, password: &[u8]) -> PanelChanged
-    ensures { result ≡ panel_changed_of (added_to p password.now) }
+    ensures { result ≡ panel_changed_of (ours_panel.add p password.now) }
 {
     let mut panel = p;
     let number = numbered::number_of(panel.add(password));
@@ -40,8 +40,8 @@ pub extern "C" fn pj_panel_command(
     k: Coded,
     out: &mut [u8],
 ) -> PanelSent
-    ensures says { result ≡ panel_sent_of (command_at p projector k (length out.old)) }
-    ensures written { out.new ≡ over (command_at p projector k (length out.old)).line
+    ensures says { result ≡ panel_sent_of (ours_panel.command p projector k (length out.old)) }
+    ensures written { out.new ≡ over (ours_panel.command p projector k (length out.old)).line
         out.old }
 {
     let mut panel = p;
@@ -56,7 +56,7 @@ pub extern "C" fn pj_panel_command(
 /// The step on a line from a projector: 1, then 3.
 #[unsafe(no_mangle)]
 pub extern "C" fn pj_panel_line(p: Panel, projector: usize, line: &[u8]) -> PanelChanged
-    ensures { result ≡ panel_changed_of (stepped_at p projector line.now) }
+    ensures { result ≡ panel_changed_of (ours_panel.hear p projector line.now) }
 {
     let mut panel = p;
     let number = numbered::number_of(panel.hear(projector, line));
@@ -66,7 +66,7 @@ pub extern "C" fn pj_panel_line(p: Panel, projector: usize, line: &[u8]) -> Pane
 /// The connection to a projector is gone: 1, then 3.
 #[unsafe(no_mangle)]
 pub extern "C" fn pj_panel_lost(p: Panel, projector: usize) -> PanelChanged
-    ensures { result ≡ panel_changed_of (lost_at p projector) }
+    ensures { result ≡ panel_changed_of (ours_panel.lose p projector) }
 {
     let mut panel = p;
     let number = numbered::number_of(panel.lose(projector));

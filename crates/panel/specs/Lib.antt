@@ -4,6 +4,7 @@ pub mod Showing
 pub mod Stepping
 pub mod LegalPanels
 pub mod PanelCalls
+pub mod AnyPanel
 pub mod Refusals
 pub mod Awaited
 pub mod StepTable

@@ -3,7 +3,7 @@
 ghost use Rattle.std.specs.Prelude.{◌≡◌, length};
 ghost use Rattle.text.specs.Words.{over};
 ghost use Rattle.panel.specs.Entries.{entry_of, no_talk, nothing_shown};
-ghost use Rattle.panel.specs.PanelCalls.{no_panel, added_to, command_at, stepped_at, lost_at};
+ghost use Rattle.panel.specs.AnyPanel.{ours_panel};
 ghost use Rattle.text.specs.Outcomes.{outcome_number, length_written};
 ghost use Rattle.panel.specs.Refusals.{panel_refusal_number};
 
@@ -43,7 +43,7 @@ impl Entry {
 impl Panel {
     /// The panel of no projector.
     pub fn new() -> Panel
-        ensures { result ≡ no_panel }
+        ensures { result ≡ ours_panel.none.panel }
     {
         Panel {
             count: 0,
@@ -55,8 +55,8 @@ impl Panel {
     /// not 0 to 32 letters and digits and for a ninth projector.
     #[tactic(auto, unfolding(crate::specs::PanelCalls::added_to), using(words::proofs::TextsTold::password_long))]
     pub fn add(&mut self, password: &[u8]) -> Result<(), Refusal>
-        ensures number { outcome_number panel_refusal_number result ≡ (added_to self.old password.now).number }
-        ensures panel { self.new ≡ (added_to self.old password.now).panel }
+        ensures number { outcome_number panel_refusal_number result ≡ (ours_panel.add self.old password.now).number }
+        ensures panel { self.new ≡ (ours_panel.add self.old password.now).panel }
     {
         if !self.is_legal() {
             return Err(Refusal::NotLegal);
@@ -75,11 +75,11 @@ impl Panel {
     #[tactic(auto, using(crate::proofs::PanelsTold::projectors_there), unfolding(crate::specs::PanelCalls::command_at))]
     pub fn send(&mut self, projector: usize, coded: Coded, out: &mut [u8]) -> Result<usize, Refusal>
         ensures number { outcome_number panel_refusal_number result
-            ≡ (command_at self.old projector coded (length out.old)).number }
+            ≡ (ours_panel.command self.old projector coded (length out.old)).number }
         ensures length { length_written result
-            ≡ length (command_at self.old projector coded (length out.old)).line }
-        ensures panel { self.new ≡ (command_at self.old projector coded (length out.old)).panel }
-        ensures line { out.new ≡ over (command_at self.old projector coded (length out.old)).line
+            ≡ length (ours_panel.command self.old projector coded (length out.old)).line }
+        ensures panel { self.new ≡ (ours_panel.command self.old projector coded (length out.old)).panel }
+        ensures line { out.new ≡ over (ours_panel.command self.old projector coded (length out.old)).line
             out.old }
     {
         if !self.is_legal() {
@@ -104,8 +104,9 @@ impl Panel {
     /// projector.
     #[tactic(auto, using(crate::proofs::PanelsTold::few_projectors), unfolding(crate::specs::PanelCalls::stepped_at))]
     pub fn hear(&mut self, projector: usize, line: &[u8]) -> Result<(), Refusal>
-        ensures number { outcome_number panel_refusal_number result ≡ (stepped_at self.old projector line.now).number }
-        ensures panel { self.new ≡ (stepped_at self.old projector line.now).panel }
+        ensures number { outcome_number panel_refusal_number result
+            ≡ (ours_panel.hear self.old projector line.now).number }
+        ensures panel { self.new ≡ (ours_panel.hear self.old projector line.now).panel }
     {
         if !self.is_legal() {
             return Err(Refusal::NotLegal);
@@ -120,8 +121,8 @@ impl Panel {
     /// The connection to a projector is gone. Refused: `NotLegal`, then `OutOfRange` for no such projector.
     #[tactic(auto, using(crate::proofs::PanelsTold::few_projectors), unfolding(crate::specs::PanelCalls::lost_at))]
     pub fn lose(&mut self, projector: usize) -> Result<(), Refusal>
-        ensures number { outcome_number panel_refusal_number result ≡ (lost_at self.old projector).number }
-        ensures panel { self.new ≡ (lost_at self.old projector).panel }
+        ensures number { outcome_number panel_refusal_number result ≡ (ours_panel.lose self.old projector).number }
+        ensures panel { self.new ≡ (ours_panel.lose self.old projector).panel }
     {
         if !self.is_legal() {
             return Err(Refusal::NotLegal);

@@ -22,6 +22,7 @@ use Rattle.clock.proofs.ConnectionsAge.{connection_then, grows_older}
 use Rattle.clock.proofs.InOneGo.{parts_pass, place_passes}
 use Rattle.clock.proofs.TimeLegal.{passed_legal}
 use Rattle.clock.proofs.Untouched.{passed_leaves}
+use Rattle.panel.specs.AnyPanel.{ours_panel}
 use Rattle.panel.specs.Entries.{Talk, Shown, talk_of, shown_of}
 use Rattle.panel.specs.Showing.{showing}
 use Rattle.panel.specs.LegalPanels.{is_panel}
@@ -29,7 +30,6 @@ use Rattle.panel.specs.declared.types.Entry.{Entry}
 use Rattle.panel.specs.declared.types.Panel.{Panel}
 use Rattle.panel.proofs.OnlyItsEntry.{OnlyAt, step_touches_its_entry, command_touches_its_entry}
 use Rattle.panel.proofs.PanelsLegal.{commanded_stays_legal, stepped_stays_legal}
-use Rattle.workroom.specs.AnyPanel.{ours_panel}
 use Rattle.workroom.specs.Workroom.{Workroom, room_of, happened, all_happened}
 use Rattle.workroom.specs.Workroom.{RoomMove, asks, waits, asks_another, hears_another, meanwhile}
 use Rattle.workroom.specs.MeantThrough.{said_at, own_at, shown_through, own_through}

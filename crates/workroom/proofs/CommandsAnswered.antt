@@ -34,6 +34,7 @@ use Rattle.controller.proofs.ReadsBack.{reply_read}
 use Rattle.codes.specs.Commands.{coded_command}
 use Rattle.codes.specs.declared.command.Coded.{Coded}
 use Rattle.codes.proofs.CodesBack.{command_writable}
+use Rattle.panel.specs.AnyPanel.{ours_panel}
 use Rattle.panel.specs.Entries.{Talk, talk_of, shown_of, password_in, ungreeted, is_secured_talk, leads_next}
 use Rattle.panel.specs.Showing.{showing}
 use Rattle.panel.specs.Stepping.{answered_entry, sent_entry, heard_line, is_unready, line_sent}
@@ -44,7 +45,6 @@ use Rattle.panel.specs.declared.types.Panel.{Panel}
 use Rattle.panel.proofs.Cases.{Commands, commanded_by, commanded_done}
 use Rattle.panel.proofs.LinesSent.{line_sent_whole}
 use Rattle.panel.proofs.StepsByTable.{row_steps}
-use Rattle.workroom.specs.AnyPanel.{ours_panel}
 use Rattle.workroom.specs.Workroom.{Workroom, room_of, asks, delivered, asked_as, happened}
 use Rattle.workroom.specs.MeantThrough.{said_to, done_for, IsWithin}
 use Rattle.workroom.specs.ShowsWhatWasMeant.{Fit, both_open, both_secured, our_entry, our_connection, IsJoined, ShownAs}

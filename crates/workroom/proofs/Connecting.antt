@@ -27,6 +27,7 @@ use Rattle.device.proofs.Untouched.{closing_keeps_settings, closing_keeps_own}
 use Rattle.record.proofs.LowestShut.{below_lowest}
 use Rattle.pjlink.specs.Greetings.{read_greeting}
 use Rattle.pjlink.proofs.GreetingsHeard.{open_heard, secured_heard}
+use Rattle.panel.specs.AnyPanel.{ours_panel}
 use Rattle.panel.specs.Entries.{Talk, shown_of, password_in, greeted_open, greeted_secured, greeted_by, fresh_entry}
 use Rattle.panel.specs.Passwords.{password_room}
 use Rattle.panel.specs.LegalPanels.{panel_most, is_panel}
@@ -38,7 +39,6 @@ use Rattle.panel.proofs.Cases.{added_by, added_done}
 use Rattle.panel.proofs.PanelsLegal.{added_stays_legal}
 use Rattle.panel.proofs.PanelsTold.{panel_told}
 use Rattle.panel.proofs.StepsByTable.{step_greets}
-use Rattle.workroom.specs.AnyPanel.{ours_panel}
 use Rattle.workroom.specs.Workroom.{Workroom, room_of, delivered, connected_as, connected, parted}
 use Rattle.workroom.specs.ShowsWhatWasMeant.{Fit, both_open, both_secured, our_entry, IsAcquainted, Apart}
 use Rattle.workroom.specs.ShowsWhatWasMeant.{BegunAs, ShownAs, PartedAs}

@@ -2,6 +2,7 @@
 -- Assumes nothing.
 use Rattle.std.proofs.Common.{ℕ, ◌≡◌, ap, ◌∙◌, true, List, ◌∷◌, arith, get_or-set_same}
 use Rattle.codes.specs.declared.command.Coded.{Coded}
+use Rattle.panel.specs.AnyPanel.{ours_panel}
 use Rattle.panel.specs.Stepping.{lost_entry, sent_entry, heard_line}
 use Rattle.panel.specs.LegalPanels.{is_panel, is_entry}
 use Rattle.panel.specs.PanelCalls.{PanelAs, entry_at, with_entry, command_at, stepped_at, lost_at}
@@ -11,7 +12,6 @@ use Rattle.panel.proofs.PanelsTold.{panel_told, entry_at_legal}
 use Rattle.panel.proofs.PanelsLegal.{commanded_stays_legal, stepped_stays_legal, lost_stays_legal}
 use Rattle.panel.proofs.OnlyItsEntry.{command_touches_its_entry, step_touches_its_entry, loss_touches_its_entry}
 use Rattle.panel.proofs.Cases.{Commands, commanded_done, stepped_done, lost_done}
-use Rattle.workroom.specs.AnyPanel.{ours_panel}
 use Rattle.workroom.specs.Workroom.{delivered}
 use Rattle.workroom.specs.PanelDemand.{IsServed}
 use Rattle.workroom.proofs.Cuts.{stream_of-cut_at}

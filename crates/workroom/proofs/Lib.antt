@@ -2,6 +2,8 @@ pub mod FaceReadsBack
 pub mod Cuts
 pub mod EntriesStep
 pub mod PanelDemand
+pub mod PanelCallsDone
+pub mod TwoPanels
 pub mod Standing
 pub mod CommandsAnswered
 pub mod Connecting

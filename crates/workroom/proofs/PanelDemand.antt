@@ -2,6 +2,7 @@
 -- a legal entry steps by.
 -- Assumes nothing.
 use Rattle.std.proofs.Common.{arith, ℕ, ◌≡◌, refl, sym, subst, List}
+use Rattle.panel.specs.AnyPanel.{ours_panel}
 use Rattle.panel.specs.Entries.{talk_of, shown_of}
 use Rattle.panel.specs.StepTable.{StepTo, greets_open, greets_secured, strays, answers, refuses}
 use Rattle.panel.specs.PanelCalls.{entry_at, stepped_at}
@@ -9,7 +10,6 @@ use Rattle.panel.specs.declared.types.Entry.{Entry}
 use Rattle.panel.specs.declared.types.Panel.{Panel}
 use Rattle.panel.proofs.OnlyItsEntry.{step_touches_its_entry}
 use Rattle.panel.proofs.StepsByTable.{row_steps, steps_by_the_table}
-use Rattle.workroom.specs.AnyPanel.{ours_panel}
 use Rattle.workroom.specs.PanelDemand.{IsServed, PartsAre, ShownBy, stays_shown, by_reply, by_erra, PanelDemand}
 use Rattle.workroom.proofs.EntriesStep.{entry_legal_there, entry_at-stepped_at}
 

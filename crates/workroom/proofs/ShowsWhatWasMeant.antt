@@ -1,6 +1,6 @@
 -- THE PANEL SHOWS WHAT THE PROJECTOR MEANT: the theorem of specs/ShowsWhatWasMeant, for our panel.
 -- Assumes nothing.
-use Rattle.workroom.specs.AnyPanel.{ours_panel}
+use Rattle.panel.specs.AnyPanel.{ours_panel}
 use Rattle.workroom.specs.ShowsWhatWasMeant.{ShowsWhatWasMeant}
 use Rattle.workroom.proofs.CommandsAnswered.{asked_open, gets_no_reply}
 use Rattle.workroom.proofs.Connecting.{added_apart, greeted_joined, parted_apart}

@@ -1,18 +1,22 @@
 -- The panels of specs/WrongPanels.antt fall, each to what is asked of one sample, where the two numbers shown differ.
 -- Assumes nothing.
-use Rattle.std.proofs.Common.{ℕ, ◌≡◌, refl, ap, false, List, [], arith, codes, ◌==◌}
+use Rattle.std.proofs.Common.{ℕ, ◌+◌, ◌≡◌, refl, ap, false, List, [], arith, codes, slice_index_or, ◌==◌}
 use Rattle.std.proofs.lemmas.Bool.{eqb-false}
 use Rattle.pjlink.specs.declared.command.Command.TheVariants.{Query}
 use Rattle.pjlink.specs.declared.body.Body.TheVariants.{Powr, Lamp}
+use Rattle.controller.specs.Writing.{command_room}
 use Rattle.codes.specs.Commands.{bit, code_of}
 use Rattle.panel.specs.Entries.{Talk, Shown}
 use Rattle.panel.specs.StepTable.{IsStray, late, malformed, foreign}
 use Rattle.panel.specs.PanelCalls.{entry_at}
+use Rattle.panel.specs.declared.types.Entry.{Entry}
 use Rattle.workroom.specs.Workroom.{asks}
 use Rattle.workroom.specs.ShowsWhatWasMeant.{ShowsWhatWasMeant}
 use Rattle.workroom.specs.PanelDemand.{PanelDemand}
+use Rattle.workroom.specs.PanelCallsDone.{PanelCallsDone}
 use Rattle.workroom.specs.WrongPanels.{takes_foreign, ends_on_malformed, keeps_after_erra, stray_count_wraps}
 use Rattle.workroom.specs.WrongPanels.{shows_late, counts_nothing, shows_no_reply}
+use Rattle.workroom.specs.WrongPanels.{forgets_at_addition, tells_the_password, refuses_what_it_does}
 use Rattle.workroom.specs.Computing.{computing}
 use Rattle.workroom.proofs.Samples.{resting, asked, resting_served, full_served, asked_served, lamps_asked}
 use Rattle.workroom.proofs.Samples.{workroom, workroom_joined, powr_within}
@@ -84,3 +88,23 @@ unfolding computing
 shows_no_reply_falls h =
     differ 1 0 refl
     (ap power_shown (h.shows 0 0 workroom (asks (code_of (Query Powr)) [] []) workroom_joined powr_within).shows)
+
+-- a second projector is added: the strays of the first
+pub forgets_at_addition_falls : PanelCallsDone forgets_at_addition → ⊥
+unfolding computing
+forgets_at_addition_falls h =
+    differ 0 65535 refl
+    (ap (λ (e : Entry). e.strays) (((h.adds (resting 65535) []).leaves refl).others 0 (λ z. omega arith)))
+
+-- a byte more than the least: the first byte sent, where the password is none
+pub tells_the_password_falls : PanelCallsDone tells_the_password → ⊥
+unfolding computing
+tells_the_password_falls h =
+    differ 13 37 refl
+    (ap (λ (l : List ℕ). slice_index_or l 0 0)
+    ((h.commands (resting 0) 0 (code_of (Query Lamp)) (command_room + 1)).sends refl))
+
+-- the number of a loss
+pub refuses_what_it_does_falls : PanelCallsDone refuses_what_it_does → ⊥
+unfolding computing
+refuses_what_it_does_falls h = differ 3 0 refl (h.loses (resting 0) 0).number

@@ -3,7 +3,7 @@
 -- by the reader's own numbers; what a line says is what the readers take from it.
 -- TO BELIEVE IT, believe, and nothing else: the readers (controller/specs/Reading, pjlink/specs/Greetings), the codes
 -- (codes/specs/Commands), an entry's parts and what is shown (panel/specs: Entries, Showing), `IsUnderWay` and
--- `IsStray` (panel/specs/StepTable), a legal panel (panel/specs/LegalPanels); here AnyPanel.
+-- `IsStray` (panel/specs/StepTable), a legal panel, and any panel (panel/specs: LegalPanels, AnyPanel).
 --   IsServed p i       the panel is legal and has the projector i
 --   OnlyCounted e f    e and f differ in the count of strays alone, which is one more, or has stopped
 --   EndedBy e m f      the command is ended, and m is shown
@@ -19,6 +19,7 @@ use Rattle.pjlink.specs.Said.{Said}
 use Rattle.pjlink.specs.Greetings.{read_greeting}
 use Rattle.controller.specs.Reading.{meaning, read_reply}
 use Rattle.pjlink.specs.declared.greeting.Greeting.TheVariants.{Open, Secured}
+use Rattle.panel.specs.AnyPanel.{AnyPanel}
 use Rattle.panel.specs.Entries.{Talk, Shown, talk_of, shown_of, ungreeted, greeted_open, greeted_secured, greeted_by}
 use Rattle.panel.specs.Entries.{no_talk, rested_on, nothing_shown}
 use Rattle.panel.specs.Showing.{showing}
@@ -27,7 +28,6 @@ use Rattle.panel.specs.StepTable.{IsUnderWay, IsStray}
 use Rattle.panel.specs.PanelCalls.{entry_at}
 use Rattle.panel.specs.declared.types.Entry.{Entry}
 use Rattle.panel.specs.declared.types.Panel.{Panel}
-use Rattle.workroom.specs.AnyPanel.{AnyPanel}
 
 pub record IsServed (p : Panel) (i : ℕ) : Type 0 where
   pub legal : is_panel p ≡ true

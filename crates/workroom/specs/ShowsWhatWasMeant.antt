@@ -9,7 +9,7 @@
 -- Second), the codes of the commands (codes/specs/Commands) and their classes (pjlink/specs/Bodies), what is shown of
 -- what was said (`showing` of panel/specs/Showing), the records (record/specs, panel/specs: Entries, LegalPanels), a
 -- command under way (`IsUnderWay` of panel/specs/StepTable), a stream in cuts (stream/specs/Machine), the device's
--- calls (device/specs/Calls) as demand 2 has them; here AnyPanel, Workroom and MeantThrough.
+-- calls (device/specs/Calls) as demand 2 has them, any panel (panel/specs/AnyPanel); here Workroom and MeantThrough.
 --   IsAcquainted i w   a legal panel that has the projector i, a legal device, one password
 --   Apart i w          no greeting is accepted, and a place of the device is free
 --   Fit t c            the panel's talk t and the connection c: open on both sides, or the digest is awaited and will
@@ -42,6 +42,7 @@ use Rattle.device.specs.Receiving.{set_up_password}
 use Rattle.device.specs.Calls.{reply_room, received_at, opened_by, place_taken, closed_by}
 use Rattle.codes.specs.Commands.{coded_command}
 use Rattle.codes.specs.declared.command.Coded.{Coded}
+use Rattle.panel.specs.AnyPanel.{AnyPanel}
 use Rattle.panel.specs.Entries.{Talk, Shown, talk_of, shown_of, password_in, ungreeted, leads_next, nothing_shown}
 use Rattle.panel.specs.Showing.{showing}
 use Rattle.panel.specs.LegalPanels.{is_panel}
@@ -49,7 +50,6 @@ use Rattle.panel.specs.StepTable.{IsUnderWay}
 use Rattle.panel.specs.PanelCalls.{entry_at}
 use Rattle.panel.specs.declared.types.Entry.{Entry}
 use Rattle.panel.specs.declared.types.Panel.{Panel}
-use Rattle.workroom.specs.AnyPanel.{AnyPanel}
 use Rattle.workroom.specs.Workroom.{Workroom, room_of, RoomMove, asks, waits, asks_another, hears_another, meanwhile}
 use Rattle.workroom.specs.Workroom.{connected, happened, all_happened, parted}
 use Rattle.workroom.specs.MeantThrough.{IsWithin, said_at, own_at, shown_through, own_through}

@@ -2,18 +2,22 @@
 -- falls.
 --   hearing_as f     ours, but where a command is under way f takes the reading of the line
 -- Assumes nothing.
-use Rattle.std.specs.Prelude.{ℕ, ◌+◌, not, List, if◌then◌else◌, Option, Some, None, ◌==◌}
+use Rattle.std.specs.Prelude.{ℕ, ◌+◌, not, List, set, ◌++◌, replicate, codes, if◌then◌else◌, Option, Some, None, ◌==◌}
 use Rattle.pjlink.specs.declared.command.Command.TheVariants.{Query}
 use Rattle.pjlink.specs.declared.body.Body.TheVariants.{Powr}
 use Rattle.pjlink.specs.declared.command.Command.{Command}
 use Rattle.pjlink.specs.Said.{Said}
+use Rattle.controller.specs.Writing.{command_room}
 use Rattle.controller.specs.Reading.{ReadAs, Outcome, means_it, erra_said, not_a_line, other_command, read_reply}
 use Rattle.codes.specs.Commands.{coded_command}
-use Rattle.panel.specs.Entries.{talk_of, shown_of, entry_of, rested_on}
+use Rattle.panel.specs.AnyPanel.{AnyPanel, ours_hearing, ours_panel}
+use Rattle.panel.specs.Entries.{talk_of, shown_of, entry_of, rested_on, password_in, fresh_entry, blank_entry}
+use Rattle.panel.specs.LegalPanels.{panel_most}
 use Rattle.panel.specs.Stepping.{with_stray, with_talk, lost_entry, heard_as, heard_by, heard_line, is_unready}
-use Rattle.panel.specs.PanelCalls.{panel_made, entry_at, with_entry}
+use Rattle.panel.specs.PanelCalls.{PanelAs, panel_made, entry_at, with_entry, added_to, command_at, stepped_at}
+use Rattle.panel.specs.PanelCalls.{lost_at}
 use Rattle.panel.specs.declared.types.Entry.{Entry}
-use Rattle.workroom.specs.AnyPanel.{AnyPanel, ours_hearing}
+use Rattle.panel.specs.declared.types.Panel.{Panel}
 
 abbrev stepping_by : (Entry → List ℕ → Entry) → AnyPanel
 stepping_by f = ours_hearing (λ p i l. panel_made (with_entry p i (f (entry_at p i) l)))
@@ -75,3 +79,49 @@ unshown_reply e o m = heard_as e o m
 
 abbrev pub shows_no_reply : AnyPanel
 shows_no_reply = hearing_as (λ e l r. unshown_reply e r.outcome r.said)
+
+-- ---- wrong in what a call does or says, where it is served
+
+abbrev where_served : (PanelAs → PanelAs) → PanelAs → PanelAs
+where_served f r = if r.number == 0 then f r else r
+
+-- a projector more, and what was kept of the others is gone
+abbrev only_the_last : (s : List ℕ) → ℕ → Panel
+only_the_last s n = record { count = n + 1; entries = set (replicate panel_most blank_entry) n (fresh_entry s) }
+
+abbrev pub forgets_at_addition : AnyPanel
+forgets_at_addition = record {
+  none = ours_panel.none;
+  add = λ p s. where_served (λ r. panel_made (only_the_last s p.count)) (added_to p s);
+  command = command_at;
+  hear = stepped_at;
+  lose = lost_at;
+}
+
+-- in memory of any length but the least, the password in the clear, on a line of its own before the command's
+abbrev before_it : List ℕ → PanelAs → PanelAs
+before_it s r = record { number = r.number; line = s ++ codes "\r" ++ r.line; panel = r.panel }
+
+abbrev pub tells_the_password : AnyPanel
+tells_the_password = record {
+  none = ours_panel.none;
+  add = added_to;
+  command = λ p i k room.
+      if room == command_room then command_at p i k room
+      else where_served (before_it (password_in (entry_at p i))) (command_at p i k room);
+  hear = stepped_at;
+  lose = lost_at;
+}
+
+-- it takes the line, and the loss, and says that there is no such projector
+abbrev with_3 : PanelAs → PanelAs
+with_3 r = record { number = 3; line = r.line; panel = r.panel }
+
+abbrev pub refuses_what_it_does : AnyPanel
+refuses_what_it_does = record {
+  none = ours_panel.none;
+  add = added_to;
+  command = command_at;
+  hear = λ p i l. where_served with_3 (stepped_at p i l);
+  lose = λ p i. where_served with_3 (lost_at p i);
+}

@@ -1,7 +1,5 @@
 //! The workroom panel joined with our projector (RULES, Panel), stated over any panel and proved of ours (specs/,
-//! proofs/), and code that is never linked: for each field of `ours_panel` (specs/AnyPanel) one function that does
-//! nothing but call the product's function, and whose promise is that field's value.
+//! proofs/). The calls of `ours_panel` are the panel's own and those of C: their contracts are its fields.
 #![tactic(auto)]
 
 pub mod theorems;
-pub mod ties;

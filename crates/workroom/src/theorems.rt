@@ -18,13 +18,16 @@ ghost use Rattle.meaning.specs.Meaning.{answer_for};
 ghost use Rattle.device.specs.Receiving.{set_up_password};
 ghost use Rattle.pjlink.specs.Greetings.{read_greeting};
 ghost use Rattle.demands.specs.Greeted.{greeted_on};
-ghost use Rattle.workroom.specs.AnyPanel.{ours_panel};
+ghost use Rattle.panel.specs.AnyPanel.{AnyPanel, ours_panel};
 ghost use Rattle.workroom.specs.PanelDemand.{PanelDemand};
+ghost use Rattle.workroom.specs.PanelCallsDone.{PanelCallsDone};
+ghost use Rattle.workroom.specs.TwoPanels.{DoesWhatIsAsked, PanelsAlike};
 ghost use Rattle.workroom.specs.ShowsWhatWasMeant.{ShowsWhatWasMeant};
 ghost use Rattle.workroom.specs.Workroom.{cut_at};
 ghost use Rattle.stream.specs.Machine.{stream_of};
 ghost use Rattle.workroom.specs.WrongPanels.{takes_foreign, ends_on_malformed, keeps_after_erra};
 ghost use Rattle.workroom.specs.WrongPanels.{stray_count_wraps, shows_late, counts_nothing, shows_no_reply};
+ghost use Rattle.workroom.specs.WrongPanels.{forgets_at_addition, tells_the_password, refuses_what_it_does};
 
 /// For every legal device, at every place between lines, and every code of a command of a class no higher than the
 /// device's, what is read of the reply to what was written is what the projector meant; so of the greeting.
@@ -61,6 +64,13 @@ pub fn our_panel_keeps_its_demand()
         → (ns : List ℕ) × (cut_at ns (stream_of (p ∷ ps)) ≡ p ∷ ps) }
 {}
 
+/// Two panels that do what is asked can't be told apart, and ours is one of them.
+#[tactic(auto, using(crate::proofs::TwoPanels::ours_does, crate::proofs::TwoPanels::panels_alike))]
+pub fn panels_that_do_what_is_asked_are_alike()
+    ensures ours_does_it { DoesWhatIsAsked ours_panel }
+    ensures alike { (P Q : AnyPanel) → DoesWhatIsAsked P → DoesWhatIsAsked Q → PanelsAlike P Q }
+{}
+
 /// The wrong panels, each ours but for what the clause's name says of it: none keeps what it was made against.
 pub fn wrong_panels_fall()
     ensures takes_a_foreign_reply { PanelDemand takes_foreign → ⊥ }
@@ -70,4 +80,7 @@ pub fn wrong_panels_fall()
     ensures shows_a_late_reply { PanelDemand shows_late → ⊥ }
     ensures counts_nothing { PanelDemand counts_nothing → ⊥ }
     ensures shows_nothing_it_accepts { ShowsWhatWasMeant shows_no_reply → ⊥ }
+    ensures forgets_at_an_addition { PanelCallsDone forgets_at_addition → ⊥ }
+    ensures tells_the_password { PanelCallsDone tells_the_password → ⊥ }
+    ensures refuses_what_it_does { PanelCallsDone refuses_what_it_does → ⊥ }
 {}

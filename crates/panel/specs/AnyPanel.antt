@@ -1,17 +1,18 @@
 -- A panel: anything that answers the calls on the panel record that RULES, Panel speaks of. What is asked of one is
 -- stated over it, so that wrong panels can be tried.
---   AnyPanel        `add p s`: a projector more, with the password s; `command p i k room`: the command k to the
---                   projector i, with so much memory for its line; `hear p i l`: the line l from the projector i;
---                   `lose p i`: its connection is gone
---   ours_panel      our calls: beside each, the function whose contract says this very definition
+--   AnyPanel        `none`: the panel of no projector; `add p s`: a projector more, with the password s; `command p i k
+--                   room`: the command k to the projector i, with so much memory for its line; `hear p i l`: the line l
+--                   from the projector i; `lose p i`: its connection is gone
+--   ours_panel      our calls: beside each, the function whose contract says this field, and with it the one of C
 --   ours_hearing f  our panel, with f in the place of the step
 -- Assumes nothing.
 use Rattle.std.specs.Prelude.{ℕ, List}
 use Rattle.codes.specs.declared.command.Coded.{Coded}
-use Rattle.panel.specs.PanelCalls.{PanelAs, added_to, command_at, stepped_at, lost_at}
+use Rattle.panel.specs.PanelCalls.{PanelAs, panel_made, no_panel, added_to, command_at, stepped_at, lost_at}
 use Rattle.panel.specs.declared.types.Panel.{Panel}
 
 pub record AnyPanel : Type 0 where
+  pub none : PanelAs
   pub add : Panel → List ℕ → PanelAs
   pub command : Panel → ℕ → Coded → ℕ → PanelAs
   pub hear : Panel → ℕ → List ℕ → PanelAs
@@ -19,15 +20,17 @@ pub record AnyPanel : Type 0 where
 
 abbrev pub ours_hearing : (Panel → ℕ → List ℕ → PanelAs) → AnyPanel
 ours_hearing f = record {
-  -- Panel::add
+  -- Panel::new, pj_panel_none
+  none = panel_made no_panel;
+  -- Panel::add, pj_panel_add
   add = added_to;
-  -- Panel::send
+  -- Panel::send, pj_panel_command
   command = command_at;
   hear = f;
-  -- Panel::lose
+  -- Panel::lose, pj_panel_lost
   lose = lost_at;
 }
 
 abbrev pub ours_panel : AnyPanel
--- Panel::hear
+-- Panel::hear, pj_panel_line
 ours_panel = ours_hearing stepped_at
