@@ -7,9 +7,22 @@ use Rattle.demands.specs.Computing.{computing}
 
 pub settled : Settles ours
 unfolding computing
-settled =
-    (refl, (refl, (refl, (refl, (refl, (refl, (refl, (refl, (refl, (refl, (refl, (refl, tt))))))))))))
+settled = record {
+  lines = (refl, (refl, (refl, (refl, (refl, (refl, (refl, (refl, (refl, (refl, (refl, (refl, tt))))))))))));
+  power = (refl, (refl, (refl, (refl, (refl, tt)))));
+  mutes = (refl, (refl, (refl, (refl, (refl, (refl, (refl, (refl, (refl, (refl, (refl, tt)))))))))));
+  host = (refl, (refl, (refl, (refl, (refl, (refl, (refl, (refl, (refl, (refl, (refl, (refl, tt))))))))))));
+  texts = (refl, (refl, (refl, (refl, (refl, (refl, (refl, tt)))))));
+  lamps = (refl, (refl, (refl, tt)));
+  no_lamps = (refl, tt);
+  opened = (refl, (refl, (refl, (refl, tt))));
+  awaiting = (refl, (refl, (refl, (refl, (refl, (refl, tt))))));
+}
 
 pub settled_class_2 : SettlesClass2 ours
 unfolding computing
-settled_class_2 = (refl, (refl, (refl, (refl, (refl, (refl, (refl, (refl, (refl, (refl, (refl, tt)))))))))))
+settled_class_2 = record {
+  lines = (refl, (refl, (refl, (refl, (refl, (refl, (refl, (refl, (refl, (refl, (refl, tt)))))))))));
+  on = (refl, (refl, (refl, (refl, (refl, (refl, (refl, (refl, tt))))))));
+  volumes = ((refl, refl), ((refl, refl), ((refl, refl), ((refl, refl), ((refl, refl), ((refl, refl), tt))))));
+}

@@ -2,6 +2,8 @@
 -- W = 20, C = 60, one lamp at 0 s, input 11, texts empty, no password. Then the same device set up for Class 2 (RULES,
 -- Class 2), with the inputs 11 and 6A, their names, a serial number and a version.
 --   sample, class_2_sample   what they are set up with
+--   texts_sample             the sample with a name, maker, model and other information, and two inputs
+--   lamps_sample             the sample with three lamps;    no_lamps_sample    with none
 --   sockets, long_named      set-ups of the longest replies: 32 inputs (RULES, Inputs), and an input's name of Class 2
 --   memory                   the reply memory that is lent
 --   with_cr t                the line t with its CR
@@ -27,6 +29,16 @@ abbrev pub class_2_sample : Wanted
 class_2_sample =
     wanted_of_2 [] [] [] [] [] (codes "116A") (0 ∷ []) 20 60 (codes "SN 7") (codes "1.04")
     (codes "Camera" ∷ codes "Disk" ∷ [])
+
+abbrev pub texts_sample : Wanted
+texts_sample =
+    wanted_of (codes "Table 3") (codes "Kunimi") (codes "K-20") (codes "Room 2") [] (codes "3211") (0 ∷ []) 20 60
+
+abbrev pub lamps_sample : Wanted
+lamps_sample = wanted_of [] [] [] [] [] (codes "11") (3599 ∷ 7200 ∷ 359999999 ∷ []) 20 60
+
+abbrev pub no_lamps_sample : Wanted
+no_lamps_sample = wanted_of [] [] [] [] [] (codes "11") [] 20 60
 
 abbrev pub sockets : Wanted
 sockets =
