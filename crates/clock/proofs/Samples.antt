@@ -1,20 +1,18 @@
 -- Worked cases: warm-up is left at as many seconds as are left and not later, a lamp stops at the limit, a
 -- connection closes at the age 30; and the call itself, computed on the set-up of "Lines that settle it".
 -- Assumes nothing.
-use Rattle.std.proofs.Common.{ℕ, ◌+◌, ◌≡◌, refl, ap, ◌∙◌, true, List, [], ◌∷◌, arith, slice_index_or, codes}
+use Rattle.std.proofs.Common.{◌+◌, ◌≡◌, refl, ap, ◌∙◌, true, [], ◌∷◌, arith}
 use Rattle.record.specs.Limits.{on, warming}
-use Rattle.record.specs.Wanted.{wanted_of}
 use Rattle.record.specs.Legal.{is_timed}
-use Rattle.record.specs.Record.{closed, start_device}
-use Rattle.record.specs.Updates.{with_own, with_power_left, with_age}
+use Rattle.record.specs.Record.{closed}
+use Rattle.record.specs.Updates.{with_age}
 use Rattle.record.specs.Computing.{computing as computing-record}
 use Rattle.record.specs.declared.types.Settings.{Settings}
 use Rattle.record.specs.declared.types.Own.{Own}
 use Rattle.record.specs.declared.types.Connection.{Connection}
-use Rattle.record.specs.declared.types.Device.{Device}
-use Rattle.record.specs.Given.{Given, given_by}
 use Rattle.clock.specs.Second.{times, one_more, own_second, connection_second}
-use Rattle.clock.specs.Passing.{seconds_most, time_passed}
+use Rattle.clock.specs.Passing.{seconds_most}
+use Rattle.clock.specs.Worked.{passed_figures}
 use Rattle.clock.specs.Computing.{computing}
 use Rattle.clock.proofs.LampsGain.{gains, stops}
 use Rattle.clock.proofs.ConnectionsAge.{grows_older, closes}
@@ -43,25 +41,14 @@ module _ (c : Connection) (ages : is_timed c.phase ≡ true) where
   pub at_29_closes : c.age ≡ 29 → times connection_second 1 c ≡ closed
   at_29_closes e = closes 1 c ages (omega arith) (omega arith)
 
--- W = 20, C = 60, one lamp at 0 s, input 11: the device that was just switched on, and what a call gives of it
-abbrev fresh : Device
-fresh = start_device (wanted_of [] [] [] [] [] (codes "11") (0 ∷ []) 20 60)
-
-abbrev warmed : Device
-warmed = with_own fresh (with_power_left fresh.own warming 20)
-
-abbrev number_power_left_lamp : Given Device → List ℕ
-number_power_left_lamp r =
-    r.number ∷ r.device.own.power ∷ r.device.own.left ∷ slice_index_or r.device.own.lamps 0 0 ∷ []
-
-pub passed_19 : number_power_left_lamp (given_by warmed (time_passed warmed 19)) ≡ 0 ∷ warming ∷ 1 ∷ 19 ∷ []
+pub passed_19 : passed_figures 19 ≡ 0 ∷ warming ∷ 1 ∷ 19 ∷ []
 unfolding computing computing-record
 passed_19 = refl
 
-pub passed_20 : number_power_left_lamp (given_by warmed (time_passed warmed 20)) ≡ 0 ∷ on ∷ 0 ∷ 20 ∷ []
+pub passed_20 : passed_figures 20 ≡ 0 ∷ on ∷ 0 ∷ 20 ∷ []
 unfolding computing computing-record
 passed_20 = refl
 
-pub passed_3600 : number_power_left_lamp (given_by warmed (time_passed warmed 3600)) ≡ 0 ∷ on ∷ 0 ∷ 3600 ∷ []
+pub passed_3600 : passed_figures 3600 ≡ 0 ∷ on ∷ 0 ∷ 3600 ∷ []
 unfolding computing computing-record
 passed_3600 = refl

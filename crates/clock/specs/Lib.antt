@@ -2,3 +2,4 @@ pub mod Second
 pub mod After
 pub mod Passing
 pub mod Computing
+pub mod Worked

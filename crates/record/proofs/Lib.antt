@@ -26,5 +26,5 @@ pub mod LowestShut
 pub mod Started
 pub mod HostKept
 pub mod Results
-mod Samples
+pub mod Samples
 pub mod GivenTold

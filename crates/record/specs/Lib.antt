@@ -14,3 +14,4 @@ pub mod Refusals
 pub mod SetUpErrors
 pub mod Given
 pub mod Computing
+pub mod Worked

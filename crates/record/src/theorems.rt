@@ -1,10 +1,10 @@
 // What is proved beside the contracts of the functions. Nothing is done here: that these functions have their contracts
 // is that the theorems stand.
 ghost use Rattle.std.specs.Prelude.{◌≡◌, ◌≢◌, ◌+◌, ◌*◌, ◌<◌, ◌≤◌, Bool, IsTrue, true, false, List, ℕ, Option};
-ghost use Rattle.std.specs.Prelude.{Some, None, Result, OnErr, length};
+ghost use Rattle.std.specs.Prelude.{Some, None, Result, OnErr, length, map, [], ◌∷◌, codes};
 ghost use Rattle.words.specs.Bytes.{◌at◌};
 ghost use Rattle.words.specs.Texts.{password_most};
-ghost use Rattle.record.specs.Limits.{age_end, errors_count, error_most};
+ghost use Rattle.record.specs.Limits.{age_end, errors_count, error_most, lamp_limit};
 ghost use Rattle.record.specs.Rules.{is_long_enough};
 ghost use Rattle.record.specs.Facts.{IsSettings, IsOwn, IsConnection};
 ghost use Rattle.record.specs.declared.types.Settings.{Settings};
@@ -16,8 +16,12 @@ ghost use Rattle.record.specs.SetUp.{settings_in_order, is_setting_in_range, is_
 ghost use Rattle.record.specs.SetUp.{first_failing, first_out_of_range, set_up};
 ghost use Rattle.record.specs.SetUpErrors.{setting_told};
 ghost use Rattle.record.specs.Given.{gives, set_up_given};
-ghost use Rattle.record.specs.Wanted.{Wanted};
-ghost use Rattle.record.specs.declared.types.Setting.TheVariants.{Password};
+ghost use Rattle.record.specs.Wanted.{Wanted, names_in};
+ghost use Rattle.record.specs.Worked.{named_set_up, secured_set_up, class_2_set_up, whole_set_up, texts_set_up};
+ghost use Rattle.record.specs.Worked.{AreNumbered, input_rows, most_input_rows, password_rows, class_2_set_up_rows};
+ghost use Rattle.record.specs.Worked.{in_turn, nine_settings, set_up_refuses};
+ghost use Rattle.record.specs.Record.{start_device};
+ghost use Rattle.record.specs.declared.types.Setting.TheVariants.{Password, Cooling, Serial, Version, Names};
 ghost use Rattle.record.specs.declared.refusal.Refusal.{Refusal};
 ghost use Rattle.record.specs.declared.set_up_error.SetUpError.{SetUpError};
 ghost use Rattle.record.specs.declared.types.Device.{Device};
@@ -77,4 +81,40 @@ pub fn legal_parts_keep_the_rules()
         → o.errors at k ≤ error_most }
     ensures age { (c : Connection) → IsConnection c → c.age < age_end }
     ensures overlong { (c : Connection) → IsConnection c → IsTrue c.line.overlong → IsTrue (is_collecting c.phase) }
+{}
+
+/// Set-ups worked out, by the number that each gives: inputs, their most, passwords and what Class 2 has more, on both
+/// sides of their rules (RULES, Inputs, Passwords and Class 2); and records that are legal or not.
+#[tactic(auto, using(crate::proofs::Samples::numbered, crate::proofs::Samples::sockets_numbered,
+    crate::proofs::Samples::passwords_numbered, crate::proofs::Samples::classes_numbered,
+    crate::proofs::Samples::settles, crate::proofs::Samples::seven_illegal, crate::proofs::Samples::eight_legal,
+    crate::proofs::Samples::named_legal))]
+pub fn set_ups_are_numbered()
+    ensures inputs { AreNumbered input_rows }
+    ensures most_inputs { AreNumbered most_input_rows }
+    ensures passwords { AreNumbered password_rows }
+    ensures class_2 { AreNumbered class_2_set_up_rows }
+    ensures plain_legal { is_legal (start_device (named_set_up "" "11" 0)) ≡ true }
+    ensures seven_illegal { is_legal (start_device (secured_set_up "abcdef7" "11")) ≡ false }
+    ensures eight_legal { is_legal (start_device (secured_set_up "abcdefg8" "11")) ≡ true }
+    ensures named_legal { is_legal (start_device (class_2_set_up "1A6Z" (codes "A" ∷ codes "Cast" ∷ []))) ≡ true }
+{}
+
+/// Which setting is refused, worked out: each in turn, also where cooling is out of its range too; none; the password,
+/// where it is short and nothing else is wrong; those of Class 2. And how lent names are cut (RULES, The legal record).
+#[tactic(auto, using(crate::proofs::Samples::each_setting_told, crate::proofs::Samples::first_of_two_told,
+    crate::proofs::Samples::no_setting_told, crate::proofs::Samples::short_password_told,
+    crate::proofs::Samples::later_setting_told, crate::proofs::Samples::setting_of_2_told,
+    crate::proofs::Samples::names_cut, crate::proofs::Samples::names_short))]
+pub fn settings_are_told_in_order()
+    ensures each { map set_up_refuses (in_turn 60) ≡ map Some nine_settings }
+    ensures first_of_two { map set_up_refuses (in_turn 0) ≡ map Some nine_settings }
+    ensures none { set_up_refuses (whole_set_up "ERR5" "" "" "" "password" "1159" lamp_limit 600 600) ≡ None }
+    ensures short { set_up_refuses (whole_set_up "" "" "" "" "abcdef7" "11" 0 20 60) ≡ Some Password }
+    ensures later { set_up_refuses (whole_set_up "" "" "" "" "abcdef7" "11" 0 20 0) ≡ Some Cooling }
+    ensures class_2 { map set_up_refuses (texts_set_up "ERR1" "ERR1" [] ∷ texts_set_up "" "ERR1" []
+        ∷ texts_set_up "" "" [] ∷ texts_set_up "" "" ([] ∷ []) ∷ [])
+        ≡ Some Serial ∷ Some Version ∷ Some Names ∷ None ∷ [] }
+    ensures cut { names_in (4 ∷ 0 ∷ 1 ∷ []) (codes "CastB") ≡ codes "Cast" ∷ [] ∷ codes "B" ∷ [] }
+    ensures uneven { names_in (4 ∷ 2 ∷ []) (codes "CastB") ≡ [] }
 {}

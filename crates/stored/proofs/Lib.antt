@@ -9,4 +9,4 @@ pub mod Results
 pub mod OneForm
 pub mod Writing
 pub mod FormMost
-mod Samples
+pub mod Samples

@@ -6,3 +6,4 @@ pub mod Loading
 pub mod Computing
 pub mod Told
 pub mod Puts
+pub mod Printed

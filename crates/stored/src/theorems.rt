@@ -13,7 +13,10 @@ ghost use Rattle.text.specs.Words.{over};
 ghost use Rattle.text.specs.Outcomes.{WrittenTold, told_written};
 ghost use Rattle.stored.specs.Form.{form_of, marked_form_of, old_form_of, stored_form, form_most, stored_by};
 ghost use Rattle.stored.specs.Form.{old_version, version_form, stored_of, marks_stored};
-ghost use Rattle.stored.specs.Loading.{loaded_from};
+ghost use Rattle.stored.specs.Loading.{started_with, loaded_from};
+ghost use Rattle.stored.specs.Printed.{cutting_room, class_room, only_first, printed_form, printed_class_2};
+ghost use Rattle.stored.specs.Printed.{printed_marked, printed_old, widest_form};
+ghost use Rattle.stored.specs.Printed.{AreLoadedAs, refused_rows, class_rows, old_rows, marks_rows};
 ghost use Rattle.record.specs.declared.types.Device.{Device};
 ghost use Rattle.record.specs.Legal.{is_legal};
 ghost use Rattle.stored.specs.declared.error.LoadError.{LoadError};
@@ -71,4 +74,34 @@ pub fn one_result()
     ensures number_and_record { (bs : List ℕ) (r s : Given Device) → r ≡ loaded_from bs → s ≡ loaded_from bs → r ≡ s }
     ensures outcome { (bs : List ℕ) (r s : Result Device LoadError)
         → loading_told r ≡ loaded_from bs → loading_told s ≡ loaded_from bs → r ≡ s }
+{}
+
+/// Forms printed by hand (RULES, Stored form), one of each version and class: what is stored is these bytes, and they
+/// load as what was stored. The longest form has as many bytes as a host may have to lend.
+#[tactic(auto, using(crate::proofs::Samples::printed_stored, crate::proofs::Samples::printed_loads,
+    crate::proofs::Samples::class_printed_lem, crate::proofs::Samples::class_printed_loaded,
+    crate::proofs::Samples::marked_printed_lem, crate::proofs::Samples::marked_printed_loaded,
+    crate::proofs::Samples::old_printed_lem, crate::proofs::Samples::old_printed_loaded,
+    crate::proofs::Samples::widest_loads, crate::proofs::Samples::most_reached))]
+pub fn forms_are_as_printed()
+    ensures stored { form_of cutting_room only_first ≡ printed_form }
+    ensures loads { loaded_from printed_form ≡ acceptance_of (started_with cutting_room only_first) }
+    ensures class_2_stored { form_of class_room only_first ≡ printed_class_2 }
+    ensures class_2_loads { loaded_from printed_class_2 ≡ acceptance_of (started_with class_room only_first) }
+    ensures marked { marked_form_of cutting_room only_first ≡ printed_marked }
+    ensures marked_loads { loaded_from printed_marked ≡ acceptance_of (started_with cutting_room only_first) }
+    ensures old { old_form_of cutting_room ≡ printed_old }
+    ensures old_loads { loaded_from printed_old ≡ acceptance_of (start_device cutting_room) }
+    ensures widest_loads { (loaded_from widest_form).number ≡ 0 }
+    ensures widest { length widest_form ≡ form_most }
+{}
+
+/// Bytes that do not load, each with its number (RULES, Stored form).
+#[tactic(auto, using(crate::proofs::Samples::each_refused, crate::proofs::Samples::each_class,
+    crate::proofs::Samples::each_old_refused, crate::proofs::Samples::each_marked))]
+pub fn other_bytes_are_refused()
+    ensures refused { AreLoadedAs refused_rows }
+    ensures class { AreLoadedAs class_rows }
+    ensures old { AreLoadedAs old_rows }
+    ensures marks { AreLoadedAs marks_rows }
 {}
