@@ -1,2 +1,3 @@
 mod Told
 mod Drawn
+pub mod Settled

@@ -2,3 +2,5 @@ pub mod LampLines
 pub mod Days
 pub mod Frame
 pub mod Reports
+pub mod Settled
+pub mod Computing

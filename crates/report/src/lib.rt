@@ -5,6 +5,7 @@ mod days;
 mod frame;
 pub mod lamps;
 pub mod page;
+pub mod theorems;
 
 ghost use Rattle.std.specs.Prelude.{◌≡◌, ◌≤◌, length, OnOk, OnErr};
 ghost use Rattle.textio.specs.Fronts.{WritesText};

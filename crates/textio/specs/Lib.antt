@@ -4,3 +4,4 @@ pub mod Waiting
 pub mod Fronts
 pub mod NextLine
 pub mod Forms
+pub mod Computing
