@@ -13,3 +13,4 @@ mod NextKept
 pub mod Observing
 mod Replayed
 pub mod Samples
+pub mod Settled

@@ -9,3 +9,5 @@ pub mod Told
 pub mod Playing
 pub mod Replaying
 pub mod Cuts
+pub mod Settled
+pub mod Computing

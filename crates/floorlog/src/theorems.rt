@@ -1,5 +1,5 @@
-// What is proved beside the contracts of the functions. Nothing is done here: that this function has its contract is
-// that the theorems stand.
+// What is proved beside the contracts of the functions. Nothing is done here: that these functions have their contracts
+// is that the theorems stand.
 ghost use Rattle.std.specs.Prelude.{◌≡◌, ◌≢◌, ◌<◌, List, ℕ, true, false};
 ghost use Rattle.record.specs.Legal.{is_legal};
 ghost use Rattle.record.specs.Limits.{places_count};
@@ -10,6 +10,7 @@ ghost use Rattle.device.specs.Calls.{reply_room, place_taken, refused_by};
 ghost use Rattle.floorlog.specs.Events.{events};
 ghost use Rattle.floorlog.specs.Doing.{log_place, opened_in_log};
 ghost use Rattle.floorlog.specs.Playing.{sample_device, state_after};
+ghost use Rattle.floorlog.specs.Settled.{ArePrinted, log_rows};
 
 /// A log drives place 0 only (RULES, Floor log): where that is closed, an `O` takes it; where it is not, the `O` is
 /// refused with 5; and after any log on the sample set-up every other place is closed.
@@ -20,4 +21,11 @@ pub fn a_log_drives_one_place()
         → opened_in_log d random ≡ refused_by 5 d }
     ensures elsewhere { (p : ℕ) → p ≢ log_place → (log : List ℕ) → p < places_count
         → connection_at (state_after sample_device (events log)) p ≡ closed }
+{}
+
+/// Logs are answered as RULES, Floor log, has it: the page's own, one of no line, refusals and no reply, lines of no
+/// form.
+#[tactic(auto, using(crate::proofs::Settled::logs_printed))]
+pub fn logs_print_so()
+    ensures { ArePrinted log_rows }
 {}
