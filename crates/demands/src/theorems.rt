@@ -42,7 +42,7 @@ pub fn outsiders_read_erra()
         → read_reply c (received_at d p bytes room).reply ≡ outcome_alone erra_said }
 {}
 
-/// The lines that settle the rules are answered so, and eleven of Class 2 (RULES, Commands and Class 2).
+/// The lines that settle the rules are answered so, and those of Class 2 (RULES, Commands and Class 2).
 #[tactic(auto, using(crate::proofs::Settled::settled, crate::proofs::Settled::settled_class_2))]
 pub fn ours_settles()
     ensures class_1 { Settles ours }
