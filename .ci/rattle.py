@@ -75,7 +75,7 @@ def items(text, shape, at, end):
                 body = text[at + 1 : to - 1]
             elif shape[at : at + 1] == "{":
                 plain_fields, inner = fields(text, shape, at + 1, to - 1)
-                whole += f"{{ {plain_fields} }}"
+                whole += f"{{\n{plain_fields}\n}}"
         yield Item(kind, name, re.match(r"pub\s(?!\s*\()", m[1]) is not None, attributes, whole, clauses, body, inner)
         at = to
 
@@ -91,7 +91,7 @@ def fields(text, shape, at, end):
         elif field:
             said.append(field)
         at = to + 1
-    return ", ".join(said), ghosts
+    return ",\n".join(said), ghosts
 
 
 def brought(text):
