@@ -52,26 +52,51 @@ def declared(text):
 
 def stated(text):
     """The same with what is said of each name: its type, and the sections round it; a definition is a function."""
+    return [(kind, name, said) for kind, name, said, _, _ in items(text) if kind != "fixity"]
+
+
+def items(text):
+    """The same with the sections round it, and its whole text, which of a definition has its equations; beside these how
+    an operator binds, its fixity."""
     return list(block([line for line in text.split("\n") if line.strip()], "module", ""))
+
+
+def tokens(text):
+    """The words of a text, so that white space tells nothing: strings, brackets and the like, and what lies between."""
+    return re.findall(rf'"(?:\\.|[^"\\\n])*"|[(){{}};,@]|[^{ENDS}]+', text)
 
 
 def block(lines, inside, heads):
     column = lambda line: len(line) - len(line.lstrip())
     starts = [n for n, line in enumerate(lines) if column(line) == column(lines[0])]
+    last = None  # the name that the next items may be equations of, as it is yielded
     for start, end in zip(starts, starts[1:] + [len(lines)]):
         item = lines[start:end]
-        marks = re.match(r"\s*((?:(?:unfoldable|abbrev|axiom|pub)\s+)*)", "\n".join(item))
-        words = "\n".join(item)[marks.end() :].split()
+        text = "\n".join(item)
+        marks = re.match(r"\s*((?:(?:unfoldable|abbrev|axiom|pub)\s+)*)", text)
+        words = text[marks.end() :].split()
+        begins = words[0] in ("module", "record", "data", "use", "mod") or words[0].startswith("infix")
+        names = re.sub(r"\{[^}]*\}", "", " ".join(words[: words.index(":")])).split() if ":" in words else []
+        if inside == "module" and last and not begins and len(names) != 1:
+            last[4] += f"\n{text}"
+            continue
+        if last:
+            yield tuple(last)
+        last = None
         if words[0] in ("module", "record", "data"):
             head = next((n for n, line in enumerate(item) if line.split()[-1] == "where"), len(item))
             said = " ".join(item[: head + 1])
             if words[0] != "module":
-                yield "type", words[1], said
+                yield "type", words[1], said, heads, text
             yield from block(item[head + 1 :], words[0], f"{heads} {said} →")
-        elif ":" in words:
-            names = re.sub(r"\{[^}]*\}", "", " ".join(words[: words.index(":")])).split()
+        elif words[0].startswith("infix"):
+            yield "fixity", words[-1], words[0], heads, text
+        elif names:
             said = f"{heads} {' '.join(words[words.index(':') + 1 :])}"
             if inside != "module":
-                yield from (("member", name, said) for name in names)
+                yield from (("member", name, said, heads, text) for name in names)
             elif len(names) == 1:
-                yield "function" if re.search(r"unfoldable|abbrev", marks[1]) else "statement", names[0], said
+                kind = "function" if re.search(r"unfoldable|abbrev", marks[1]) else "statement"
+                last = [kind, names[0], said, heads, text]
+    if last:
+        yield tuple(last)
