@@ -2,7 +2,19 @@
 import re
 
 
+def code(text):
+    """A header without its comments."""
+    return re.sub(r"/\*.*?\*/|//[^\n]*", " ", text, flags=re.S)
+
+
 def functions(text):
     """The functions that a header declares: every name before a parenthesis, the words of C and its own macro aside."""
-    text = re.sub(r"/\*.*?\*/|//[^\n]*|^\s*#(?:[^\n]*\\\n)*[^\n]*", " ", text, flags=re.S | re.M)
+    text = re.sub(r"^\s*#(?:[^\n]*\\\n)*[^\n]*", " ", code(text), flags=re.M)
     return set(re.findall(r"\b([A-Za-z_]\w*)\s*\(", text)) - {"CEILING_IS", "sizeof", "offsetof"}
+
+
+def constants(text):
+    """Each case of an enum with what the header says that it is: nothing where it says nothing."""
+    for cases in re.findall(r"\benum\b[^{;]*\{([^}]*)\}", code(text)):
+        for case in filter(str.strip, cases.split(",")):
+            yield tuple(part.strip() for part in case.partition("=")[::2])
