@@ -36,10 +36,7 @@ pub fn the_fault_mark_leaves_time()
 /// Seconds worked out (RULES, Time): a warm-up with 20 seconds left is not over after 19 and is on after 20; a lamp
 /// stops at 359,999,999 seconds; an awaiting or failed connection closes at 30 seconds. The last three are the call
 /// itself: its number, the power, the seconds left and the lamp's seconds.
-#[tactic(auto, using(crate::proofs::Samples::after_19_still_warming, crate::proofs::Samples::after_20_on,
-    crate::proofs::Samples::one_short_of_the_limit, crate::proofs::Samples::stops_at_the_limit,
-    crate::proofs::Samples::at_28_older, crate::proofs::Samples::at_29_closes, crate::proofs::Samples::passed_19,
-    crate::proofs::Samples::passed_20, crate::proofs::Samples::passed_3600))]
+#[tactic(auto, using(crate::proofs::Samples::worked_seconds))]
 pub fn seconds_are_worked_out()
     ensures warms_after_19 { (s : Settings) (o : Own) → IsPowerOf s.warm s.cool o.power o.left
         → power_seen o ≡ WarmUp 20 → power_seen (times (own_second s) 19 o) ≡ WarmUp 1 }

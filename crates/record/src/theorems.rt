@@ -85,10 +85,7 @@ pub fn legal_parts_keep_the_rules()
 
 /// Set-ups worked out, by the number that each gives: inputs, their most, passwords and what Class 2 has more, on both
 /// sides of their rules (RULES, Inputs, Passwords and Class 2); and records that are legal or not.
-#[tactic(auto, using(crate::proofs::Samples::numbered, crate::proofs::Samples::sockets_numbered,
-    crate::proofs::Samples::passwords_numbered, crate::proofs::Samples::classes_numbered,
-    crate::proofs::Samples::settles, crate::proofs::Samples::seven_illegal, crate::proofs::Samples::eight_legal,
-    crate::proofs::Samples::named_legal))]
+#[tactic(auto, using(crate::proofs::Samples::numbered_set_ups))]
 pub fn set_ups_are_numbered()
     ensures inputs { AreNumbered input_rows }
     ensures most_inputs { AreNumbered most_input_rows }
@@ -102,10 +99,7 @@ pub fn set_ups_are_numbered()
 
 /// Which setting is refused, worked out: each in turn, also where cooling is out of its range too; none; the password,
 /// where it is short and nothing else is wrong; those of Class 2. And how lent names are cut (RULES, The legal record).
-#[tactic(auto, using(crate::proofs::Samples::each_setting_told, crate::proofs::Samples::first_of_two_told,
-    crate::proofs::Samples::no_setting_told, crate::proofs::Samples::short_password_told,
-    crate::proofs::Samples::later_setting_told, crate::proofs::Samples::setting_of_2_told,
-    crate::proofs::Samples::names_cut, crate::proofs::Samples::names_short))]
+#[tactic(auto, using(crate::proofs::Samples::told_settings))]
 pub fn settings_are_told_in_order()
     ensures each { map set_up_refuses (in_turn 60) ≡ map Some nine_settings }
     ensures first_of_two { map set_up_refuses (in_turn 0) ≡ map Some nine_settings }

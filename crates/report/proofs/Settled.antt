@@ -19,3 +19,6 @@ lines_told = (refl, (refl, (refl, tt)))
 pub totals_told : ended_text Lines 80 1 (0 ∷ []) (60 ∷ []) (60 ∷ []) ≡ codes "lamp 1 start 0 burnt 60 now 60\n"
 unfolding computing numbers textio
 totals_told = refl
+
+pub ruleset told_stretches =
+    (bars_told, lines_told, totals_told)

@@ -7,8 +7,7 @@ ghost use Rattle.report.specs.declared.Report.TheVariants.{Lines, Page};
 
 /// Stretches are told of as RULES, Floor log, has it: as bars on the page's scale, and as lines; at the end a lamp's
 /// seconds.
-#[tactic(auto, using(crate::proofs::Settled::bars_told, crate::proofs::Settled::lines_told,
-    crate::proofs::Settled::totals_told))]
+#[tactic(auto, using(crate::proofs::Settled::told_stretches))]
 pub fn stretches_are_told_so()
     ensures bars { AreTold (Page 2) bar_rows }
     ensures lines { AreTold Lines line_rows }

@@ -78,11 +78,7 @@ pub fn one_result()
 
 /// Forms printed by hand (RULES, Stored form), one of each version and class: what is stored is these bytes, and they
 /// load as what was stored. The longest form has as many bytes as a host may have to lend.
-#[tactic(auto, using(crate::proofs::Samples::printed_stored, crate::proofs::Samples::printed_loads,
-    crate::proofs::Samples::class_printed_lem, crate::proofs::Samples::class_printed_loaded,
-    crate::proofs::Samples::marked_printed_lem, crate::proofs::Samples::marked_printed_loaded,
-    crate::proofs::Samples::old_printed_lem, crate::proofs::Samples::old_printed_loaded,
-    crate::proofs::Samples::widest_loads, crate::proofs::Samples::most_reached))]
+#[tactic(auto, using(crate::proofs::Samples::printed_forms))]
 pub fn forms_are_as_printed()
     ensures stored { form_of cutting_room only_first ≡ printed_form }
     ensures loads { loaded_from printed_form ≡ acceptance_of (started_with cutting_room only_first) }
@@ -97,8 +93,7 @@ pub fn forms_are_as_printed()
 {}
 
 /// Bytes that do not load, each with its number (RULES, Stored form).
-#[tactic(auto, using(crate::proofs::Samples::each_refused, crate::proofs::Samples::each_class,
-    crate::proofs::Samples::each_old_refused, crate::proofs::Samples::each_marked))]
+#[tactic(auto, using(crate::proofs::Samples::refused_bytes))]
 pub fn other_bytes_are_refused()
     ensures refused { AreLoadedAs refused_rows }
     ensures class { AreLoadedAs class_rows }
