@@ -106,7 +106,8 @@ fn often_enough(run: &Run, by: By) -> u32 {
     times
 }
 
-/// callgrind runs `bench marked` and writes a file, with the instructions since the one before, at each mark.
+/// callgrind runs `bench marked` and writes a file, with the instructions since the one before, at each mark. glibc copies
+/// and fills without `rep`, each of whose steps callgrind would count.
 fn counts() {
     heading("instructions a call");
     let folder = std::env::temp_dir().join(format!("bench-{}", std::process::id()));
@@ -117,6 +118,7 @@ fn counts() {
         .arg(format!("--callgrind-out-file={}", out.display()))
         .arg(std::env::current_exe().unwrap())
         .arg("marked")
+        .env("GLIBC_TUNABLES", "glibc.cpu.hwcaps=-ERMS")
         .output()
         .expect("valgrind runs");
     assert!(ran.status.success(), "valgrind said {}", String::from_utf8_lossy(&ran.stderr));
