@@ -2,8 +2,7 @@
 //! controller at its open place. The power is on and every record is at its limits, one in two of Class 2.
 
 use crate::measure::processor_time;
-use crate::work::By;
-use crate::work::{PLACE, class_2, opened, received_in_place, second_passed};
+use crate::work::{By, PLACE, class_2, opened, received_in_place, second_passed};
 use second::face::Device;
 use std::time::Duration;
 
