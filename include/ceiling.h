@@ -1,9 +1,10 @@
 /* The control software of a ceiling projector: PJLink Class 1, version 1.04, and of Class 2 what docs/RULES.md has of it,
    both sides, with the MD5 of RFC 1321.
 
-   This declares what the archive libboard.a defines. `./archive` writes the archive for x86-64, whose calls are those
-   of the System V calling convention for AMD64, and `./archive aarch64` the one for AArch64, by the calling convention
-   AAPCS64. The layout of the records is the same on both.
+   This declares what the archive libboard.a defines. `./archive` writes the archive for every processor of x86-64, whose
+   calls are those of the System V calling convention for AMD64, and `./archive aarch64` the one for every AArch64, by the
+   calling convention AAPCS64. `./archive x86-64-v2` and `./archive x86-64-v3` are faster and ask for a newer processor,
+   which no call tests: on another the host ends by an illegal instruction. The layout of the records is the same on all.
 
    Every call ends, keeps to the memory that it is lent, allocates nothing and keeps no state. The projector is a
    record, pj_device, and the host keeps it. It lends the record to the calls `.._in_place`, which change it where it

@@ -1,6 +1,6 @@
-//! Finds `libboard.a` and says how it is reached. What `./archive` writes for this processor, target/native/libboard.a,
-//! is linked. One for another processor cannot be: where BOARD_EMULATOR names what runs that processor's programs, a
-//! small host in C links it, which the compiler that BOARD_CC names makes, and the emulator runs that.
+//! Finds `libboard.a` and says how it is reached. What `./archive` writes, target/x86-64/libboard.a, is linked. One for
+//! another processor cannot be: where BOARD_EMULATOR names what runs that processor's programs, a small host in C links
+//! it, which the compiler that BOARD_CC names makes, and the emulator runs that.
 //!
 //! BOARD_ARCHIVE names another archive.
 
@@ -10,6 +10,7 @@ use std::process::Command;
 
 fn main() {
     println!("cargo:rustc-check-cfg=cfg(board, values(\"linked\", \"apart\", \"missing\"))");
+    println!("cargo:rustc-check-cfg=cfg(openssl)");
     for variable in ["BOARD_ARCHIVE", "BOARD_CC", "BOARD_EMULATOR"] {
         println!("cargo:rerun-if-env-changed={variable}");
     }
@@ -17,7 +18,7 @@ fn main() {
     let root = here.parent().expect("second/ stands in the repository");
     let archive = match env::var_os("BOARD_ARCHIVE") {
         Some(path) => PathBuf::from(path),
-        None => root.join("target/native/libboard.a"),
+        None => root.join("target/x86-64/libboard.a"),
     };
     println!("cargo:rerun-if-changed={}", archive.display());
     println!("cargo:rerun-if-changed=build.rs");
@@ -30,6 +31,7 @@ fn main() {
         println!("cargo:rustc-cfg=board=\"apart\"");
     } else {
         plain_md5(&here);
+        openssl();
         println!("cargo:rustc-link-search=native={}", archive.parent().unwrap().display());
         println!("cargo:rustc-cfg=board=\"linked\"");
     }
@@ -43,6 +45,16 @@ fn plain_md5(here: &Path) {
     let made = Command::new("cc").args(["-O2", "-c"]).arg(&source).arg("-o").arg(&object).status().expect("cc runs");
     assert!(made.success(), "bench/md5.c does not compile");
     println!("cargo:rustc-link-arg-bin=bench={}", object.display());
+}
+
+/// OpenSSL's library beside it, where it can be linked.
+fn openssl() {
+    let nothing = PathBuf::from(env::var_os("OUT_DIR").unwrap()).join("nothing.so");
+    let made = Command::new("cc").args(["-shared", "-lcrypto", "-o"]).arg(&nothing).output().expect("cc runs");
+    if made.status.success() {
+        println!("cargo:rustc-link-arg-bin=bench=-lcrypto");
+        println!("cargo:rustc-cfg=openssl");
+    }
 }
 
 /// The host is linked with its C library, so that the emulator needs none.

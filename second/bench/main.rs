@@ -1,10 +1,13 @@
-//! `bench`: times of the archive, of the second program and of plain C, side by side in one run, as ratios. `bench
-//! count`: the same in instructions, by callgrind. `bench once WORK SIDE TIMES` is what callgrind runs.
+//! `bench`: times of the archive, of the second program, of plain C and of OpenSSL, side by side in one run, as ratios.
+//! `bench count`: the same in instructions, by callgrind, which runs `bench marked`. `bench floor RECORDS`: many
+//! projectors in one process.
 //!
 //! docs/PERFORMANCE.md says how to run it and what was seen.
 
 #[cfg(board = "linked")]
 mod day;
+#[cfg(board = "linked")]
+mod floor;
 #[cfg(board = "linked")]
 mod measure;
 #[cfg(board = "linked")]

@@ -1,66 +1,80 @@
-//! Times and instruction counts of each work by each side.
+//! Times and instruction counts of each work by each side. Each is that of the calls alone: what a run takes with its
+//! calls, less what it takes without them (`By::Nobody`).
 
-use crate::work::{self, By, LARGE, Run, Work};
+use crate::work::{self, By, Run, Work};
+use crate::{day, floor};
 use std::fs;
-use std::io::Write;
-use std::process::{Command, ExitCode, Stdio};
-use std::time::{Duration, Instant};
+use std::path::Path;
+use std::process::{Command, ExitCode};
+use std::time::Duration;
 
 /// Samples of each side, one side after another; the quickest stands, since all that disturbs a sample slows it.
 const SAMPLES: usize = 9;
 const SAMPLE: Duration = Duration::from_millis(20);
+/// So many calls are counted, after a first one that is not.
+const COUNTED: u32 = 10;
 
 pub fn main() -> ExitCode {
     let words: Vec<String> = std::env::args().skip(1).collect();
     let words: Vec<&str> = words.iter().map(String::as_str).collect();
     match words[..] {
         [] => times(),
-        ["count"] => return counts(),
-        ["once", work, side, times] => once(work.parse().unwrap(), side.parse().unwrap(), times.parse().unwrap()),
+        ["count"] => counts(),
+        ["marked"] => marked(),
+        ["floor", records] if records.parse().is_ok_and(|n: usize| n > 0) => floor::floor(records.parse().unwrap()),
         _ => {
-            eprintln!("bench | bench count");
+            eprintln!("bench | bench count | bench floor RECORDS");
             return ExitCode::from(2);
         }
     }
     ExitCode::SUCCESS
 }
 
-const SIDES: [By; 3] = [By::Board, By::Second, By::PlainC];
-
-fn sides(work: &Work) -> &'static [By] {
-    if work.by_c { &SIDES } else { &SIDES[..2] }
+fn all() -> Vec<Work> {
+    let mut all = work::all();
+    all.extend(day::all());
+    all
 }
 
 fn times() {
-    println!("{:44} {:>12} {:>12} {:>7} {:>12} {:>7}", "ns a call", "libboard.a", "second", "ratio", "C", "ratio");
-    for work in work::all() {
-        let times = timed(&work);
-        line(work.name, &times);
-    }
-    other_programs();
-}
-
-/// A ratio is the archive's time or count over the other's: 2 is twice as slow.
-fn line(name: &str, values: &[f64]) {
-    print!("{name:44} {:>12.0} {:>12.0} {:>7.2}", values[0], values[1], values[0] / values[1]);
-    match values.get(2) {
-        Some(by_c) => println!(" {by_c:>12.0} {:>7.2}", values[0] / by_c),
-        None => println!(),
-    }
-}
-
-fn timed(work: &Work) -> Vec<f64> {
-    let sides = sides(work);
-    let run = (work.prepare)();
-    let often: Vec<u32> = sides.iter().map(|&by| often_enough(&run, by)).collect();
-    let mut best = vec![f64::INFINITY; sides.len()];
-    for _ in 0..SAMPLES {
-        for (place, &by) in sides.iter().enumerate() {
-            let spent = spent(&run, by, often[place]).as_nanos() as f64 / f64::from(often[place]);
-            best[place] = best[place].min(spent);
+    heading("ns a call");
+    for work in all() {
+        let run = (work.prepare)();
+        let sides = with_nobody(&work);
+        let often: Vec<u32> = sides.iter().map(|&by| often_enough(&run, by)).collect();
+        let mut best = vec![f64::INFINITY; sides.len()];
+        for _ in 0..SAMPLES {
+            for (place, &by) in sides.iter().enumerate() {
+                let spent = spent(&run, by, often[place]).as_nanos() as f64 / f64::from(often[place]);
+                best[place] = best[place].min(spent);
+            }
         }
+        line(&work, &best);
     }
-    best
+}
+
+fn with_nobody(work: &Work) -> Vec<By> {
+    [&[By::Nobody], work.sides].concat()
+}
+
+fn heading(unit: &str) {
+    println!(
+        "{unit:54} {:>12} {:>12} {:>7} {:>12} {:>7} {:>12} {:>7}",
+        "libboard.a", "second", "", "C", "", "OpenSSL", ""
+    );
+    if !cfg!(openssl) {
+        println!("OpenSSL's library is not here (Debian: libssl-dev)");
+    }
+}
+
+/// Of each side what nobody's value leaves. A ratio is the archive's time or count over the other's: 2 is twice as slow.
+fn line(work: &Work, values: &[f64]) {
+    let board = values[1] - values[0];
+    print!("{:54} {board:>12.0}", work.name);
+    for value in &values[2..] {
+        print!(" {:>12.0} {:>7.2}", value - values[0], board / (value - values[0]));
+    }
+    println!();
 }
 
 fn spent(run: &Run, by: By, times: u32) -> Duration {
@@ -72,7 +86,7 @@ fn spent(run: &Run, by: By, times: u32) -> Duration {
 }
 
 /// This process's own time on the processor: what else the machine does then counts little.
-fn processor_time() -> Duration {
+pub fn processor_time() -> Duration {
     const CLOCK_PROCESS_CPUTIME_ID: i32 = 2;
     unsafe extern "C" {
         fn clock_gettime(clock: i32, time: *mut [i64; 2]) -> i32;
@@ -92,68 +106,61 @@ fn often_enough(run: &Run, by: By) -> u32 {
     times
 }
 
-/// coreutils and OpenSSL over the same number of bytes from a file, less what they need for an empty file.
-fn other_programs() {
-    let folder = std::env::temp_dir();
-    let (large, empty) = (folder.join("second-bench-large"), folder.join("second-bench-empty"));
-    let mut file = fs::File::create(&large).unwrap();
-    let piece = vec![0x5A; 1 << 20];
-    (0..LARGE >> 20).for_each(|_| file.write_all(&piece).unwrap());
-    drop(file);
-    fs::write(&empty, b"").unwrap();
-    for (name, words) in [("md5sum", &[][..]), ("openssl", &["dgst", "-md5"])] {
-        let run = |file: &std::path::Path| {
-            let start = Instant::now();
-            let ended = Command::new(name).args(words).arg(file).stdout(Stdio::null()).stderr(Stdio::null()).status();
-            ended.is_ok_and(|status| status.success()).then(|| start.elapsed().as_nanos() as f64)
-        };
-        let best = |file| (0..SAMPLES).filter_map(|_| run(file)).reduce(f64::min);
-        match (best(&large), best(&empty)) {
-            (Some(large), Some(empty)) => println!("{:44} {:>12.0}", format!("{name}, 64 MB, ns"), large - empty),
-            _ => println!("{name} is not here"),
-        }
-    }
-    let _ = (fs::remove_file(large), fs::remove_file(empty));
-}
-
-/// Instructions of one call: those of 101 calls less those of one, divided. It fails where one is over its bar. 64 MB are
-/// left out: callgrind is slow, and 4,096 bytes say the same.
-fn counts() -> ExitCode {
-    let mut over = 0;
-    println!(
-        "{:44} {:>12} {:>12} {:>7} {:>12} {:>7}",
-        "instructions a call", "libboard.a", "second", "ratio", "C", "ratio"
-    );
-    for (number, work) in work::all().iter().enumerate().filter(|(_, work)| !work.name.contains("64 MB")) {
-        let counted = (0..sides(work).len()).map(|side| {
-            let (few, many) = (counted(number, side, 1), counted(number, side, 101));
-            (many - few) as f64 / 100.0
-        });
-        let counted = counted.collect::<Vec<_>>();
-        line(work.name, &counted);
-        if let Some(bar) = work.bar.filter(|&bar| bar < counted[0]) {
-            println!("  over its bar of {bar:.0} instructions");
-            over += 1;
-        }
-    }
-    ExitCode::from(u8::from(over != 0))
-}
-
-fn counted(work: usize, side: usize, times: u32) -> u64 {
-    let out = Command::new("valgrind")
-        .args(["--tool=callgrind", "--callgrind-out-file=/dev/null"])
+/// callgrind runs `bench marked` and writes a file, with the instructions since the one before, at each mark. glibc copies
+/// and fills without `rep`, each of whose steps callgrind would count.
+fn counts() {
+    heading("instructions a call");
+    let folder = std::env::temp_dir().join(format!("bench-{}", std::process::id()));
+    fs::create_dir_all(&folder).unwrap();
+    let out = folder.join("out");
+    let ran = Command::new("valgrind")
+        .args(["--tool=callgrind", "--dump-before=bench_mark"])
+        .arg(format!("--callgrind-out-file={}", out.display()))
         .arg(std::env::current_exe().unwrap())
-        .args(["once", &work.to_string(), &side.to_string(), &times.to_string()])
+        .arg("marked")
+        .env("GLIBC_TUNABLES", "glibc.cpu.hwcaps=-ERMS")
         .output()
         .expect("valgrind runs");
-    let said = String::from_utf8_lossy(&out.stderr);
-    let line = said.lines().find(|line| line.contains("Collected :")).unwrap_or_else(|| panic!("valgrind said {said}"));
-    line.split_whitespace().last().unwrap().parse().unwrap()
+    assert!(ran.status.success(), "valgrind said {}", String::from_utf8_lossy(&ran.stderr));
+    let mut part = 0;
+    for work in counted() {
+        let mut values = Vec::new();
+        for _ in with_nobody(&work) {
+            part += 2; // the mark before and the mark after
+            values.push(total(&folder.join(format!("out.{part}"))) / f64::from(COUNTED));
+        }
+        line(&work, &values);
+    }
+    fs::remove_dir_all(folder).unwrap();
 }
 
-fn once(number: usize, side: usize, times: u32) {
-    let run = (work::all()[number].prepare)();
-    for _ in 0..times {
-        run(SIDES[side]);
+/// 64 MB are left out: callgrind is slow, and 4,096 bytes say the same.
+fn counted() -> impl Iterator<Item = Work> {
+    all().into_iter().filter(|work| !work.name.contains("64 MB"))
+}
+
+fn total(file: &Path) -> f64 {
+    let text = fs::read_to_string(file).unwrap_or_else(|error| panic!("{}: {error}", file.display()));
+    let line = text.lines().find_map(|line| line.strip_prefix("totals: "));
+    line.unwrap_or_else(|| panic!("{} has no totals", file.display())).trim().parse().unwrap()
+}
+
+fn marked() {
+    for work in counted() {
+        let run = (work.prepare)();
+        for by in with_nobody(&work) {
+            run(by);
+            bench_mark();
+            for _ in 0..COUNTED {
+                run(by);
+            }
+            bench_mark();
+        }
     }
+}
+
+#[unsafe(no_mangle)]
+#[inline(never)]
+extern "C" fn bench_mark() {
+    std::hint::black_box(());
 }

@@ -29,7 +29,7 @@ static __attribute__((noinline)) void measure(const char *name, void (*call)(voi
     const uint8_t *top = painted();
     call();
     size_t deep = depth(top);
-    printf("%-56s %s%zu bytes\n", name, deep < LEFT ? "under " : "", deep < LEFT ? LEFT : deep);
+    printf("%-54s  %s%zu bytes\n", name, deep < LEFT ? "under " : "", deep < LEFT ? LEFT : deep);
 }
 
 /* The call in place, on a copy of the record, and then the one by value. */
@@ -51,6 +51,7 @@ static const size_t name_lengths[2] = {3, 5};
 static uint8_t form[PJ_FORM_MOST];
 static size_t stored;
 static const char *line;
+static pj_panel panel;
 static uint32_t tables[2][PJ_TABLE_MOST];
 static int64_t differences[PJ_TABLE_MOST];
 static pj_command command;
@@ -60,6 +61,11 @@ CALL(call_set_up, {
     pj_changed c = pj_set_up(TEXT("name"), TEXT("maker"), TEXT("model"), TEXT("other"), TEXT("panel123"),
                              TEXT("11213141"), lamps, 8, 600, 600);
     device = c.device;
+})
+CALL(call_set_up_2_in_place, {
+    sink = pj_set_up_2_in_place(&device, TEXT("name"), TEXT("maker"), TEXT("model"), TEXT("other"), TEXT(""),
+                                TEXT("116A"), lamps, 8, 600, 600, TEXT("serial"), TEXT("version"), TEXT("RGBLager"),
+                                name_lengths, 2);
 })
 CALL(call_set_up_2, {
     pj_changed c = pj_set_up_2(TEXT("name"), TEXT("maker"), TEXT("model"), TEXT("other"), TEXT(""), TEXT("116A"), lamps,
@@ -89,6 +95,8 @@ CALL(call_legal_in_place, { sink = pj_legal_in_place(&device); })
 CALL(call_close_in_place, { sink = pj_close_in_place(&device, 0); })
 CALL(call_store_in_place, { stored = pj_store_in_place(&device, form, sizeof form).length; })
 CALL(call_load_in_place, { sink = pj_load_in_place(&device, form, stored); })
+CALL(call_set_fault_in_place, { sink = pj_set_fault_in_place(&device, true); })
+CALL(call_set_errors_in_place, { sink = pj_set_errors_in_place(&device, message, 6); })
 CALL(call_set_fault, { device = pj_set_fault(device, true).device; })
 CALL(call_set_errors, { device = pj_set_errors(device, message, 6).device; })
 CALL(call_set_mark, { device = pj_set_mark(device, 1, false).device; })
@@ -100,6 +108,11 @@ CALL(call_md5, { sink = pj_md5(message, sizeof message).bytes[0]; })
 CALL(call_write, { sink = (uint32_t)pj_write(command, true, 7, TEXT("panel123"), out, sizeof out).length; })
 CALL(call_read_greeting, { sink = pj_read_greeting(TEXT("PJLINK 1 498e4a67\r")).random; })
 CALL(call_read_reply, { sink = pj_read_reply(command, TEXT(line)).number; })
+CALL(call_panel_none, { panel = pj_panel_none().panel; })
+CALL(call_panel_add, { panel = pj_panel_add(panel, TEXT("panel123")).panel; })
+CALL(call_panel_line, { panel = pj_panel_line(panel, 0, TEXT(line)).panel; })
+CALL(call_panel_command, { panel = pj_panel_command(panel, 0, command, out, sizeof out).panel; })
+CALL(call_panel_lost, { panel = pj_panel_lost(panel, 0).panel; })
 CALL(call_compare_lamps, {
     sink = pj_compare_lamps(tables[0], PJ_TABLE_MOST, tables[1], PJ_TABLE_MOST, differences, PJ_TABLE_MOST).number;
 })
@@ -133,11 +146,11 @@ int main(void) {
     BOTH(pj_receive, ", %1INPT 11", call_receive);
     line = "%1INST ?\r";
     BOTH(pj_receive, ", %1INST ?", call_receive);
-    measure("pj_set_fault", call_set_fault);
-    measure("pj_set_errors", call_set_errors);
+    BOTH(pj_set_fault, "", call_set_fault);
+    BOTH(pj_set_errors, "", call_set_errors);
     BOTH(pj_legal, "", call_legal);
     BOTH(pj_close, "", call_close);
-    measure("pj_set_up_2", call_set_up_2);
+    BOTH(pj_set_up_2, "", call_set_up_2);
     measure("pj_which_setting_2", call_which_setting_2);
     device = pj_open(device, 1, out, sizeof out).device;
     line = "%2INNM ?6A\r";
@@ -154,6 +167,14 @@ int main(void) {
     command = (pj_command){PJ_INST, 0, 0};
     line = "%1INST=11 12 13 14 15 16 17 18 19 21 22 23 24 25 26 27 28 29 31 32 33 34 35 36 37 38 39 41 42 43 44 45\r";
     measure("pj_read_reply, longest INST", call_read_reply);
+    measure("pj_panel_none", call_panel_none);
+    measure("pj_panel_add", call_panel_add);
+    line = "PJLINK 1 498e4a67\r";
+    measure("pj_panel_line, a greeting", call_panel_line);
+    measure("pj_panel_command", call_panel_command);
+    line = "%1INST=11 12 13 14 15 16 17 18 19 21 22 23 24 25 26 27 28 29 31 32 33 34 35 36 37 38 39 41 42 43 44 45\r";
+    measure("pj_panel_line, a reply", call_panel_line);
+    measure("pj_panel_lost", call_panel_lost);
     measure("pj_compare_lamps, 64 places", call_compare_lamps);
     for (uint32_t job = 0; job < 64; job++) {
         starts[job] = 600 + job / 8 * 1200;

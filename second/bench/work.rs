@@ -1,117 +1,110 @@
-//! What is measured: each piece of work, done by the archive, by the second program and, for MD5, by plain C.
+//! What is measured: each piece of work, done by the archive, by the second program and, for MD5, by plain C and OpenSSL.
 
-use second::face::{
-    Changed, Command, Connection, Device, Lent, Lent2, Reading, Receiving, in_place, linked, setting_up, swap,
-};
+use second::face::{Changed, Command, Connection, Device, Lent, Lent2, Receiving, in_place, linked, setting_up, swap};
 use second::reference::{calls, places, service, swap as reference_swap};
 use std::cell::RefCell;
 use std::hint::black_box;
 
 #[derive(Clone, Copy, PartialEq, Eq, Debug)]
 pub enum By {
+    /// No call is made; all else that a run does is done.
+    Nobody,
     Board,
     Second,
     PlainC,
+    OpenSsl,
 }
 
 pub type Run = Box<dyn Fn(By)>;
 
-/// A piece of work under its name. `prepare` makes what it works on, and gives what is then measured.
-///
-/// `bar` is the most instructions that a call of the archive may take, where it has one: speed is held by these, which are
-/// the same on a busy machine, and by no clock.
+/// A piece of work under its name, and who does it, the archive first. `prepare` makes what it works on, and gives what
+/// is then measured.
 pub struct Work {
     pub name: &'static str,
-    pub by_c: bool,
-    pub bar: Option<f64>,
+    pub sides: &'static [By],
     pub prepare: Box<dyn Fn() -> Run>,
 }
 
+pub const BOTH: &[By] = &[By::Board, By::Second];
+const DIGESTS: &[By] = if cfg!(openssl) {
+    &[By::Board, By::Second, By::PlainC, By::OpenSsl]
+} else {
+    &[By::Board, By::Second, By::PlainC]
+};
+
 unsafe extern "C" {
     fn plain_md5(message: *const u8, length: usize, digest: *mut u8);
+    #[cfg(openssl)]
+    fn MD5(message: *const u8, length: usize, digest: *mut u8) -> *mut u8;
 }
 
-pub const LARGE: usize = 64 << 20;
+const LARGE: usize = 64 << 20;
 
 /// Where the controller is that is measured. Where a work's name says nothing else, nobody is at the other three places,
 /// so that it can be held against an archive from before there were four.
-const PLACE: usize = 0;
+pub const PLACE: usize = 0;
 
 pub fn all() -> Vec<Work> {
     let mut all = Vec::new();
-    let mut add = |name, by_c, prepare: Box<dyn Fn() -> Run>| all.push(Work { name, by_c, bar: bar(name), prepare });
-    add("MD5 of 40 bytes", true, Box::new(|| digest(40)));
-    add("MD5 of 4,096 bytes", true, Box::new(|| digest(4096)));
-    add("MD5 of 64 MB", true, Box::new(|| digest(LARGE)));
-    add("pj_receive, whole query %1LAMP ?, 8 lamps", false, Box::new(|| receiving(opened(b""), b"%1LAMP ?\r")));
-    add("pj_receive, whole query %1NAME ?, 64 bytes", false, Box::new(|| receiving(opened(b""), b"%1NAME ?\r")));
-    add("pj_receive, a line led by its digest", false, Box::new(|| receiving(opened(b"panel123"), &led_by_digest())));
-    add("pj_receive, one byte", false, Box::new(|| receiving(opened(b""), b"%")));
-    add("pj_receive, one byte, short texts", false, Box::new(|| receiving(short(), b"%")));
-    add("pj_receive, one byte, four lines full", false, Box::new(|| receiving(full(134), b"%")));
-    add("pj_receive, %1LAMP ?, others' lines full", false, Box::new(|| receiving(full(0), b"%1LAMP ?\r")));
-    add("pj_receive, 4,096 bytes of lines, handed on", false, Box::new(|| handing_on(opened(b""))));
-    add("pj_receive, one byte, Class 2", false, Box::new(|| receiving(class_2(), b"%")));
-    add("pj_receive, %2INNM ?6A, 128 bytes, Class 2", false, Box::new(|| receiving(class_2(), b"%2INNM ?6A\r")));
+    let mut add = |name, sides, prepare: Box<dyn Fn() -> Run>| all.push(Work { name, sides, prepare });
+    add("MD5 of 40 bytes", DIGESTS, Box::new(|| digest(40)));
+    add("MD5 of 4,096 bytes", DIGESTS, Box::new(|| digest(4096)));
+    add("MD5 of 64 MB", DIGESTS, Box::new(|| digest(LARGE)));
+    add("pj_receive, whole query %1LAMP ?, 8 lamps", BOTH, Box::new(|| receiving(opened(b""), b"%1LAMP ?\r")));
+    add("pj_receive, whole query %1NAME ?, 64 bytes", BOTH, Box::new(|| receiving(opened(b""), b"%1NAME ?\r")));
+    add("pj_receive, a line led by its digest", BOTH, Box::new(|| receiving(opened(b"panel123"), &led_by_digest())));
+    add("pj_receive, one byte", BOTH, Box::new(|| receiving(opened(b""), b"%")));
+    add("pj_receive, one byte, short texts", BOTH, Box::new(|| receiving(short(), b"%")));
+    add("pj_receive, one byte, four lines full", BOTH, Box::new(|| receiving(full(134), b"%")));
+    add("pj_receive, %1LAMP ?, others' lines full", BOTH, Box::new(|| receiving(full(0), b"%1LAMP ?\r")));
+    add("pj_receive, 4,096 bytes of lines, handed on", BOTH, Box::new(|| handing_on(opened(b""))));
+    add("pj_receive, one byte, Class 2", BOTH, Box::new(|| receiving(class_2(), b"%")));
+    add("pj_receive, %2INNM ?6A, 128 bytes, Class 2", BOTH, Box::new(|| receiving(class_2(), b"%2INNM ?6A\r")));
     let name = "pj_receive_in_place, whole query %1LAMP ?, 8 lamps";
-    add(name, false, Box::new(|| receiving_in_place(opened(b""), b"%1LAMP ?\r")));
+    add(name, BOTH, Box::new(|| receiving_in_place(opened(b""), b"%1LAMP ?\r")));
     let name = "pj_receive_in_place, whole query %1NAME ?, 64 bytes";
-    add(name, false, Box::new(|| receiving_in_place(opened(b""), b"%1NAME ?\r")));
+    add(name, BOTH, Box::new(|| receiving_in_place(opened(b""), b"%1NAME ?\r")));
     let name = "pj_receive_in_place, a line led by its digest";
-    add(name, false, Box::new(|| receiving_in_place(opened(b"panel123"), &led_by_digest())));
-    add("pj_receive_in_place, one byte", false, Box::new(|| receiving_in_place(opened(b""), b"%")));
-    add("pj_receive_in_place, one byte, four lines full", false, Box::new(|| receiving_in_place(full(134), b"%")));
+    add(name, BOTH, Box::new(|| receiving_in_place(opened(b"panel123"), &led_by_digest())));
+    add("pj_receive_in_place, one byte", BOTH, Box::new(|| receiving_in_place(opened(b""), b"%")));
+    add("pj_receive_in_place, one byte, four lines full", BOTH, Box::new(|| receiving_in_place(full(134), b"%")));
     let name = "pj_receive_in_place, 4,096 bytes of lines, handed on";
-    add(name, false, Box::new(|| handing_on_in_place(opened(b""))));
-    add("pj_receive_in_place, one byte, Class 2", false, Box::new(|| receiving_in_place(class_2(), b"%")));
+    add(name, BOTH, Box::new(|| handing_on_in_place(opened(b""))));
+    add("pj_receive_in_place, one byte, Class 2", BOTH, Box::new(|| receiving_in_place(class_2(), b"%")));
     let name = "pj_receive_in_place, %2INNM ?6A, 128 bytes, Class 2";
-    add(name, false, Box::new(|| receiving_in_place(class_2(), b"%2INNM ?6A\r")));
-    add("pj_open, secured", false, Box::new(|| opening(closed(b"panel123"))));
-    add("pj_open_in_place, secured", false, Box::new(|| opening_in_place(closed(b"panel123"))));
-    add("pj_close", false, Box::new(|| closing(opened(b""))));
-    add("pj_close_in_place", false, Box::new(|| closing_in_place(opened(b""))));
-    add("pj_set_up", false, Box::new(setting_up));
-    add("pj_set_up_in_place", false, Box::new(setting_up_in_place));
-    add("pj_store, Class 2", false, Box::new(|| storing(class_2())));
-    add("pj_store_in_place, Class 2", false, Box::new(|| storing_in_place(class_2())));
-    add("pj_load, Class 2", false, Box::new(|| loading(class_2())));
-    add("pj_load_in_place, Class 2", false, Box::new(|| loading_in_place(class_2())));
-    add("pj_pass, n = 1", false, Box::new(|| passing(warming(), 1)));
-    add("pj_pass, n = 1, short texts", false, Box::new(|| passing(short(), 1)));
-    add("pj_pass, n = 1, four lines full", false, Box::new(|| passing(full(135), 1)));
-    add("pj_pass, n = 1, Class 2", false, Box::new(|| passing(class_2(), 1)));
-    add("pj_pass, n = 4,294,967,295", false, Box::new(|| passing(warming(), u32::MAX)));
-    add("pj_pass_in_place, n = 1", false, Box::new(|| passing_in_place(warming(), 1)));
-    add("pj_pass_in_place, n = 1, four lines full", false, Box::new(|| passing_in_place(full(135), 1)));
-    add("pj_pass_in_place, n = 1, Class 2", false, Box::new(|| passing_in_place(class_2(), 1)));
-    add("pj_pass_in_place, n = 1, kept where it lies", false, Box::new(|| kept_passing(class_2())));
-    add("pj_legal", false, Box::new(|| legality(opened(b""))));
-    add("pj_legal, four lines full", false, Box::new(|| legality(full(135))));
-    add("pj_legal, short texts", false, Box::new(|| legality(short())));
-    add("pj_legal, Class 2", false, Box::new(|| legality(class_2())));
-    add("pj_legal, a name of 21 Japanese characters", false, Box::new(|| legality(japanese())));
-    add("pj_legal_in_place", false, Box::new(|| legality_in_place(opened(b""))));
-    add("pj_legal_in_place, Class 2", false, Box::new(|| legality_in_place(class_2())));
-    add("pj_read_reply, longest LAMP", false, Box::new(|| reading(7, "LAMP", &["99999 1"; 8].join(" "))));
-    add("pj_read_reply, longest INST", false, Box::new(|| reading(8, "INST", &["59"; 32].join(" "))));
-    add("pj_read_reply, longest NAME", false, Box::new(|| reading(9, "NAME", &"n".repeat(64))));
-    add("pj_read_reply, longest INNM", false, Box::new(|| reading(20, "INNM", &"n".repeat(128))));
-    add("pj_compare_lamps, 64 places", false, Box::new(comparing));
-    all.extend(crate::day::all());
+    add(name, BOTH, Box::new(|| receiving_in_place(class_2(), b"%2INNM ?6A\r")));
+    add("pj_open, secured", BOTH, Box::new(|| opening(closed(b"panel123"))));
+    add("pj_open_in_place, secured", BOTH, Box::new(|| opening_in_place(closed(b"panel123"))));
+    add("pj_close", BOTH, Box::new(|| closing(opened(b""))));
+    add("pj_close_in_place", BOTH, Box::new(|| closing_in_place(opened(b""))));
+    add("pj_set_up", BOTH, Box::new(setting_up));
+    add("pj_set_up_in_place", BOTH, Box::new(setting_up_in_place));
+    add("pj_store, Class 2", BOTH, Box::new(|| storing(class_2())));
+    add("pj_store_in_place, Class 2", BOTH, Box::new(|| storing_in_place(class_2())));
+    add("pj_load, Class 2", BOTH, Box::new(|| loading(class_2())));
+    add("pj_load_in_place, Class 2", BOTH, Box::new(|| loading_in_place(class_2())));
+    add("pj_pass, n = 1", BOTH, Box::new(|| passing(warming(), 1)));
+    add("pj_pass, n = 1, short texts", BOTH, Box::new(|| passing(short(), 1)));
+    add("pj_pass, n = 1, four lines full", BOTH, Box::new(|| passing(full(135), 1)));
+    add("pj_pass, n = 1, Class 2", BOTH, Box::new(|| passing(class_2(), 1)));
+    add("pj_pass, n = 4,294,967,295", BOTH, Box::new(|| passing(warming(), u32::MAX)));
+    add("pj_pass_in_place, n = 1", BOTH, Box::new(|| passing_in_place(warming())));
+    add("pj_pass_in_place, n = 1, four lines full", BOTH, Box::new(|| passing_in_place(full(135))));
+    add("pj_pass_in_place, n = 1, Class 2", BOTH, Box::new(|| passing_in_place(class_2())));
+    add("pj_legal", BOTH, Box::new(|| legality(opened(b""))));
+    add("pj_legal, four lines full", BOTH, Box::new(|| legality(full(135))));
+    add("pj_legal, short texts", BOTH, Box::new(|| legality(short())));
+    add("pj_legal, Class 2", BOTH, Box::new(|| legality(class_2())));
+    add("pj_legal, a name of 21 Japanese characters", BOTH, Box::new(|| legality(japanese())));
+    add("pj_legal_in_place", BOTH, Box::new(|| legality_in_place(opened(b""))));
+    add("pj_legal_in_place, Class 2", BOTH, Box::new(|| legality_in_place(class_2())));
+    add("the record, copied by a host", &[By::Board], Box::new(|| copying(class_2())));
+    add("pj_read_reply, longest LAMP", BOTH, Box::new(|| reading(7, "LAMP", &["99999 1"; 8].join(" "))));
+    add("pj_read_reply, longest INST", BOTH, Box::new(|| reading(8, "INST", &["59"; 32].join(" "))));
+    add("pj_read_reply, longest NAME", BOTH, Box::new(|| reading(9, "NAME", &"n".repeat(64))));
+    add("pj_read_reply, longest INNM", BOTH, Box::new(|| reading(20, "INNM", &"n".repeat(128))));
+    add("pj_compare_lamps, 64 places", BOTH, Box::new(comparing));
     all
-}
-
-/// What was reached on AArch64, and a tenth more.
-fn bar(name: &str) -> Option<f64> {
-    let bars = [
-        ("pj_legal", 4_580.0),
-        ("pj_legal_in_place", 2_470.0),
-        ("pj_receive, one byte", 5_500.0),
-        ("pj_receive_in_place, one byte", 3_360.0),
-        ("pj_pass, n = 1", 5_540.0),
-        ("pj_pass_in_place, n = 1", 3_420.0),
-    ];
-    bars.iter().find(|(work, _)| *work == name).map(|&(_, most)| most)
 }
 
 /// A set-up as a workroom has it, opened: texts of 7 to 13 bytes, three inputs, two lamps.
@@ -164,7 +157,7 @@ fn longest(password: &[u8]) -> Lent {
 }
 
 /// The same in Class 2: every input of type 6 or with a letter, and every name as long as it may be.
-fn class_2() -> Device {
+pub fn class_2() -> Device {
     let lent = Lent2 {
         lent: Lent {
             name: vec![b'n'; 64],
@@ -235,33 +228,44 @@ fn digest(length: usize) -> Run {
         match by {
             By::Board => bytes = linked::digest(message).bytes,
             By::Second => bytes = calls::digest(message).bytes,
-            // SAFETY: a live slice with its own length, and the sixteen bytes that it writes.
+            // SAFETY, here and below: a live slice with its own length, and the sixteen bytes that are written.
             By::PlainC => unsafe { plain_md5(message.as_ptr(), message.len(), bytes.as_mut_ptr()) },
+            #[cfg(openssl)]
+            By::OpenSsl => _ = unsafe { MD5(message.as_ptr(), message.len(), bytes.as_mut_ptr()) },
+            _ => {}
         }
         black_box(bytes);
     })
 }
 
+// By value the caller passes a copy of the record, as the calling convention has it, and gets another, which it would
+// still have to put in the place of the first. Below, `_` is the second program.
+
 fn receiving(device: Device, bytes: &[u8]) -> Run {
     let bytes = bytes.to_vec();
     Box::new(move |by| {
-        let (device, bytes) = (black_box(&device), black_box(&bytes));
-        let mut out = [0; 136];
-        let received = match by {
-            By::Board => linked::receive(*device, PLACE, bytes, &mut out),
-            _ => calls::receive(device, PLACE, bytes, &mut out),
-        };
-        black_box((&received, &out));
+        let (device, bytes, mut out) = (black_box(&device), black_box(&bytes), [0; 136]);
+        let out = black_box(&mut out);
+        black_box(&match by {
+            By::Nobody => return,
+            By::Board => linked::receive(*device, PLACE, bytes, out),
+            _ => calls::receive(device, PLACE, bytes, out),
+        });
     })
 }
 
-/// Queries one after another, handed on until all is taken.
+/// Queries one after another.
+fn stream() -> Vec<u8> {
+    b"%1POWR ?\r%1INPT ?\r%1LAMP ?\r".iter().copied().cycle().take(4096).collect()
+}
+
+/// A stream, handed on until all is taken.
 fn handing_on(device: Device) -> Run {
-    let stream: Vec<u8> = b"%1POWR ?\r%1INPT ?\r%1LAMP ?\r".iter().copied().cycle().take(4096).collect();
+    let stream = stream();
     Box::new(move |by| {
         let mut device = *black_box(&device);
         let mut rest = black_box(&stream).as_slice();
-        while !rest.is_empty() {
+        while !rest.is_empty() && by != By::Nobody {
             let mut out = [0; 136];
             let received = match by {
                 By::Board => linked::receive(device, PLACE, rest, &mut out),
@@ -275,20 +279,31 @@ fn handing_on(device: Device) -> Run {
     })
 }
 
-// In place a host makes no copy of the record. Where a call changes it, the caller here does, before the call, so that each
-// call finds the same one; only a stream is handed on, and time kept, on one record.
-
-fn receiving_in_place(device: Device, bytes: &[u8]) -> Run {
-    let bytes = bytes.to_vec();
+/// A call on one record, which is lent to it. What a call changes of a record, all but the settings, is put back after
+/// it, by nobody's runs too, so that each call finds the same record.
+fn lent(device: Device, call: impl Fn(By, &mut Device) + 'static) -> Run {
+    let place = RefCell::new(device);
     Box::new(move |by| {
-        let (mut device, bytes) = (*black_box(&device), black_box(&bytes));
-        let mut out = [0; 136];
-        let received = received_in_place(by, &mut device, bytes, &mut out);
-        black_box((&received, &device, &out));
+        let mut place = place.borrow_mut();
+        let lent = black_box(&mut *place);
+        if by != By::Nobody {
+            call(by, lent);
+        }
+        lent.own = device.own;
+        lent.connections = device.connections;
     })
 }
 
-fn received_in_place(by: By, device: &mut Device, bytes: &[u8], out: &mut [u8]) -> Receiving {
+fn receiving_in_place(device: Device, bytes: &[u8]) -> Run {
+    let bytes = bytes.to_vec();
+    lent(device, move |by, device| {
+        let mut out = [0; 136];
+        black_box(&received_in_place(by, device, black_box(&bytes), &mut out));
+        black_box(&out);
+    })
+}
+
+pub fn received_in_place(by: By, device: &mut Device, bytes: &[u8], out: &mut [u8]) -> Receiving {
     match by {
         By::Board => in_place::receive(device, PLACE, bytes, out),
         _ => {
@@ -300,17 +315,15 @@ fn received_in_place(by: By, device: &mut Device, bytes: &[u8], out: &mut [u8]) 
 }
 
 fn handing_on_in_place(device: Device) -> Run {
-    let stream: Vec<u8> = b"%1POWR ?\r%1INPT ?\r%1LAMP ?\r".iter().copied().cycle().take(4096).collect();
-    Box::new(move |by| {
-        let mut device = *black_box(&device);
+    let stream = stream();
+    lent(device, move |by, device| {
         let mut rest = black_box(&stream).as_slice();
         while !rest.is_empty() {
             let mut out = [0; 136];
-            let received = received_in_place(by, &mut device, rest, &mut out);
+            let received = received_in_place(by, device, rest, &mut out);
             rest = &rest[received.taken..];
             black_box(&out);
         }
-        black_box(&device);
     })
 }
 
@@ -318,25 +331,24 @@ const RANDOM: u32 = 0x498e_4a67;
 
 fn opening(device: Device) -> Run {
     Box::new(move |by| {
-        let device = black_box(&device);
-        let mut out = [0; 136];
-        let opened = match by {
-            By::Board => linked::open(*device, RANDOM, &mut out),
-            _ => calls::open(device, RANDOM, &mut out),
-        };
-        black_box((&opened, &out));
+        let (device, mut out) = (black_box(&device), [0; 136]);
+        let out = black_box(&mut out);
+        black_box(&match by {
+            By::Nobody => return,
+            By::Board => linked::open(*device, RANDOM, out),
+            _ => calls::open(device, RANDOM, out),
+        });
     })
 }
 
 fn opening_in_place(device: Device) -> Run {
-    Box::new(move |by| {
-        let mut device = *black_box(&device);
+    lent(device, |by, device| {
         let mut out = [0; 136];
         match by {
-            By::Board => drop(black_box(in_place::open(&mut device, RANDOM, &mut out))),
-            _ => device = calls::open(&device, RANDOM, &mut out).device,
+            By::Board => _ = black_box(in_place::open(device, RANDOM, &mut out)),
+            _ => *device = calls::open(device, RANDOM, &mut out).device,
         }
-        black_box((&device, &out));
+        black_box(&out);
     })
 }
 
@@ -344,6 +356,7 @@ fn closing(device: Device) -> Run {
     Box::new(move |by| {
         let device = black_box(&device);
         black_box(&match by {
+            By::Nobody => return,
             By::Board => linked::close(*device, PLACE),
             _ => places::close(device, PLACE),
         });
@@ -351,13 +364,9 @@ fn closing(device: Device) -> Run {
 }
 
 fn closing_in_place(device: Device) -> Run {
-    Box::new(move |by| {
-        let mut device = *black_box(&device);
-        match by {
-            By::Board => drop(black_box(in_place::close(&mut device, PLACE))),
-            _ => device = places::close(&device, PLACE).device,
-        }
-        black_box(&device);
+    lent(device, |by, device| match by {
+        By::Board => _ = black_box(in_place::close(device, PLACE)),
+        _ => *device = places::close(device, PLACE).device,
     })
 }
 
@@ -366,6 +375,7 @@ fn setting_up() -> Run {
     Box::new(move |by| {
         let lent = black_box(&lent);
         black_box(&match by {
+            By::Nobody => return,
             By::Board => setting_up::set_up(lent),
             _ => calls::set_up(lent),
         });
@@ -374,39 +384,37 @@ fn setting_up() -> Run {
 
 /// Into one record, which is full from the last time.
 fn setting_up_in_place() -> Run {
-    let lent = longest(b"panel123");
-    let place = RefCell::new(class_2());
-    Box::new(move |by| {
-        let (lent, mut device) = (black_box(&lent), place.borrow_mut());
+    let settings = longest(b"panel123");
+    lent(class_2(), move |by, device| {
+        let settings = black_box(&settings);
         match by {
-            By::Board => drop(black_box(setting_up::set_up_in_place(&mut device, lent))),
-            _ => *device = calls::set_up(lent).device,
+            By::Board => _ = black_box(setting_up::set_up_in_place(device, settings)),
+            _ => *device = calls::set_up(settings).device,
         }
-        black_box(&*device);
     })
 }
 
 fn storing(device: Device) -> Run {
     Box::new(move |by| {
-        let device = black_box(&device);
-        let mut out = [0; FORM];
-        let written = match by {
-            By::Board => swap::store(*device, &mut out),
-            _ => reference_swap::store(device, &mut out),
-        };
-        black_box((&written, &out));
+        let (device, mut out) = (black_box(&device), [0; FORM]);
+        let out = black_box(&mut out);
+        black_box(&match by {
+            By::Nobody => return,
+            By::Board => swap::store(*device, out),
+            _ => reference_swap::store(device, out),
+        });
     })
 }
 
 fn storing_in_place(device: Device) -> Run {
     Box::new(move |by| {
-        let device = black_box(&device);
-        let mut out = [0; FORM];
-        let written = match by {
-            By::Board => in_place::store(device, &mut out),
-            _ => reference_swap::store(device, &mut out),
-        };
-        black_box((&written, &out));
+        let (device, mut out) = (black_box(&device), [0; FORM]);
+        let out = black_box(&mut out);
+        black_box(&match by {
+            By::Nobody => return,
+            By::Board => in_place::store(device, out),
+            _ => reference_swap::store(device, out),
+        });
     })
 }
 
@@ -425,6 +433,7 @@ fn loading(device: Device) -> Run {
     Box::new(move |by| {
         let form = black_box(&form);
         black_box(&match by {
+            By::Nobody => return,
             By::Board => swap::load(form),
             _ => reference_swap::load(form),
         });
@@ -434,56 +443,42 @@ fn loading(device: Device) -> Run {
 /// Into one record, which is full from the last time.
 fn loading_in_place(device: Device) -> Run {
     let form = form_of(&device);
-    let place = RefCell::new(device);
-    Box::new(move |by| {
-        let (form, mut device) = (black_box(&form), place.borrow_mut());
+    lent(device, move |by, device| {
+        let form = black_box(&form);
         match by {
-            By::Board => drop(black_box(in_place::load(&mut device, form))),
+            By::Board => _ = black_box(in_place::load(device, form)),
             _ => *device = reference_swap::load(form).device,
         }
-        black_box(&*device);
     })
 }
 
 fn passing(device: Device, seconds: u32) -> Run {
     Box::new(move |by| {
         let device = black_box(&device);
-        let changed = match by {
+        black_box(&match by {
+            By::Nobody => return,
             By::Board => linked::pass(*device, black_box(seconds)),
             _ => calls::pass(device, black_box(seconds)),
-        };
-        black_box(&changed);
+        });
     })
 }
 
-fn passing_in_place(device: Device, seconds: u32) -> Run {
-    Box::new(move |by| {
-        let mut device = *black_box(&device);
-        match by {
-            By::Board => drop(black_box(in_place::pass(&mut device, black_box(seconds)))),
-            _ => device = calls::pass(&device, black_box(seconds)).device,
-        }
-        black_box(&device);
-    })
+fn passing_in_place(device: Device) -> Run {
+    lent(device, second_passed)
 }
 
-/// A second at a time on one record, as a board keeps its own.
-fn kept_passing(device: Device) -> Run {
-    let place = RefCell::new(device);
-    Box::new(move |by| {
-        let mut device = place.borrow_mut();
-        match by {
-            By::Board => drop(black_box(in_place::pass(&mut device, black_box(1)))),
-            _ => *device = calls::pass(&device, black_box(1)).device,
-        }
-        black_box(&*device);
-    })
+pub fn second_passed(by: By, device: &mut Device) {
+    match by {
+        By::Board => _ = black_box(in_place::pass(device, black_box(1))),
+        _ => *device = calls::pass(device, black_box(1)).device,
+    }
 }
 
 fn legality(device: Device) -> Run {
     Box::new(move |by| {
         let device = black_box(&device);
         black_box(match by {
+            By::Nobody => return,
             By::Board => linked::legal(*device),
             _ => calls::legal(device),
         });
@@ -494,9 +489,22 @@ fn legality_in_place(device: Device) -> Run {
     Box::new(move |by| {
         let device = black_box(&device);
         black_box(match by {
+            By::Nobody => return,
             By::Board => in_place::legal(device),
             _ => calls::legal(device),
         });
+    })
+}
+
+/// What a host does that wants the record as it was before a call in place.
+fn copying(device: Device) -> Run {
+    let place = RefCell::new(device);
+    Box::new(move |by| {
+        let (device, mut place) = (black_box(&device), place.borrow_mut());
+        let place = black_box(&mut *place);
+        if by != By::Nobody {
+            *place = *device;
+        }
     })
 }
 
@@ -506,11 +514,11 @@ fn reading(code: u8, body: &str, parameter: &str) -> Run {
     let command = Command { code, first: 1, second: 1 };
     Box::new(move |by| {
         let line = black_box(&line);
-        let reading: Reading = match by {
+        black_box(&match by {
+            By::Nobody => return,
             By::Board => linked::read_reply(command, line),
             _ => calls::read_reply(command, line),
-        };
-        black_box(&reading);
+        });
     })
 }
 
@@ -518,12 +526,12 @@ fn comparing() -> Run {
     let earlier: Vec<u32> = (0..64).map(|place| place * 5_000_000).collect();
     let later: Vec<u32> = earlier.iter().map(|seconds| seconds + 600_000).collect();
     Box::new(move |by| {
-        let (earlier, later) = (black_box(&earlier), black_box(&later));
-        let mut out = [0; 64];
-        let compared = match by {
-            By::Board => linked::compare_lamps(earlier, later, &mut out),
-            _ => service::compare_lamps(earlier, later, &mut out),
-        };
-        black_box((&compared, &out));
+        let (earlier, later, mut out) = (black_box(&earlier), black_box(&later), [0; 64]);
+        let out = black_box(&mut out);
+        black_box(&match by {
+            By::Nobody => return,
+            By::Board => linked::compare_lamps(earlier, later, out),
+            _ => service::compare_lamps(earlier, later, out),
+        });
     })
 }
