@@ -17,7 +17,7 @@ use Rattle.words.specs.declared.lamp.LampHours.{LampHours}
 use Rattle.pjlink.specs.declared.command.Command.{Command}
 use Rattle.pjlink.specs.Said.{Said, chosen_is}
 use Rattle.pjlink.specs.Carried.{lamps_carried}
-use Rattle.pjlink.specs.CanSay.{CanSay, power, input, lamps}
+use Rattle.pjlink.specs.CanSay.{CanSay}
 use Rattle.codes.specs.Commands.{source_number}
 use Rattle.codes.specs.Readings.{hours_of, lit_of, power_at_face}
 use Rattle.panel.specs.Entries.{Shown, nothing_shown}
