@@ -58,9 +58,11 @@ use Rattle.pjlink.proofs.ClassOneKept.{form_kept, class_byte_1}
 use Rattle.pjlink.proofs.ClassOneAsked.{KeptAs, asked_kept}
 use Rattle.record.proofs.SettingsTold.{input_of_class}
 use Rattle.meaning.proofs.InputsByPlace.{found_at_place, input_in_use}
-use Rattle.ours.specs.Board.{ours}
+use Rattle.ours.specs.Board.{Board}
 use Rattle.demands.specs.SpeaksPjlink.{BetweenLines, AnsweredAs, answer_to, digest_for}
-use Rattle.demands.proofs.LinesAnswered.{line_answered, led_line_answered}
+use Rattle.demands.specs.Calls.{Gave, receives}
+use Rattle.demands.specs.TwoBoards.{MeetsDemands}
+use Rattle.demands.proofs.TwoBoards.{gave_as}
 
 abbrev parameter_before : ℕ
 parameter_before = 95
@@ -199,20 +201,31 @@ module _ (d : Device) (one : d.settings.class_number ≡ 1) (l : List ℕ) where
   class_2_no_form : (l at 1 is "2") ≡ true → answer_before d l ≡ line_swallowed d.own
   class_2_no_form two = grind (arith, if_all, class_byte_1, eqb-true)
 
-module _ (d : Device) (p : ℕ) (l m : List ℕ) (one : OfClass1 ours d) (plain : no_cr l ≡ true)
-    (enough : reply_room ≤ length m) where
-  answers : BetweenLines opened d p
-      → let bs = l ++ codes "\r" in AnsweredAs ours d p bs (answer_before d l) (ours.receive d p bs m)
-  answers between = grind (arith, answer_as_before, line_answered)
+module _ {R : Type 0} (B : Board R) (k : MeetsDemands B) where
+  module _ (d : R) (p : ℕ) (l m : List ℕ) (one : OfClass1 B d) (plain : no_cr l ≡ true) (enough : reply_room ≤ length m)
+    where
+      answers : BetweenLines opened (B.shows d) p
+          → let bs = l ++ codes "\r" in AnsweredAs B d p bs (answer_before (B.shows d) l) (B.receive d p bs m)
+      answers between = grind (arith, answer_as_before, k.speaks_pjlink.answers)
 
-  answers_led : BetweenLines awaiting d p → length l ≤ command_most
-      → let bs = digest_for d p ++ l ++ codes "\r" in
-      AnsweredAs ours d p bs (answer_before d l) (ours.receive d p bs m)
-  answers_led between short = grind (arith, answer_as_before, led_line_answered)
+      answers_led : BetweenLines awaiting (B.shows d) p → length l ≤ command_most
+          → let bs = digest_for (B.shows d) p ++ l ++ codes "\r" in
+          AnsweredAs B d p bs (answer_before (B.shows d) l) (B.receive d p bs m)
+      answers_led between short = grind (arith, answer_as_before, k.speaks_pjlink.answers_led)
 
-  drops_class_2 : BetweenLines opened d p → (l at 1 is "2") ≡ true
-      → let bs = l ++ codes "\r" in AnsweredAs ours d p bs (line_swallowed d.own) (ours.receive d p bs m)
-  drops_class_2 between two = grind (arith, class_2_no_form, answers)
+      drops_class_2 : BetweenLines opened (B.shows d) p → (l at 1 is "2") ≡ true
+          → let bs = l ++ codes "\r" in AnsweredAs B d p bs (line_swallowed (B.shows d).own) (B.receive d p bs m)
+      drops_class_2 between two = grind (arith, class_2_no_form, answers)
 
-pub ours_class_1 : ClassOneKept ours
-ours_class_1 = grind (arith, answers, answers_led, drops_class_2, short_before)
+  reply_short : (d : R) (p : ℕ) (bs m : List ℕ) → OfClass1 B d → (B.receive d p bs m).length ≤ longest_before
+  reply_short d p bs m one =
+      let same = ap (λ (g : Gave). g.length) (gave_as B k d (receives p bs m)) in
+      omega (arith, same, short_before (B.shows d) one p bs (length m))
+
+  pub class_1_kept : ClassOneKept B
+  class_1_kept = record {
+    answers = λ d p l m one between plain enough. answers d p l m one plain enough between;
+    answers_led = λ d p l m one between plain short enough. answers_led d p l m one plain enough between short;
+    drops_class_2 = λ d p l m one between plain two enough. drops_class_2 d p l m one plain enough between two;
+    reply_short = reply_short;
+  }

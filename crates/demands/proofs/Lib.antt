@@ -11,7 +11,6 @@ pub mod OutsiderHasNoSay
 pub mod CallsKeep
 pub mod Unheard
 pub mod UnheardSamples
-pub mod ClassOne
 pub mod HistoryTold
 pub mod Agrees
 pub mod CountsSeconds
@@ -19,5 +18,6 @@ pub mod Interleaved
 pub mod BoardSwap
 pub mod Samples
 pub mod TwoBoards
+pub mod ClassOne
 pub mod WrongBoardsFall
 pub mod Settled

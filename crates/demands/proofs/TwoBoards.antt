@@ -256,7 +256,7 @@ module _ {R : Type 0} (B : Board R) (k : MeetsDemands B) (b : R) where
   abbrev numbered : ℕ → Gave
   numbered n = record { number = n; taken = 0; place = 0; length = 0; memory = [] }
 
-  gave_as : (c : Call) → gave_by B b c ≡ gave_by ours d c
+  pub gave_as : (c : Call) → gave_by B b c ≡ gave_by ours d c
   gave_as (opens random m) =
       let same = opening_as random m in
       (λ i. record {

@@ -12,7 +12,7 @@ ghost use Rattle.device.specs.Calls.{reply_room, longest_reply, has_password, re
 ghost use Rattle.controller.specs.Reading.{read_reply, outcome_alone, erra_said};
 ghost use Rattle.ours.specs.Board.{Board, ours, reply};
 ghost use Rattle.demands.specs.Calls.{run, after, opens, receives};
-ghost use Rattle.demands.specs.ClassOne.{longest_before};
+ghost use Rattle.demands.specs.ClassOne.{ClassOneKept, longest_before};
 ghost use Rattle.demands.specs.CountsSeconds.{sets_up, run_of};
 ghost use Rattle.demands.specs.Interleaved.{heard};
 ghost use Rattle.demands.specs.Outsider.{unopened, IsNeverMatched};
@@ -24,11 +24,12 @@ ghost use Rattle.demands.specs.Unheard.{AllAlike, QuietOnceApart, phase_at};
 ghost use Rattle.demands.specs.WrongDoors.{secured_sample};
 ghost use Rattle.demands.specs.WrongLamps.{two_lamps, one_rests};
 
-/// Any two boards that meet the demands give and show the same, whatever else each keeps; ours is such a board.
-#[tactic(auto, using(crate::proofs::TwoBoards::ours_meets, crate::proofs::TwoBoards::are_alike))]
+/// Any two boards that meet the demands give and show the same, whatever else each keeps, and a Class 1 set-up of
+/// theirs is as it was. Ours is such a board.
 pub fn boards_that_meet_the_demands_are_alike<R, S>()
     ensures ours_is_one { MeetsDemands ours }
     ensures alike { (B : Board R) (C : Board S) → MeetsDemands B → MeetsDemands C → AreAlike B C }
+    ensures class_1_kept { (B : Board R) → MeetsDemands B → ClassOneKept B }
 {}
 
 /// A controller whose first line ends without the matching digest reads the ERRA line, whatever it asked, and whatever
