@@ -3,7 +3,6 @@
 ghost use Rattle.std.specs.Prelude.{◌≡◌};
 ghost use Rattle.record.specs.Legal.{is_legal};
 ghost use Rattle.record.specs.Wanted.{wanted_of, wanted_of_2, names_in};
-ghost use Rattle.setup.specs.Lent.{wanted_settings};
 ghost use Rattle.ours.specs.Board.{ours};
 ghost use Rattle.board.specs.Results.{received_of, opened_of, changed_of};
 
@@ -11,20 +10,6 @@ use crate::projector;
 use crate::results::{Changed, Opened, Opening, Received, Receiving};
 use record::fresh;
 use record::types::Device;
-use setup::wanted::{Class, Names, Wanted};
-
-// Not put into its callers: its copy of the record would lie on their stack.
-#[inline(never)]
-fn set_up(wanted: &Wanted<'_>) -> Changed
-    ensures { result ≡ changed_of (ours.set_up (wanted_settings wanted.now)) }
-{
-    let mut changed = Changed {
-        number: 0,
-        device: fresh::blank(),
-    };
-    changed.number = projector::set_up_in(&mut changed.device, wanted);
-    changed
-}
 
 /// Set-up of Class 1, by value: 3, then 8; with either the blank record.
 #[unsafe(no_mangle)]
@@ -42,8 +27,12 @@ pub extern "C" fn pj_set_up<'a>(
     ensures { result ≡ changed_of (ours.set_up (wanted_of name.now maker.now model.now other.now
         password.now inputs.now lamps.now warm cool)) }
 {
-    let class = Class::One;
-    set_up(&Wanted {
+    let mut changed = Changed {
+        number: 0,
+        device: fresh::blank(),
+    };
+    changed.number = projector::pj_set_up_in_place(
+        &mut changed.device,
         name,
         maker,
         model,
@@ -53,8 +42,8 @@ pub extern "C" fn pj_set_up<'a>(
         lamps,
         warm,
         cool,
-        class,
-    })
+    );
+    changed
 }
 
 /// Set-up of Class 2, by value: the names one after the other, each of its length. 3, then 8; with either the blank
@@ -79,15 +68,12 @@ pub extern "C" fn pj_set_up_2<'a>(
         password.now inputs.now lamps.now warm cool serial.now
         version.now (names_in lengths.now names.now))) }
 {
-    let class = Class::Two {
-        serial,
-        version,
-        names: Names::Row {
-            bytes: names,
-            lengths,
-        },
+    let mut changed = Changed {
+        number: 0,
+        device: fresh::blank(),
     };
-    set_up(&Wanted {
+    changed.number = projector::pj_set_up_2_in_place(
+        &mut changed.device,
         name,
         maker,
         model,
@@ -97,8 +83,12 @@ pub extern "C" fn pj_set_up_2<'a>(
         lamps,
         warm,
         cool,
-        class,
-    })
+        serial,
+        version,
+        names,
+        lengths,
+    );
+    changed
 }
 
 /// Whether the record is legal, by value.
