@@ -12,30 +12,35 @@ use Rattle.controller.specs.Writing.{written_command}
 use Rattle.controller.specs.Reading.{meaning, outcome_alone, read_reply, not_a_line, other_command, disallowed}
 use Rattle.controller.specs.Computing.{computing}
 
-power_on_written : written_command (PowerSet true) false 0 [] 168 ≡ record { number = 0; bytes = codes "%1POWR 1\r" }
+pub power_on_written : written_command (PowerSet true) false 0 [] 168
+    ≡ record { number = 0; bytes = codes "%1POWR 1\r" }
 unfolding computing pjlink digest
 power_on_written = refl
 
-memory_167 : written_command (PowerSet true) false 0 [] 167 ≡ nothing_written 2
+pub memory_167 : written_command (PowerSet true) false 0 [] 167 ≡ nothing_written 2
 unfolding computing pjlink digest
 memory_167 = refl
 
-in_any_case : read_reply (PowerSet true) (codes "%1powr=OK\r") ≡ meaning okay
+pub in_any_case : read_reply (PowerSet true) (codes "%1powr=OK\r") ≡ meaning okay
 unfolding computing pjlink digest
 in_any_case = refl
 
-warm_up : read_reply (Query Powr) (codes "%1POWR=3\r") ≡ meaning (power_is WarmUp)
+pub warm_up : read_reply (Query Powr) (codes "%1POWR=3\r") ≡ meaning (power_is WarmUp)
 unfolding computing pjlink digest
 warm_up = refl
 
-err2_is_no_text : read_reply (Query Name) (codes "%1NAME=ERR2\r") ≡ outcome_alone disallowed
+pub err2_is_no_text : read_reply (Query Name) (codes "%1NAME=ERR2\r") ≡ outcome_alone disallowed
 unfolding computing pjlink digest
 err2_is_no_text = refl
 
-another_body : read_reply (Query Powr) (codes "%1INPT=11\r") ≡ outcome_alone other_command
+pub another_body : read_reply (Query Powr) (codes "%1INPT=11\r") ≡ outcome_alone other_command
 unfolding computing pjlink digest
 another_body = refl
 
-without_cr : read_reply (Query Powr) (codes "%1POWR=3") ≡ outcome_alone not_a_line
+pub without_cr : read_reply (Query Powr) (codes "%1POWR=3") ≡ outcome_alone not_a_line
 unfolding computing pjlink digest
 without_cr = refl
+
+pub ruleset worked_commands = (power_on_written, memory_167)
+
+pub ruleset worked_replies = (in_any_case, warm_up, err2_is_no_text, another_body, without_cr)

@@ -4,4 +4,4 @@ pub mod NamesRead
 pub mod Refusals
 pub mod ReadsSound
 pub mod ReadShort
-mod Examples
+pub mod Examples

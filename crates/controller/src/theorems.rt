@@ -1,13 +1,18 @@
 // What is proved beside the contracts of the functions. Nothing is done here: that these functions have their contracts
 // is that the theorems stand.
-ghost use Rattle.std.specs.Prelude.{◌≡◌, Bool, ℕ, List, Result, length};
+ghost use Rattle.std.specs.Prelude.{◌≡◌, Bool, true, false, ℕ, List, [], Result, length, codes};
+ghost use Rattle.pjlink.specs.declared.body.Body.TheVariants.{Powr, Name};
 ghost use Rattle.pjlink.specs.declared.command.Command.{Command};
+ghost use Rattle.pjlink.specs.declared.command.Command.TheVariants.{PowerSet, Query};
+ghost use Rattle.pjlink.specs.Said.{okay, power_is};
+ghost use Rattle.words.specs.declared.power.Power.TheVariants.{WarmUp};
 ghost use Rattle.controller.specs.Writing.{written_command};
 ghost use Rattle.text.specs.Words.{over};
-ghost use Rattle.text.specs.Outcomes.{WrittenTold, told_written};
+ghost use Rattle.text.specs.Outcomes.{WrittenTold, told_written, nothing_written};
 ghost use Rattle.controller.specs.declared.reading.Reading.{Reading};
 ghost use Rattle.controller.specs.declared.reading.Misread.{Misread};
-ghost use Rattle.controller.specs.Reading.{read_as, read_reply};
+ghost use Rattle.controller.specs.Reading.{read_as, read_reply, meaning, outcome_alone};
+ghost use Rattle.controller.specs.Reading.{not_a_line, other_command, disallowed};
 
 /// Two results that meet the promise of a call are equal, lent memory included; two replies that are read say the same.
 #[tactic(auto, using(text::proofs::OneResult::one_result))]
@@ -19,4 +24,23 @@ pub fn one_result()
         → (s ≡ told_written w) × (n ≡ over w.bytes out) → (r ≡ s) × (m ≡ n) }
     ensures reply_read { (c : Command) (l : List ℕ) (r s : Result Reading Misread)
         → read_as r ≡ read_reply c l → read_as s ≡ read_reply c l → read_as r ≡ read_as s }
+{}
+
+/// Power-on as it is written into 168 bytes, and what 167 bytes give: 2, and nothing written (RULES, Controller).
+#[tactic(auto, using(crate::proofs::Examples::worked_commands))]
+pub fn commands_are_worked_out()
+    ensures power_on { written_command (PowerSet true) false 0 [] 168
+        ≡ record { number = 0; bytes = codes "%1POWR 1\r" } }
+    ensures memory_167 { written_command (PowerSet true) false 0 [] 167 ≡ nothing_written 2 }
+{}
+
+/// Replies as they are read (RULES, Controller): a body in any case; a warm-up; ERR2, which is no text; a reply to
+/// another body; and a line without its CR.
+#[tactic(auto, using(crate::proofs::Examples::worked_replies))]
+pub fn replies_are_worked_out()
+    ensures in_any_case { read_reply (PowerSet true) (codes "%1powr=OK\r") ≡ meaning okay }
+    ensures warm_up { read_reply (Query Powr) (codes "%1POWR=3\r") ≡ meaning (power_is WarmUp) }
+    ensures err2_is_no_text { read_reply (Query Name) (codes "%1NAME=ERR2\r") ≡ outcome_alone disallowed }
+    ensures another_body { read_reply (Query Powr) (codes "%1INPT=11\r") ≡ outcome_alone other_command }
+    ensures without_cr { read_reply (Query Powr) (codes "%1POWR=3") ≡ outcome_alone not_a_line }
 {}

@@ -47,3 +47,6 @@ module _ (e : Entry) where
     pub secured_greeting_malformed : (digits : List ℕ) → heard_line e (greeting_secured digits) ≡ with_stray e
     unfolding pjlink
     secured_greeting_malformed digits = grind (arith, unformed_strays)
+
+pub ruleset counted_strays =
+    (erra_before_greeting, erra_late, greeting_late, unformed_strays, greeting_malformed, secured_greeting_malformed)

@@ -3,9 +3,11 @@
 ghost use Rattle.std.specs.Prelude.{[], ◌≡◌, ◌≢◌, ◌≤◌, ◌<◌, ◌++◌, List, ℕ, Some, true, false, not, length};
 ghost use Rattle.std.specs.List.{list_all};
 ghost use Rattle.text.specs.Rows.{first_of};
+ghost use Rattle.text.specs.Scans.{same_by, itself};
 ghost use Rattle.text.specs.Words.{over};
 ghost use Rattle.digest.specs.Hex.{leading_digest};
-ghost use Rattle.pjlink.specs.Commands.{command_line};
+ghost use Rattle.pjlink.specs.Commands.{command_line, command_class};
+ghost use Rattle.pjlink.specs.Forms.{erra_line, greeting_open, greeting_secured, is_reply_form};
 ghost use Rattle.pjlink.specs.declared.command.Command.{Command};
 ghost use Rattle.pjlink.specs.Said.{Said, okay, refused};
 ghost use Rattle.controller.specs.Reading.{meaning, read_reply};
@@ -13,9 +15,10 @@ ghost use Rattle.controller.specs.Writing.{command_room, written_command};
 ghost use Rattle.codes.specs.Commands.{coded_command};
 ghost use Rattle.codes.specs.declared.command.Coded.{Coded};
 ghost use Rattle.panel.specs.Entries.{Shown, talk_of, shown_of, password_in, leads_next, nothing_shown};
-ghost use Rattle.panel.specs.Entries.{greeted_by, greeted_secured, greeted_open, fresh_entry, blank_entry};
+ghost use Rattle.panel.specs.Entries.{greeted_by, greeted_secured, greeted_open, fresh_entry, blank_entry, ungreeted};
 ghost use Rattle.panel.specs.Showing.{showing};
-ghost use Rattle.panel.specs.Stepping.{heard_line, with_talk, answered_entry, lost_entry, sent_entry, command_sent};
+ghost use Rattle.panel.specs.Stepping.{heard_line, with_talk, with_stray, answered_entry, lost_entry, sent_entry};
+ghost use Rattle.panel.specs.Stepping.{command_sent};
 ghost use Rattle.panel.specs.LegalPanels.{is_entry, is_panel};
 ghost use Rattle.panel.specs.StepTable.{IsUnderWay, IsStray, StepTo};
 ghost use Rattle.panel.specs.Talks.{Happens, is_first_led, led_in_talk};
@@ -29,6 +32,25 @@ pub fn a_line_steps_by_the_table()
     ensures steps_by_the_table { (e : Entry) (l : List ℕ) → is_entry e ≡ true → StepTo e l (heard_line e l) }
     ensures row_steps { (e : Entry) (l : List ℕ) (f : Entry) → StepTo e l f → heard_line e l ≡ f }
     ensures one_step { (e : Entry) (l : List ℕ) (f g : Entry) → StepTo e l f → StepTo e l g → f ≡ g }
+{}
+
+/// Lines that the rules leave to be read (RULES, Panel) change nothing but the count of strays: the ERRA line before a
+/// greeting; that line and a second greeting with no command under way; with one, a line that is neither the ERRA line
+/// nor of a reply's form, so a second greeting too, whatever its random number.
+#[tactic(auto, using(crate::proofs::Examples::counted_strays))]
+pub fn strays_are_counted()
+    ensures erra_before_greeting { (e : Entry) → e.greeting ≡ ungreeted → heard_line e erra_line ≡ with_stray e }
+    ensures erra_late { (e : Entry) → e.greeting ≢ ungreeted → e.under_way ≡ false
+        → heard_line e erra_line ≡ with_stray e }
+    ensures greeting_late { (e : Entry) → e.greeting ≢ ungreeted → e.under_way ≡ false
+        → heard_line e greeting_open ≡ with_stray e }
+    ensures unformed { (e : Entry) (c : Command) → IsUnderWay e c → (l : List ℕ)
+        → same_by itself l erra_line ≡ false → is_reply_form (command_class c) l ≡ false
+        → heard_line e l ≡ with_stray e }
+    ensures greeting_malformed { (e : Entry) (c : Command) → IsUnderWay e c
+        → heard_line e greeting_open ≡ with_stray e }
+    ensures secured_greeting_malformed { (e : Entry) (c : Command) → IsUnderWay e c → (digits : List ℕ)
+        → heard_line e (greeting_secured digits) ≡ with_stray e }
 {}
 
 /// Of the commands sent in one talk, whatever is asked and whatever lines come, the digest leads the first and no

@@ -18,4 +18,4 @@ pub mod Joined
 pub mod ReadsBack
 pub mod ReadSound
 pub mod ReadWritings
-mod Examples
+pub mod Examples

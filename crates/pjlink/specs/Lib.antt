@@ -11,4 +11,5 @@ pub mod Carried
 pub mod CanSay
 pub mod Reading
 pub mod Writings
+pub mod Worked
 pub mod Computing

@@ -1,19 +1,30 @@
 // What is proved beside the contracts of the functions. Nothing is done here: that these functions have their contracts
 // is that the theorems stand.
 ghost use Rattle.std.specs.Prelude.{◌≡◌, ◌≤◌, ◌++◌, ℕ, Bool, List, Option, Result, false, true, length};
+ghost use Rattle.std.specs.Prelude.{[], ◌∷◌, map, codes, Ok, Err, Some, None};
 ghost use Rattle.words.specs.Bytes.{◌at◌, no_cr};
 ghost use Rattle.pjlink.specs.declared.answer.Answer.{Answer};
 ghost use Rattle.words.specs.declared.refusal.Refusal.{Refusal};
+ghost use Rattle.words.specs.declared.class.ClassNumber.TheVariants.{One, Two};
+ghost use Rattle.words.specs.declared.input.Source.TheVariants.{Internal};
 ghost use Rattle.pjlink.specs.Carried.{parameter_said};
 ghost use Rattle.pjlink.specs.Said.{said_bytes, nothing, Said, parameter_most};
-ghost use Rattle.pjlink.specs.Commands.{class_digit};
+ghost use Rattle.pjlink.specs.Said.{refused, lamps_are, inputs_are, text_is, class_is, freeze_is};
+ghost use Rattle.pjlink.specs.Commands.{class_digit, command_line};
 ghost use Rattle.pjlink.specs.Forms.{is_command_form, line_class, head_body, is_reply_form, reply_parameter};
 ghost use Rattle.pjlink.specs.Forms.{IsLetters, reply_line};
 ghost use Rattle.pjlink.specs.declared.command.Command.{Command};
+ghost use Rattle.pjlink.specs.declared.command.Command.TheVariants.{InputSet, InputSet2, FreezeSet, VolumeStep};
+ghost use Rattle.pjlink.specs.declared.command.Command.TheVariants.{NameQuery, Query};
+ghost use Rattle.pjlink.specs.declared.command.Volume.TheVariants.{Speaker, Microphone};
+ghost use Rattle.pjlink.specs.declared.body.Body.TheVariants.{Lamp, Inst, Clss, Frez, Snum, Svol, Innm, Inpt2};
+ghost use Rattle.pjlink.specs.declared.request.Unasked.TheVariants.{Unlisted, UnknownBody};
 ghost use Rattle.pjlink.specs.Reading.{read_parameter};
 ghost use Rattle.pjlink.specs.Greetings.{read_greeting};
 ghost use Rattle.pjlink.specs.declared.greeting.Greeting.{Greeting};
+ghost use Rattle.pjlink.specs.declared.greeting.Greeting.TheVariants.{Secured};
 ghost use Rattle.pjlink.specs.Writings.{Says, IsAllowed};
+ghost use Rattle.pjlink.specs.Worked.{hdmi, request_to};
 
 /// Two lines that meet the promise of a call are equal; two replies that are read say the same.
 pub fn one_result()
@@ -56,4 +67,53 @@ pub fn a_reply_gives_its_parts()
     ensures parameter { (s : List ℕ) → IsLetters s → (h : ℕ) (p : List ℕ) → length p ≤ parameter_most
         → no_cr p ≡ true → reply_parameter (reply_line h s p) ≡ p }
     ensures long { (k : ℕ) (l : List ℕ) → is_reply_form k l ≡ true → 8 ≤ length l }
+{}
+
+/// Lines worked out (RULES, Controller and Class 2): commands of Class 2 as they are written; which lines have the form
+/// of each class; what a line asks for under each; and a random number, whose digits are in lower case.
+#[tactic(auto, using(crate::proofs::Examples::worked_lines))]
+pub fn lines_are_worked_out()
+    ensures written { map command_line
+        (InputSet2 hdmi ∷ FreezeSet true ∷ VolumeStep Speaker true ∷ VolumeStep Microphone false ∷ NameQuery hdmi
+        ∷ Query Snum ∷ [])
+        ≡ codes "%2INPT 31\r" ∷ codes "%2FREZ 1\r" ∷ codes "%2SVOL 1\r" ∷ codes "%2MVOL 0\r" ∷ codes "%2INNM ?31\r"
+        ∷ codes "%2SNUM ?\r" ∷ [] }
+    ensures class_1_forms { map (is_command_form 1) (codes "%1INST ?" ∷ codes "%2INST ?" ∷ codes "%3INST ?" ∷ [])
+        ≡ true ∷ false ∷ false ∷ [] }
+    ensures class_2_forms { map (is_command_form 2) (codes "%1INST ?" ∷ codes "%2INST ?" ∷ codes "%3INST ?" ∷ [])
+        ≡ true ∷ true ∷ false ∷ [] }
+    ensures requests { request_to 1 "INPT" "31" ∷ request_to 2 "inpt" "31" ∷ request_to 2 "INPT" "3a"
+        ∷ request_to 1 "INST" "?" ∷ request_to 2 "CLSS" "?" ∷ request_to 1 "SNUM" "?"
+        ∷ request_to 2 "SNUM" "1" ∷ request_to 2 "SVOL" "?" ∷ request_to 2 "INNM" "?31"
+        ∷ request_to 2 "INNM" "?" ∷ []
+        ≡ Ok (InputSet hdmi) ∷ Ok (InputSet2 hdmi) ∷ Err (Unlisted Inpt2)
+        ∷ Ok (Query Inst) ∷ Err UnknownBody ∷ Err UnknownBody
+        ∷ Err (Unlisted Snum) ∷ Err (Unlisted Svol) ∷ Ok (NameQuery hdmi)
+        ∷ Err (Unlisted Innm) ∷ [] }
+    ensures random_heard { read_greeting (codes "PJLINK 1 498e4a67\r") ≡ Some (Secured 1234061927) }
+    ensures upper_case_unheard { read_greeting (codes "PJLINK 1 498E4A67\r") ≡ None }
+{}
+
+/// Parameters of replies worked out (RULES, Controller and Class 2): lamps of other makers, with zeros before their
+/// hours, to five digits in all; the classes; a freeze; inputs of Class 2; ERR2, which answers the query of an input's
+/// name, and no `?`.
+#[tactic(auto, using(crate::proofs::Examples::worked_parameters))]
+pub fn parameters_are_worked_out()
+    ensures padded_hours { read_parameter (Query Lamp) (codes "00412 1")
+        ≡ lamps_are (record { hours = 412; lit = true } ∷ []) }
+    ensures five_zeros { read_parameter (Query Lamp) (codes "00000 0")
+        ≡ lamps_are (record { hours = 0; lit = false } ∷ []) }
+    ensures six_zeros { read_parameter (Query Lamp) (codes "000000 0") ≡ nothing }
+    ensures no_hours { read_parameter (Query Lamp) (codes " 0") ≡ nothing }
+    ensures each_as_it_is { read_parameter (Query Lamp) (codes "07 1 7 0")
+        ≡ lamps_are (record { hours = 7; lit = true } ∷ record { hours = 7; lit = false } ∷ []) }
+    ensures classes { map (read_parameter (Query Clss)) (codes "1" ∷ codes "2" ∷ codes "3" ∷ codes "12" ∷ [])
+        ≡ class_is One ∷ class_is Two ∷ nothing ∷ nothing ∷ [] }
+    ensures frozen { map (read_parameter (Query Frez)) (codes "0" ∷ codes "1" ∷ codes "2" ∷ codes "OK" ∷ [])
+        ≡ freeze_is false ∷ freeze_is true ∷ nothing ∷ nothing ∷ [] }
+    ensures wide_inputs { read_parameter (Query Inst) (codes "31 6B")
+        ≡ inputs_are (hdmi ∷ record { source = Internal; number = 11 } ∷ []) }
+    ensures refusals { read_parameter (NameQuery hdmi) (codes "ERR2") ∷ read_parameter (Query Snum) (codes "ERR2")
+        ∷ read_parameter (NameQuery hdmi) (codes "HDMI 1") ∷ []
+        ≡ refused 2 ∷ nothing ∷ text_is (codes "HDMI 1") ∷ [] }
 {}

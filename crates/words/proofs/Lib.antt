@@ -7,6 +7,6 @@ pub mod InputsReadBack
 pub mod SourcesFollowed
 pub mod ListSteps
 pub mod ClassOneKept
-mod Examples
+pub mod Examples
 mod Utf8Table
 mod Utf8Examples

@@ -1,11 +1,14 @@
 // What is proved beside the contracts of the functions. Nothing is done here: that these functions have their contracts
 // is that the theorems stand.
 ghost use Rattle.std.specs.Prelude.{[], ◌∷◌, ◌≡◌, ◌↔◌, true, ℕ, List, Some, IsTrue, IsUtf8, encode_utf8_all};
+ghost use Rattle.std.specs.Prelude.{false, None, map, codes};
 ghost use Rattle.std.specs.Str.{is_utf8};
+ghost use Rattle.words.specs.Bytes.{◌at◌};
 ghost use Rattle.words.specs.Utf8.{IsOctets};
 ghost use Rattle.words.specs.Sources.{input_for, number_character};
-ghost use Rattle.words.specs.Inputs.{read_input, is_input, source_digit, input_text};
+ghost use Rattle.words.specs.Inputs.{read_input, is_input, is_input_text, source_digit, input_text};
 ghost use Rattle.words.specs.declared.input.Input.{Input};
+ghost use Rattle.words.specs.declared.input.Source.TheVariants.{Rgb, Digital, Network, Internal};
 
 /// Bytes pass for UTF-8 exactly where they are characters of the table of RFC 3629's section 4, and exactly where they
 /// are what its section 3 makes of a list of scalar values; and that list is one.
@@ -22,4 +25,21 @@ pub fn the_table_of_types_is_followed()
         → input_for (source_digit i.source) (number_character i.number) ≡ Some i }
     ensures read { (a b : ℕ) → read_input a b ≡ input_for a b }
     ensures only { (a b : ℕ) (i : Input) → input_for a b ≡ Some i → input_text i ≡ a ∷ b ∷ [] }
+{}
+
+/// Inputs worked out (RULES, Inputs): two characters that name one of Class 1, or of Class 2, and such as name none;
+/// and the type and the number that two characters stand for.
+#[tactic(auto, using(crate::proofs::Examples::worked_inputs))]
+pub fn inputs_are_worked_out()
+    ensures class_1 { map (λ (s : List ℕ). is_input_text 1 (s at 0) (s at 1))
+        (codes "11" ∷ codes "59" ∷ codes "10" ∷ codes "20" ∷ codes "61" ∷ [])
+        ≡ true ∷ true ∷ false ∷ false ∷ false ∷ [] }
+    ensures class_2 { map (λ (s : List ℕ). is_input_text 2 (s at 0) (s at 1))
+        (codes "11" ∷ codes "61" ∷ codes "1A" ∷ codes "6Z" ∷ codes "10" ∷ codes "1a" ∷ codes "1:" ∷ codes "71" ∷ [])
+        ≡ true ∷ true ∷ true ∷ true ∷ false ∷ false ∷ false ∷ false ∷ [] }
+    ensures stand_for { map (λ (s : List ℕ). input_for (s at 0) (s at 1))
+        (codes "11" ∷ codes "59" ∷ codes "10" ∷ codes "20" ∷ codes "61" ∷ codes "3B" ∷ [])
+        ≡ Some (record { source = Rgb; number = 1 }) ∷ Some (record { source = Network; number = 9 }) ∷ None
+        ∷ None ∷ Some (record { source = Internal; number = 1 })
+        ∷ Some (record { source = Digital; number = 11 }) ∷ [] }
 {}
