@@ -1,7 +1,7 @@
 -- Lines that the rules leave to be read (docs/DECISIONS.md), each a stray: the ERRA line before a greeting, the
 -- ERRA line and a second greeting with no command under way, and a second greeting with one.
 -- Assumes nothing.
-use Rattle.std.proofs.Common.{arith, ℕ, ◌≡◌, refl, ap, Bool, false, ◌&&◌, List}
+use Rattle.std.proofs.Common.{arith, ℕ, ◌≡◌, refl, ap, false, List}
 use Rattle.text.specs.Scans.{same_by, itself}
 use Rattle.pjlink.specs.Computing.{computing as pjlink}
 use Rattle.pjlink.specs.Commands.{command_class}
@@ -15,10 +15,6 @@ use Rattle.panel.specs.Stepping.{with_stray, heard_line}
 use Rattle.panel.specs.StepTable.{IsUnderWay, malformed}
 use Rattle.panel.specs.declared.types.Entry.{Entry}
 use Rattle.panel.proofs.StepsByTable.{stray_steps, step_late}
-
--- a line that is not headed is no reply, whatever its length, its class and its end
-unheaded : (long class ends plain : Bool) → (long && false && class && ends && plain) ≡ false
-unheaded long class ends plain = grind arith
 
 module _ (e : Entry) where
   pub erra_before_greeting : e.greeting ≡ ungreeted → heard_line e erra_line ≡ with_stray e
