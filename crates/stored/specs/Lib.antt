@@ -5,4 +5,3 @@ pub mod Views
 pub mod Loading
 pub mod Computing
 pub mod Told
-pub mod Puts

@@ -1,6 +1,7 @@
 use Rattle.std.proofs.Common.{arith}
-use Rattle.stored.proofs.Writing.{puts_as, map-take}
-use Rattle.stored.proofs.writer.Writer.marks.Goals as goal
+use Rattle.lent.proofs.Writing.{puts_as}
+use Rattle.stored.proofs.Writing.{map-take}
+use Rattle.stored.proofs.putting.marks.Goals as goal
 
 pub loop-mark-preserved : goal.loop-mark-preserved
 loop-mark-preserved c =

@@ -1,10 +1,10 @@
 -- The names that the loop has passed are written.
 use Rattle.std.proofs.Common.{take, map, ◌≤◌, ◌+◌, ◌*◌}
 use Rattle.stored.specs.Form.{texts_bytes, name_stored}
-use Rattle.stored.specs.Puts.{Puts}
-use Rattle.stored.proofs.writer.Writer.names.Given as goal
+use Rattle.lent.specs.Puts.{Puts}
+use Rattle.stored.proofs.putting.names.Given as goal
 
 abbrev pub invariant-loop-name : goal.invariant-loop-name
 invariant-loop-name l =
-    Puts l.initial.self l.self (texts_bytes (map name_stored (take l.name-index l.names)))
-    × (l.self.at ≤ l.initial.self.at + 129 * l.name-index)
+    Puts l.initial.w l.w (texts_bytes (map name_stored (take l.name-index l.names)))
+    × (l.w.at ≤ l.initial.w.at + 129 * l.name-index)

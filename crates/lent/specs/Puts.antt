@@ -1,9 +1,9 @@
--- What a method of the writer does (RULES, Stored form).
+-- What a method of the writer does.
 --   Puts old new s    the bytes s stand after what was written, as far as the memory goes, and are counted
 -- Assumes nothing.
 use Rattle.std.specs.Prelude.{◌≡◌, ℕ, ◌+◌, List, length}
 use Rattle.std.proofs.lemmas.List.Edits.{sets}
-use Rattle.stored.specs.declared.writer.Writer.{Writer}
+use Rattle.lent.specs.declared.Writer.{Writer}
 
 pub record Puts (old new : Writer) (s : List ℕ) : Type 0 where
   pub lent : new.out.ghost_name ≡ old.out.ghost_name

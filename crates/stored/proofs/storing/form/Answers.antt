@@ -1,7 +1,7 @@
 -- Each part stands after the one before it, in the order of the form.
 use Rattle.stored.specs.Form.{form_with}
-use Rattle.stored.proofs.Writing.{puts_then}
-use Rattle.stored.proofs.writer.Writer.form.Goals as goal
+use Rattle.lent.proofs.Writing.{puts_then}
+use Rattle.stored.proofs.storing.form.Goals as goal
 
 pub returns : goal.returns
 unfolding form_with

@@ -1,6 +1,7 @@
 use Rattle.std.proofs.Common.{arith}
-use Rattle.stored.proofs.Writing.{puts_none, puts_as, no_seconds, seconds_bytes-take}
-use Rattle.stored.proofs.writer.Writer.seconds.Goals as goal
+use Rattle.lent.proofs.Writing.{puts_none, puts_as}
+use Rattle.stored.proofs.Writing.{no_seconds, seconds_bytes-take}
+use Rattle.stored.proofs.putting.seconds.Goals as goal
 
 pub loop-x-init : goal.loop-x-init
 loop-x-init c = (rw no_seconds (puts_none _), omega arith)

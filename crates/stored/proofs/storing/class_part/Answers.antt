@@ -3,8 +3,8 @@ use Rattle.std.proofs.Common.{arith, append_assoc, take, map}
 use Rattle.text.proofs.Scanning.{list_all_at}
 use Rattle.record.proofs.FactsTold.{fills_told}
 use Rattle.stored.specs.Form.{text_section, texts_bytes, class_part_text, text_stored, name_stored}
-use Rattle.stored.proofs.Writing.{puts_then, puts_as}
-use Rattle.stored.proofs.writer.Writer.class_part.Goals as goal
+use Rattle.lent.proofs.Writing.{puts_then, puts_as}
+use Rattle.stored.proofs.storing.class_part.Goals as goal
 
 pub returns-then-s-ne2 : goal.returns-then-s-ne2
 unfolding class_part_text
