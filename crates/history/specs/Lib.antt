@@ -1,2 +1,4 @@
 pub mod Calls
 pub mod Lines
+pub mod Entries
+pub mod Reads

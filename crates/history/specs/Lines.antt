@@ -69,10 +69,12 @@ call_text (enables k m) = placed_text "M" (k + 1) (switch_figure m ∷ [])
 abbrev pub number_most : ℕ
 number_most = 4294967295
 
+abbrev pub is_shortest : List ℕ → Bool
+is_shortest s = length s == 1 || not (s at 0 is "0")
+
 unfoldable pub number_in : List ℕ → Option ℕ
 number_in s =
-    if nat_le 1 (length s) && nat_le (length s) 10 && list_all is_digit s
-    && (length s == 1 || not (s at 0 is "0"))
+    if nat_le 1 (length s) && nat_le (length s) 10 && is_shortest s && list_all is_digit s
     && nat_le (decimal_value s) number_most
     then Some (decimal_value s)
     else None

@@ -1,0 +1,4 @@
+pub mod Numbers
+pub mod Fits
+mod Writing
+pub mod Back
