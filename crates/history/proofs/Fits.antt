@@ -2,8 +2,9 @@
 -- Assumes nothing.
 use Rattle.std.specs.List.{list_all}
 use Rattle.std.proofs.Common.{ℕ, ◌+◌, ◌*◌, ◌-◌, ◌≤◌, ◌<◌, ◌≡◌, true, false, ◌&&◌, List, [], ◌∷◌, ◌++◌, arith, length, nat_le}
-use Rattle.std.proofs.Common.{leb-true, eqb-true, length-append, length-take-le, ◌==◌, ap, ◌∙◌, refl}
+use Rattle.std.proofs.Common.{Option, Some, None, leb-true, eqb-true, codes, length-append, length-take-le, ◌==◌, ap, ◌∙◌, refl}
 use Rattle.std.proofs.lemmas.List.{length-map}
+use Prim.Native.Char.{code}
 use Rattle.text.proofs.Choices.{if_all, both_left, both_right}
 use Rattle.text.proofs.InTurn.{length-each_in_turn}
 use Rattle.numbers.specs.Decimal.{digits}
@@ -14,7 +15,9 @@ use Rattle.words.specs.ErrorDigits.{errors_text, is_errors, is_error_digit}
 use Rattle.words.specs.Inputs.{number_digit}
 use Rattle.history.specs.Calls.{LogCall, opens, receives, passes, closes, marks, reports, enables, is_sayable}
 use Rattle.history.specs.Calls.{received_most, is_place_number}
-use Rattle.history.specs.Lines.{is_command, front, bytes_text, hex_placed, hex_text, call_text}
+use Rattle.history.specs.Entries.{LogEntry, header, call, stated, is_entry, is_time, is_time_if_any, time_text, summed_text}
+use Rattle.history.specs.Entries.{shown_most, entry_text}
+use Rattle.history.specs.Lines.{is_plain, number_most, is_command, front, bytes_text, hex_placed, hex_text, call_text}
 
 pub command_some : (bs : List ℕ) → is_command bs ≡ true → 1 ≤ length bs
 unfolding is_command
@@ -54,3 +57,34 @@ call_fits (reports ds) h =
       eqb-true (length ds) 6 (both_left (length ds == 6) (list_all is_error_digit ds) h),
     )
 call_fits (enables k m) h = omega arith
+
+summed_fits : (n s : ℕ) → length (summed_text n s) ≤ 19
+summed_fits n s = omega (
+  arith,
+  length-append (digits n ++ codes " ") (hex_digits 8 s),
+  length-append (digits n) (codes " "),
+  length-hex_digits 8 s,
+  digits_at_most_10 n,
+)
+
+pub stated_short : (s : List ℕ) → (is_plain s && nat_le (length s) shown_most) ≡ true → length s ≤ 128
+stated_short s h = leb-true (length s) shown_most (both_right (is_plain s) (nat_le (length s) shown_most) h)
+
+time_fits : (t : Option (List ℕ)) → is_time_if_any t ≡ true → length (time_text t) ≤ 36
+unfolding is_time
+time_fits None h = omega arith
+time_fits (Some t) h = grind arith
+
+pub entry_fits : (e : LogEntry) → is_entry e ≡ true → length (entry_text e) ≤ 4096
+unfolding entry_text is_entry
+entry_fits (header f s t) h =
+    let short = time_fits t (both_right (nat_le 1 f && nat_le f number_most) (is_time_if_any t) h) in
+    omega (arith, summed_fits f s, short, length-append (codes "LOG 2 " ++ summed_text f s) (time_text t))
+entry_fits (call c) h = call_fits c h
+entry_fits (stated n s shown) h =
+    omega (
+      arith,
+      summed_fits n s,
+      stated_short shown h,
+      length-append (codes "S " ++ summed_text n s) (codes " " ++ shown),
+    )

@@ -2,7 +2,7 @@
 --   LogEntry          the header of a file, with its number in the chain, the sum so far, and a start time or none; a
 --                     call; or a stated line, with the count of lines since the header, the sum so far, and a text
 --                     of power and seconds
---   entry_seen e      the same of an entry as the code has it
+--   entry_seen e      the same of an entry as the code has it;    time_seen t   of a start time
 --   entry_text e      its line without LF, `LOG 2 1 0a1b2c3d 2026-11-27T05:45:09Z` or `S 12 0a1b2c3d power 1 lamps 60`;
 --                     that of a call is the call's
 --   entry_line e      the line
@@ -12,6 +12,7 @@
 use Rattle.std.specs.List.{list_all}
 use Rattle.std.specs.Prelude.{ℕ, ◌+◌, ◌≡◌, ◌<◌, ◌^◌, Bool, true, ◌&&◌, List, [], ◌∷◌, ◌++◌, length, take, drop, codes}
 use Rattle.std.specs.Prelude.{if◌then◌else◌, nat_le, Option, Some, None, option_map}
+use Rattle.std.specs.Borrow.{Bor}
 use Prim.Native.Char.{code}
 use Rattle.text.specs.Words.{◌is◌, ◌from◌to◌}
 use Rattle.text.specs.Scans.{index_of}
@@ -30,8 +31,11 @@ pub data LogEntry : Type 0 where
   call : LogCall → LogEntry
   stated : (lines sum : ℕ) (shown : List ℕ) → LogEntry
 
+abbrev pub time_seen : Option (Bor (List ℕ)) → Option (List ℕ)
+time_seen t = option_map (λ b. b.now) t
+
 abbrev pub entry_seen : Entry → LogEntry
-entry_seen (HeaderCase h) = header h.file h.sum (option_map (λ t. t.now) h.time)
+entry_seen (HeaderCase h) = header h.file h.sum (time_seen h.time)
 entry_seen (CallCase c) = call (call_seen c)
 entry_seen (StatedCase s) = stated s.lines s.sum s.shown.now
 
@@ -63,19 +67,16 @@ IsTypedEntry (stated n s shown) = (n < 2 ^ 32) × (s < 2 ^ 32)
 
 abbrev pub time_text : Option (List ℕ) → List ℕ
 time_text None = []
-time_text (Some t) = code " " ∷ t
+time_text (Some t) = codes " " ++ t
 
--- a number, the sum, and what stands behind
-abbrev pub summed_text : ℕ → ℕ → List ℕ → List ℕ
-summed_text n s rest = digits n ++ (code " " ∷ hex_digits 8 s ++ rest)
-
-abbrev pub header_head : List ℕ
-header_head = codes "LOG 2 "
+-- a number and a sum
+abbrev pub summed_text : ℕ → ℕ → List ℕ
+summed_text n s = digits n ++ codes " " ++ hex_digits 8 s
 
 unfoldable pub entry_text : LogEntry → List ℕ
-entry_text (header f s t) = header_head ++ summed_text f s (time_text t)
+entry_text (header f s t) = codes "LOG 2 " ++ summed_text f s ++ time_text t
 entry_text (call c) = call_text c
-entry_text (stated n s shown) = codes "S " ++ summed_text n s (code " " ∷ shown)
+entry_text (stated n s shown) = codes "S " ++ summed_text n s ++ (codes " " ++ shown)
 
 abbrev pub entry_line : LogEntry → List ℕ
 entry_line e = entry_text e ++ codes "\n"

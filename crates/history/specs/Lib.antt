@@ -2,3 +2,6 @@ pub mod Calls
 pub mod Lines
 pub mod Entries
 pub mod Reads
+pub mod Shown
+pub mod Recording
+pub mod Logs

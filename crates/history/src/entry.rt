@@ -1,5 +1,10 @@
 // What a line of a log says.
+ghost use Rattle.std.specs.Prelude.{◌≡◌};
+ghost use Rattle.std.specs.List.{list_all};
+ghost use Rattle.history.specs.Entries.{entry_seen, is_entry, is_visible, is_time};
+
 use crate::call::Call;
+use crate::put;
 
 /// The most characters of a start time.
 pub const TIME_MOST: usize = 35;
@@ -38,4 +43,40 @@ pub enum Entry<'a> {
     Call(Call<'a>),
     /// What the record shows.
     Stated(Stated<'a>),
+}
+
+fn are_visible(s: &[u8]) -> bool
+    ensures { result ≡ list_all is_visible s.now }
+{
+    s.iter().all(|b| b'!' <= *b && *b <= b'~')
+}
+
+/// Whether a header can have this start time: 1 to 35 characters `!` to `~`.
+#[tactic(auto, unfolding(crate::specs::Entries::is_time))]
+pub fn is_time(t: &[u8]) -> bool
+    ensures { result ≡ is_time t.now }
+{
+    1 <= t.len() && t.len() <= TIME_MOST && are_visible(t)
+}
+
+impl Entry<'_> {
+    /// Whether a line can say it: a header of a file from 1 on, with a start time that it can have; a call that a line
+    /// can say ([`Call::is_sayable`]); of what a record shows 1 to 128 characters ` ` to `~`, the last of them no space.
+    #[tactic(auto, unfolding(crate::specs::Entries::is_entry))]
+    pub fn is_sayable(&self) -> bool
+        ensures { result ≡ is_entry (entry_seen self.now) }
+    {
+        match self {
+            Entry::Header(header) => {
+                1 <= header.file
+                    && match header.time {
+                        Some(time) => is_time(time),
+                        None => true,
+                    }
+            }
+            Entry::Call(call) => call.is_sayable(),
+            Entry::Stated(stated) => put::is_plain(stated.shown)
+                && stated.shown.len() <= SHOWN_MOST,
+        }
+    }
 }

@@ -6,4 +6,5 @@ pub mod call;
 pub mod entry;
 mod put;
 pub mod read;
+pub mod recorder;
 pub mod theorems;

@@ -1,5 +1,5 @@
 // The line of a call, put after what a writer has written.
-ghost use Rattle.std.specs.Prelude.{◌≡◌, ◌+◌, ◌*◌, ◌≤◌, ◌++◌, true, length};
+ghost use Rattle.std.specs.Prelude.{◌≡◌, [], codes, ◌+◌, ◌<◌, ◌^◌, ◌*◌, ◌≤◌, ◌++◌, true, length};
 ghost use Rattle.std.specs.List.{list_all};
 ghost use Rattle.lent.specs.Puts.{Puts};
 ghost use Rattle.numbers.specs.Decimal.{digits};
@@ -7,8 +7,10 @@ ghost use Rattle.words.specs.ErrorDigits.{errors_text};
 ghost use Rattle.history.specs.Calls.{call_seen, is_sayable, is_place_number, received_most};
 ghost use Rattle.history.specs.Lines.{is_printable, is_plain, is_command, hex_text, place_head, bytes_text};
 ghost use Rattle.history.specs.Lines.{switch_figure, call_text};
+ghost use Rattle.history.specs.Entries.{summed_text, time_text, time_seen, entry_seen, entry_text, is_entry};
 
 use crate::call::Call;
+use crate::entry::Entry;
 use arrayvec::ArrayVec;
 use lent::Writer;
 use words::errors::Errors;
@@ -143,6 +145,59 @@ pub fn call(w: &mut Writer<'_>, call: &Call<'_>)
         Call::Mark(lamp, mark) => {
             head(w, b'M', *lamp + 1);
             w.bytes(&[b' ', switch_figure(*mark)]);
+        }
+    }
+}
+
+// A number, a space, a sum.
+#[tactic(auto, using(lent::proofs::Writing::puts_then, numbers::proofs::Digits::digits_at_most_10))]
+fn summed(w: &mut Writer<'_>, n: u32, sum: u32)
+    requires short { w.old.at ≤ 6 }
+    ensures written { Puts w.old w.new (summed_text n sum) }
+    ensures bound { w.new.at ≤ w.old.at + 19 }
+{
+    number(w, n);
+    w.byte(b' ');
+    w.bytes(&digest::hex8(sum));
+}
+
+// A space and what stands at the end of a line.
+#[tactic(auto, using(lent::proofs::Writing::puts_then))]
+fn ending(w: &mut Writer<'_>, s: &[u8])
+    requires { w.old.at + 1 + length s.now < 2 ^ 64 }
+    ensures { Puts w.old w.new (codes " " ++ s.now) }
+{
+    w.byte(b' ');
+    w.bytes(s);
+}
+
+fn time(w: &mut Writer<'_>, time: Option<&[u8]>)
+    requires { w.old.at ≤ 25 }
+    ensures { Puts w.old w.new (time_text (time_seen time.entry)) }
+{
+    if let Some(t) = time {
+        ending(w, t);
+    }
+}
+
+/// Puts what a line says, without its LF.
+#[tactic(auto, unfolding(crate::specs::Entries::entry_text, crate::specs::Entries::is_entry), using(lent::proofs::Writing::puts_then, crate::proofs::Fits::stated_short))]
+pub fn entry(w: &mut Writer<'_>, entry: &Entry<'_>)
+    requires first { w.old.at ≡ 0 }
+    requires sayable { is_entry (entry_seen entry.now) ≡ true }
+    ensures { Puts w.old w.new (entry_text (entry_seen entry.now)) }
+{
+    match entry {
+        Entry::Header(header) => {
+            w.bytes(b"LOG 2 ");
+            summed(w, header.file, header.sum);
+            time(w, header.time);
+        }
+        Entry::Call(made) => call(w, made),
+        Entry::Stated(stated) => {
+            w.bytes(b"S ");
+            summed(w, stated.lines, stated.sum);
+            ending(w, stated.shown);
         }
     }
 }

@@ -5,14 +5,14 @@ ghost use Rattle.std.specs.List.{list_all};
 ghost use Rattle.text.specs.Words.{◌from◌to◌};
 ghost use Rattle.digest.specs.Hex.{is_hex_digit};
 ghost use Rattle.history.specs.Calls.{call_seen, received_most};
-ghost use Rattle.history.specs.Entries.{entry_seen, first_word, past_word, is_visible, is_time, sum_in, summed_in, header_of, stated_of};
+ghost use Rattle.history.specs.Entries.{entry_seen, first_word, past_word, sum_in, summed_in, header_of, stated_of};
 ghost use Rattle.history.specs.Entries.{header_in, stated_in, entry_in};
 ghost use Rattle.history.specs.Reads.{rest_seen, summed_seen};
 ghost use Rattle.history.specs.Lines.{is_shortest, number_in, opening_in, command_in, hex_bytes, hex_in, passing_in, errors_in};
 ghost use Rattle.history.specs.Lines.{call_at, call_alone, placed_in, fault_in, lamp_in, kind_in, call_in};
 
 use crate::call::{Call, RECEIVED_MOST};
-use crate::entry::{Entry, Header, Stated, SHOWN_MOST, TIME_MOST};
+use crate::entry::{self, Entry, Header, SHOWN_MOST, Stated};
 use crate::put;
 use arrayvec::ArrayVec;
 use words::codec;
@@ -280,20 +280,6 @@ fn summed_in(s: &[u8]) -> Option<Summed<'_>>
     Some(Summed { number, sum, rest })
 }
 
-fn are_visible(s: &[u8]) -> bool
-    ensures { result ≡ list_all is_visible s.now }
-{
-    s.iter().all(|b| b'!' <= *b && *b <= b'~')
-}
-
-/// Whether a header can have it: 1 to 35 characters `!` to `~`.
-#[tactic(auto, unfolding(crate::specs::Entries::is_time))]
-pub fn is_time(t: &[u8]) -> bool
-    ensures { result ≡ is_time t.now }
-{
-    1 <= t.len() && t.len() <= TIME_MOST && are_visible(t)
-}
-
 #[tactic(auto, unfolding(crate::specs::Entries::header_of))]
 fn header_of<'a>(file: u32, sum: u32, s: &'a [u8]) -> Option<Entry<'a>>
     ensures { option_map entry_seen result ≡ header_of file sum s.now }
@@ -302,8 +288,16 @@ fn header_of<'a>(file: u32, sum: u32, s: &'a [u8]) -> Option<Entry<'a>>
         return None;
     }
     match s {
-        [] => Some(Entry::Header(Header { file, sum, time: None })),
-        [b' ', t @ ..] if is_time(t) => Some(Entry::Header(Header { file, sum, time: Some(t) })),
+        [] => Some(Entry::Header(Header {
+            file,
+            sum,
+            time: None,
+        })),
+        [b' ', t @ ..] if entry::is_time(t) => Some(Entry::Header(Header {
+            file,
+            sum,
+            time: Some(t),
+        })),
         _ => None,
     }
 }

@@ -1,10 +1,21 @@
-// What is proved beside the contracts of the functions. Nothing is done here: that this function has its contract is
-// that the theorems stand.
-ghost use Rattle.std.specs.Prelude.{◌≡◌, Some, true};
-ghost use Rattle.history.specs.Calls.{LogCall, IsTyped, is_sayable};
-ghost use Rattle.history.specs.Lines.{call_text, call_in};
+// What is proved beside the contracts of the functions. Nothing is done here: that these functions have their contracts
+// is that the theorems stand.
+ghost use Rattle.std.specs.Prelude.{◌≡◌, ◌≤◌, List, [], Some, true, ℕ, map, take, length};
+ghost use Rattle.history.specs.Entries.{LogEntry, IsTypedEntry, is_entry, entry_text, entry_in};
+ghost use Rattle.history.specs.Logs.{Sayable, log_text, entries_in, cut_end};
 
-/// What a line says is the call that it was written for.
-pub fn lines_say_their_calls()
-    ensures back { (c : LogCall) → IsTyped c → is_sayable c ≡ true → call_in (call_text c) ≡ Some c }
+/// What a line says is what it was written for, and no two entries have one line.
+pub fn lines_say_what_they_were_written_for()
+    ensures back { (e : LogEntry) → IsTypedEntry e → is_entry e ≡ true → entry_in (entry_text e) ≡ Some e }
+    ensures one_line { (e f : LogEntry) → IsTypedEntry e → is_entry e ≡ true → IsTypedEntry f → is_entry f ≡ true
+        → entry_text e ≡ entry_text f → e ≡ f }
+{}
+
+/// A log says the entries that it was written for, and what is left of one that was cut, at any byte, says a front of
+/// them.
+pub fn a_log_says_its_entries()
+    ensures said { (es : List LogEntry) → Sayable es → entries_in (log_text es) ≡ map Some es }
+    ensures whole { (es : List LogEntry) → Sayable es → cut_end [] (log_text es) ≡ [] }
+    ensures cut { (es : List LogEntry) → Sayable es → (n : ℕ)
+        → (k : ℕ) × (k ≤ length es) × (entries_in (take n (log_text es)) ≡ map Some (take k es)) }
 {}

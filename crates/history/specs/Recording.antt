@@ -1,0 +1,44 @@
+-- The recorder (RULES, History of a board): the line of an entry, by the table of numbers, and what is kept for the
+-- next one.
+--   log_line_room        no line is longer, its LF included
+--   cannot_follow r e    there is no file yet, or the count of its lines can't grow
+--   entry_rows r e room  when an entry is refused, and with which number
+--   recorded_by r e room refused with no byte, or the line
+--   advanced r e         what is kept after the line
+--   recorder_after r e room   what is kept after the call: refused, what was kept
+--   header_next r t      the header of the next file;    stated_next r shown   a stated line
+-- Assumes nothing.
+use Rattle.std.specs.Prelude.{ℕ, ◌+◌, Bool, false, not, List, [], ◌∷◌, length, nat_lt, ◌==◌, ◌||◌, Option}
+use Rattle.text.specs.Rows.{Row, ◌when◌, by_rows}
+use Rattle.text.specs.Outcomes.{WrittenAs, nothing_written}
+use Rattle.crc32.specs.Crc.{crc32_on}
+use Rattle.history.specs.Lines.{number_most}
+use Rattle.history.specs.Entries.{LogEntry, header, call, stated, is_entry, entry_line}
+use Rattle.history.specs.declared.recorder.Recorder.{Recorder}
+
+abbrev pub log_line_room : ℕ
+log_line_room = 4097
+
+abbrev pub cannot_follow : Recorder → LogEntry → Bool
+cannot_follow r (header f s t) = false
+cannot_follow r e = r.file == 0 || r.lines == number_most
+
+abbrev pub entry_rows : Recorder → LogEntry → ℕ → List Row
+entry_rows r e room =
+    (2 when nat_lt room log_line_room) ∷ (3 when not (is_entry e)) ∷ (3 when cannot_follow r e) ∷ []
+
+unfoldable pub recorded_by : Recorder → LogEntry → ℕ → WrittenAs
+recorded_by r e room = by_rows (entry_rows r e room) nothing_written (record { number = 0; bytes = entry_line e })
+
+abbrev pub advanced : Recorder → LogEntry → Recorder
+advanced r (header f s t) = record { file = f; lines = 0; sum = crc32_on r.sum (entry_line (header f s t)) }
+advanced r e = record { file = r.file; lines = r.lines + 1; sum = crc32_on r.sum (entry_line e) }
+
+unfoldable pub recorder_after : Recorder → LogEntry → ℕ → Recorder
+recorder_after r e room = by_rows (entry_rows r e room) (λ _. r) (advanced r e)
+
+abbrev pub header_next : Recorder → Option (List ℕ) → LogEntry
+header_next r t = header (r.file + 1) r.sum t
+
+abbrev pub stated_next : Recorder → List ℕ → LogEntry
+stated_next r shown = stated r.lines r.sum shown
