@@ -6,11 +6,11 @@ use Rattle.std.proofs.Common.{ℕ, suc, ◌+◌, ◌*◌, ◌^◌, ◌<◌, ◌�
 use Rattle.std.proofs.Common.{List, [], ◌∷◌, ◌++◌, length, slice_index_or}
 use Rattle.std.proofs.lemmas.Nat.{xor_of_32, xor_comm}
 use lib.Bits.{xor_assoc, xor_shifted}
-use Rattle.crc32.specs.Crc.{ones, after_byte, bits_shifted, remainder_on, crc32_of}
+use Rattle.crc32.specs.Crc.{ones, after_byte, bits_shifted, remainder_on, crc32_on, crc32_of}
 use Rattle.crc32.proofs.Shifts.{bits_over, bits_shifted-add, bits_within, bits_same, xor_same}
 use Rattle.crc32.proofs.GoesOn.{remainder_on-append}
 
-abbrev AreBytes : List ℕ → Type 0
+abbrev pub AreBytes : List ℕ → Type 0
 AreBytes s = (k : ℕ) → slice_index_or s k 0 < 256
 
 first : (b : ℕ) (s : List ℕ) → AreBytes (b ∷ s) → b < 256
@@ -116,3 +116,14 @@ change_shows u s t v hu hs ht hv long few e =
     part_same r s t h hs ht long few
     (remainder_same (remainder_on r s) (remainder_on r t) v (remainder_within r s h hs) (remainder_within r t h ht) hv
     (sym (split s) ∙ xor_same ones _ _ e ∙ split t))
+
+-- ---- a sum has 32 bits
+
+pub crc32_on_within : (c : ℕ) (s : List ℕ) → c < 2 ^ 32 → AreBytes s → crc32_on c s < 2 ^ 32
+unfolding crc32_on
+crc32_on_within c s h bytes =
+    xor_of_32 ones _ (omega arith) (remainder_within (bit_xor ones c) s (xor_of_32 ones c (omega arith) h) bytes)
+
+pub crc32_of_within : (s : List ℕ) → AreBytes s → crc32_of s < 2 ^ 32
+unfolding crc32_of
+crc32_of_within s bytes = xor_of_32 ones _ (omega arith) (remainder_within ones s (omega arith) bytes)

@@ -1,5 +1,5 @@
 pub mod Shifts
 pub mod GoesOn
 mod ByTable
-mod Changes
+pub mod Changes
 mod Vectors

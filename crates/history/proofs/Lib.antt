@@ -3,5 +3,5 @@ pub mod Fits
 mod Writing
 pub mod Back
 pub mod EntriesBack
-pub mod NoLf
+pub mod Printable
 pub mod Logs

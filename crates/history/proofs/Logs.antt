@@ -12,7 +12,7 @@ use Rattle.text.proofs.Choices.{if_yes, if_no, both_left, both_right}
 use Rattle.history.specs.Entries.{LogEntry, IsTypedEntry, is_entry, entry_text, entry_line, entry_in}
 use Rattle.history.specs.Logs.{Sayable, log_text, lines_ended, cut_end, entries_in}
 use Rattle.history.proofs.EntriesBack.{entry_back}
-use Rattle.history.proofs.NoLf.{not_lf, entry_no_lf}
+use Rattle.history.proofs.Printable.{not_lf, entry_no_lf}
 
 pub one_line : (e f : LogEntry) → IsTypedEntry e → is_entry e ≡ true → IsTypedEntry f → is_entry f ≡ true
     → entry_text e ≡ entry_text f

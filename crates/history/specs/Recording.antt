@@ -7,11 +7,17 @@
 --   advanced r e         what is kept after the line
 --   recorder_after r e room   what is kept after the call: refused, what was kept
 --   header_next r t      the header of the next file;    stated_next r shown   a stated line
+--   Asked                what the recorder is asked to record;    asked_entry r a   the entry of that
+--   recorder_begun form  what is kept before the first file
+--   entries_recorded r as   what is recorded of what is asked, each time with so much memory; what is refused is left out
+--   bytes_recorded r as     what is written
+--   AreTyped as          the calls asked have the numbers of the code's types
 -- Assumes nothing.
-use Rattle.std.specs.Prelude.{ℕ, ◌+◌, Bool, false, not, List, [], ◌∷◌, length, nat_lt, ◌==◌, ◌||◌, Option}
+use Rattle.std.specs.Prelude.{ℕ, ◌+◌, Bool, false, not, ◌||◌, List, [], ◌∷◌, ◌++◌, nat_lt, ◌==◌, Option, if◌then◌else◌}
 use Rattle.text.specs.Rows.{Row, ◌when◌, by_rows}
 use Rattle.text.specs.Outcomes.{WrittenAs, nothing_written}
-use Rattle.crc32.specs.Crc.{crc32_on}
+use Rattle.crc32.specs.Crc.{crc32_on, crc32_of}
+use Rattle.history.specs.Calls.{LogCall, IsTyped}
 use Rattle.history.specs.Lines.{number_most}
 use Rattle.history.specs.Entries.{LogEntry, header, call, stated, is_entry, entry_line}
 use Rattle.history.specs.declared.recorder.Recorder.{Recorder}
@@ -42,3 +48,41 @@ header_next r t = header (r.file + 1) r.sum t
 
 abbrev pub stated_next : Recorder → List ℕ → LogEntry
 stated_next r shown = stated r.lines r.sum shown
+
+-- ---- a run of the recorder: what it is asked to record, each time with so much memory
+
+pub data Asked : Type 0 where
+  begins : (time : Option (List ℕ)) → Asked
+  makes : LogCall → Asked
+  states : (shown : List ℕ) → Asked
+
+abbrev pub asked_entry : Recorder → Asked → LogEntry
+asked_entry r (begins t) = header_next r t
+asked_entry r (makes c) = call c
+asked_entry r (states s) = stated_next r s
+
+abbrev pub recorder_begun : List ℕ → Recorder
+recorder_begun form = record { file = 0; lines = 0; sum = crc32_of form }
+
+abbrev pub entry_if_served : WrittenAs → LogEntry → List LogEntry
+entry_if_served w e = if w.number == 0 then e ∷ [] else []
+
+-- what is recorded, and what is written of it
+abbrev pub entries_recorded : Recorder → List (Asked × ℕ) → List LogEntry
+entries_recorded r [] = []
+entries_recorded r (a ∷ more) =
+    let e = asked_entry r a.0 in
+    entry_if_served (recorded_by r e a.1) e ++ entries_recorded (recorder_after r e a.1) more
+
+abbrev pub bytes_recorded : Recorder → List (Asked × ℕ) → List ℕ
+bytes_recorded r [] = []
+bytes_recorded r (a ∷ more) =
+    let e = asked_entry r a.0 in (recorded_by r e a.1).bytes ++ bytes_recorded (recorder_after r e a.1) more
+
+abbrev pub IsTypedAsked : Asked → Type 0
+IsTypedAsked (makes c) = IsTyped c
+IsTypedAsked a = Unit {0}
+
+abbrev pub AreTyped : List (Asked × ℕ) → Type 0
+AreTyped [] = Unit {0}
+AreTyped (a ∷ more) = IsTypedAsked a.0 × AreTyped more
