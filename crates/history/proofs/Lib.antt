@@ -5,3 +5,5 @@ pub mod Back
 pub mod EntriesBack
 pub mod Printable
 pub mod Logs
+pub mod Chain
+pub mod ShownFits

@@ -7,19 +7,23 @@
 --   advanced r e         what is kept after the line
 --   recorder_after r e room   what is kept after the call: refused, what was kept
 --   header_next r t      the header of the next file;    stated_next r shown   a stated line
+--   stated_by r d room   refused with 1 where the record d is not legal, else its stated line; stated_after, what is kept
 --   Asked                what the recorder is asked to record;    asked_entry r a   the entry of that
 --   recorder_begun form  what is kept before the first file
---   entries_recorded r as   what is recorded of what is asked, each time with so much memory; what is refused is left out
---   bytes_recorded r as     what is written
---   AreTyped as          the calls asked have the numbers of the code's types
+--   entries_recorded r asked   what is recorded of what is asked, each time with so much memory; what is refused is left out
+--   bytes_recorded r asked     what is written
+--   AreTyped asked          the calls asked have the numbers of the code's types
 -- Assumes nothing.
 use Rattle.std.specs.Prelude.{ℕ, ◌+◌, Bool, false, not, ◌||◌, List, [], ◌∷◌, ◌++◌, nat_lt, ◌==◌, Option, if◌then◌else◌}
 use Rattle.text.specs.Rows.{Row, ◌when◌, by_rows}
 use Rattle.text.specs.Outcomes.{WrittenAs, nothing_written}
+use Rattle.record.specs.Legal.{is_legal}
+use Rattle.record.specs.declared.types.Device.{Device}
 use Rattle.crc32.specs.Crc.{crc32_on, crc32_of}
 use Rattle.history.specs.Calls.{LogCall, IsTyped}
 use Rattle.history.specs.Lines.{number_most}
 use Rattle.history.specs.Entries.{LogEntry, header, call, stated, is_entry, entry_line}
+use Rattle.history.specs.Shown.{device_shown}
 use Rattle.history.specs.declared.recorder.Recorder.{Recorder}
 
 abbrev pub log_line_room : ℕ
@@ -48,6 +52,13 @@ header_next r t = header (r.file + 1) r.sum t
 
 abbrev pub stated_next : Recorder → List ℕ → LogEntry
 stated_next r shown = stated r.lines r.sum shown
+
+-- what the record of a device shows; refused first where it is not legal
+unfoldable pub stated_by : Recorder → Device → ℕ → WrittenAs
+stated_by r d room = if is_legal d then recorded_by r (stated_next r (device_shown d)) room else nothing_written 1
+
+unfoldable pub stated_after : Recorder → Device → ℕ → Recorder
+stated_after r d room = if is_legal d then recorder_after r (stated_next r (device_shown d)) room else r
 
 -- ---- a run of the recorder: what it is asked to record, each time with so much memory
 

@@ -2,6 +2,7 @@
 --   lamp_shown x              a space and the seconds x of a lamp; lamps_shown, those of each
 --   power_and_lamps n lamps   `power `, the power, ` lamps`, and the seconds of each lamp
 --   device_shown d            that of a device
+--   device_shown_most         it never needs more room
 -- Assumes nothing.
 use Rattle.std.specs.Prelude.{ℕ, List, ◌++◌, take, codes}
 use Rattle.text.specs.InTurn.{each_in_turn}
@@ -19,3 +20,6 @@ power_and_lamps power lamps = codes "power " ++ digits power ++ codes " lamps" +
 
 abbrev pub device_shown : Device → List ℕ
 device_shown d = power_and_lamps d.own.power (take d.settings.lamp_count d.own.lamps)
+
+abbrev pub device_shown_most : ℕ
+device_shown_most = 110

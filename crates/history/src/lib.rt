@@ -7,4 +7,5 @@ pub mod entry;
 mod put;
 pub mod read;
 pub mod recorder;
+pub mod shown;
 pub mod theorems;

@@ -8,12 +8,15 @@ ghost use Rattle.crc32.specs.Crc.{crc32_of, crc32_on};
 ghost use Rattle.history.specs.Calls.{call_seen};
 ghost use Rattle.history.specs.Entries.{time_seen, entry_seen, is_entry, entry_line, call};
 ghost use Rattle.history.specs.Recording.{log_line_room, cannot_follow, advanced, recorded_by, recorder_after, header_next};
+ghost use Rattle.history.specs.Recording.{stated_by, stated_after};
 
 use crate::call::Call;
-use crate::entry::{Entry, Header};
-use crate::put;
+use crate::entry::{Entry, Header, SHOWN_MOST, Stated};
+use crate::{put, shown};
+use arrayvec::ArrayVec;
 use lent::Writer;
 use record::refusal::Refusal;
+use record::types::Device;
 
 /// The memory that any line fits in, its LF included.
 pub const LINE_ROOM: usize = 4097;
@@ -144,5 +147,29 @@ impl Recorder {
         ensures kept { self.new ≡ recorder_after self.old (call (call_seen made.now)) (length out.old) }
     {
         self.record(&Entry::Call(*made), out)
+    }
+
+    /// Records what a record shows: its power and seconds, with the count of lines and the sum so far. Returns the
+    /// length of the line, which fills the start of the memory; its rest stays. Errors, in this order, with which the
+    /// recorder and all of the memory stay: `NotLegal`; `NoRoom` under 4,097 bytes of memory; `OutOfRange` before the
+    /// first file, and past 4,294,967,295 lines of a file.
+    #[tactic(auto, unfolding(crate::specs::Recording::stated_by, crate::specs::Recording::stated_after))]
+    pub fn stated(&mut self, device: &Device, out: &mut [u8]) -> Result<usize, Refusal>
+        ensures told { written_told refusal_number result
+            ≡ told_written (stated_by self.old device.now (length out.old)) }
+        ensures memory { out.new ≡ over (stated_by self.old device.now (length out.old)).bytes out.old }
+        ensures kept { self.new ≡ stated_after self.old device.now (length out.old) }
+    {
+        if !device.is_legal() {
+            return Err(Refusal::NotLegal);
+        }
+        let mut shown: ArrayVec<u8, SHOWN_MOST> = ArrayVec::new();
+        shown::put_shown(device, &mut shown);
+        let stated = Stated {
+            lines: self.lines,
+            sum: self.sum,
+            shown: shown.as_slice(),
+        };
+        self.record(&Entry::Stated(stated), out)
     }
 }
