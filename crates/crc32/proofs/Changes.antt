@@ -32,7 +32,8 @@ after_within r b h l = bits_within 8 (bit_xor r b) (xor_of_32 r b h (omega arith
 after_same : (q r b : ℕ) → q < 2 ^ 32 → r < 2 ^ 32 → b < 256 → after_byte q b ≡ after_byte r b → q ≡ r
 unfolding after_byte
 after_same q r b hq hr l e =
-    let same = bits_same 8 (bit_xor q b) (bit_xor r b) (xor_of_32 q b hq (omega arith)) (xor_of_32 r b hr (omega arith)) e in
+    let below = xor_of_32 q b hq (omega arith) in
+    let same = bits_same 8 (bit_xor q b) (bit_xor r b) below (xor_of_32 r b hr (omega arith)) e in
     xor_same b q r (xor_comm b q ∙ same ∙ xor_comm r b)
 
 remainder_within : (r : ℕ) (s : List ℕ) → r < 2 ^ 32 → AreBytes s → remainder_on r s < 2 ^ 32
@@ -48,7 +49,8 @@ remainder_same q r [] hq hr bytes e = e
 remainder_same q r (b ∷ s) hq hr bytes e =
     let h = first b s bytes in
     after_same q r b hq hr h
-    (remainder_same (after_byte q b) (after_byte r b) s (after_within q b hq h) (after_within r b hr h) (rest b s bytes) e)
+    (remainder_same (after_byte q b) (after_byte r b) s (after_within q b hq h) (after_within r b hr h) (rest b s bytes)
+    e)
 
 -- ---- bytes one after the other are a number at once
 
@@ -96,7 +98,8 @@ part_same : (r : ℕ) (s t : List ℕ) → r < 2 ^ 32 → AreBytes s → AreByte
 part_same r s t h hs ht long few e =
     let ws = word_within s hs few in
     let wt = word_within t ht (omega arith) in
-    let at_once : bits_shifted (8 * length s) (bit_xor (word_in s) r) ≡ bits_shifted (8 * length s) (bit_xor (word_in t) r)
+    let at_once : bits_shifted (8 * length s) (bit_xor (word_in s) r)
+    ≡ bits_shifted (8 * length s) (bit_xor (word_in t) r)
     = sym (remainder_at_once r s hs)
     ∙ e
     ∙ remainder_at_once r t ht

@@ -1,6 +1,7 @@
 -- A sum goes on over the parts of a text.
 -- Assumes nothing.
-use Rattle.std.proofs.Common.{ℕ, ◌+◌, ◌<◌, ◌≡◌, length, take, take-suc, add-one, slice_index_or, List, [], ◌∷◌, ◌++◌, refl, sym, ap, ◌∙◌, bit_xor}
+use Rattle.std.proofs.Common.{ℕ, ◌+◌, ◌<◌, ◌≡◌, length, take, take-suc, add-one, slice_index_or, List, [], ◌∷◌, ◌++◌}
+use Rattle.std.proofs.Common.{refl, sym, ap, ◌∙◌, bit_xor}
 use lib.Bits.{xor_assoc, xor_self, xor_zero_l}
 use Rattle.crc32.specs.Crc.{ones, after_byte, remainder_on, crc32_on, crc32_of}
 

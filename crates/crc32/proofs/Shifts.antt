@@ -1,7 +1,8 @@
 -- What a shift of the remainder does to a sum of remainders: each of the two is shifted by itself, so that what stands
 -- above the bits that go out is only moved. It loses nothing.
 -- Assumes nothing.
-use Rattle.std.proofs.Common.{ℕ, zero, suc, ◌+◌, ◌*◌, ◌/◌, ◌%◌, ◌^◌, ◌<◌, ◌≡◌, arith, refl, sym, ap, ◌∙◌, bit_xor, pow-suc}
+use Rattle.std.proofs.Common.{ℕ, zero, suc, ◌+◌, ◌*◌, ◌/◌, ◌%◌, ◌^◌, ◌<◌, ◌≡◌, arith, refl, sym, ap, ◌∙◌, bit_xor}
+use Rattle.std.proofs.Common.{pow-suc}
 use Rattle.std.proofs.Common.{if◌then◌else◌, ◌==◌, Bool, true, false, eqb-true}
 use Rattle.std.proofs.lemmas.Bool.{eqb-false}
 use Rattle.std.proofs.lemmas.Nat.{xor_shr, xor_mod, xor_of_32, xor_comm}
@@ -77,7 +78,8 @@ bit_same x y hx hy e = by (x % 2 == 0) (y % 2 == 0) refl refl e
         → x ≡ y
     by true true p q e = omega (arith, eqb-true _ _ p, eqb-true _ _ q, e)
     by false false p q e =
-        let half : x / 2 ≡ y / 2 = xor_same polynomial _ _ (xor_comm polynomial (x / 2) ∙ e ∙ xor_comm (y / 2) polynomial) in
+        let half : x / 2 ≡ y / 2
+        = xor_same polynomial _ _ (xor_comm polynomial (x / 2) ∙ e ∙ xor_comm (y / 2) polynomial) in
         omega (arith, eqb-false _ _ p, eqb-false _ _ q, half)
     by true false p q e = absurd (omega (arith, odd_is_high y hy, ap (λ (n : ℕ). n / 2 ^ 31) e))
     by false true p q e = absurd (omega (arith, odd_is_high x hx, ap (λ (n : ℕ). n / 2 ^ 31) e))

@@ -1,8 +1,10 @@
 -- What a line says is the call that it was written for.
 -- Assumes nothing.
 use Rattle.std.specs.List.{list_all}
-use Rattle.std.proofs.Common.{ℕ, zero, suc, ◌+◌, ◌*◌, ◌-◌, ◌%◌, ◌≤◌, ◌<◌, ◌^◌, ◌≡◌, Bool, true, false, not, ◌&&◌, List, [], ◌∷◌, ◌++◌}
-use Rattle.std.proofs.Common.{arith, length, nat_le, nat_lt, leb-true, le-leb, eqb-true, eq-eqb, ltb-true, ◌==◌, ap, ◌∙◌, refl, sym}
+use Rattle.std.proofs.Common.{ℕ, zero, suc, ◌+◌, ◌*◌, ◌-◌, ◌%◌, ◌≤◌, ◌<◌, ◌^◌, ◌≡◌, Bool, true, false, not, ◌&&◌, List}
+use Rattle.std.proofs.Common.{[], ◌∷◌, ◌++◌}
+use Rattle.std.proofs.Common.{arith, length, nat_le, nat_lt, leb-true, le-leb, eqb-true, eq-eqb, ltb-true, ◌==◌, ap}
+use Rattle.std.proofs.Common.{◌∙◌, refl, sym}
 use Rattle.std.proofs.Common.{Some, None, take, take_all, take-suc, length-take-le, slice_index_or, codes}
 use Rattle.std.proofs.lemmas.Bool.Decides.{nat_tests}
 use Prim.Native.Char.{code}
@@ -22,9 +24,12 @@ use Rattle.words.specs.Laws.{errors_codec}
 use Rattle.words.specs.Combinations.{whole_says}
 use Rattle.history.specs.Calls.{LogCall, opens, receives, passes, closes, marks, reports, enables, is_sayable, IsTyped}
 use Rattle.history.specs.Calls.{received_most, is_byte, is_place_number, is_lamp_number}
-use Rattle.history.specs.Lines.{figure, switch_figure, is_printable, is_plain, front, is_command, hex_text, hex_placed}
-use Rattle.history.specs.Lines.{bytes_text, call_text, is_shortest, number_in, opening_in, command_in, hex_bytes, hex_in}
-use Rattle.history.specs.Lines.{passing_in, errors_in, call_at, call_alone, placed_in, fault_in, lamp_in, kind_in, call_in}
+use Rattle.history.specs.Lines.{figure, switch_figure, is_printable, is_plain, front, is_command_line, hex_text}
+use Rattle.history.specs.Lines.{hex_placed}
+use Rattle.history.specs.Lines.{bytes_text, call_text, is_shortest, decimal_in, opening_in, command_in, hex_bytes}
+use Rattle.history.specs.Lines.{hex_in}
+use Rattle.history.specs.Lines.{passing_in, errors_in, call_at, call_alone, placed_in, fault_in, lamp_in, kind_in}
+use Rattle.history.specs.Lines.{call_in}
 use Rattle.history.proofs.Numbers.{number_read}
 use Rattle.history.proofs.Fits.{length-hex_text, command_some}
 
@@ -40,7 +45,7 @@ digits_shortest (suc n) h =
     let first = digits_no_leading_zero (suc n) (omega arith) h in
     grind (arith, nat_tests, first)
 
-pub number_back : (n : ℕ) → n < 2 ^ 32 → number_in (digits n) ≡ Some n
+pub number_back : (n : ℕ) → n < 2 ^ 32 → decimal_in (digits n) ≡ Some n
 number_back n h =
     number_read (digits n) (digits_at_least_1 n) (digits_at_most_10 n) (digits_shortest n h) (digits_are_digits n) n
     (decimal_value-digits n h) (omega arith)
@@ -74,7 +79,7 @@ even : (n : ℕ) → (2 * n) % 2 ≡ 0
 even n = omega arith
 
 hex_back : (p : ℕ) (bs : List ℕ) → 1 ≤ length bs → length bs ≤ received_most → list_all is_byte bs ≡ true
-    → is_command bs ≡ false
+    → is_command_line bs ≡ false
     → hex_in p (hex_text bs) ≡ Some (receives p bs)
 unfolding hex_in
 hex_back p bs some h typed other =
@@ -88,11 +93,11 @@ hex_back p bs some h typed other =
     (le-leb (length (hex_text bs)) (2 * received_most) (omega (arith, long))))
     (eq-eqb (length (hex_text bs) % 2) 0 (ap (λ (n : ℕ). n % 2) long ∙ even (length bs))))
     (list_all-each_in_turn (hex_digits 2) is_hex_digit (hex_digits_are_digits 2) bs))
-    (ap (λ (l : List ℕ). not (is_command l)) same ∙ ap not other))
+    (ap (λ (l : List ℕ). not (is_command_line l)) same ∙ ap not other))
     ∙ ap (λ (l : List ℕ). Some (receives p l)) same
 
-front_back : (bs : List ℕ) → is_command bs ≡ true → front bs ++ codes "\r" ≡ bs
-unfolding is_command
+front_back : (bs : List ℕ) → is_command_line bs ≡ true → front bs ++ codes "\r" ≡ bs
+unfolding is_command_line
 front_back bs h =
     let some = command_some bs h in
     let last : slice_index_or bs (length bs - 1) 0 ≡ code "\r" = grind (arith, nat_tests) in
@@ -102,9 +107,9 @@ front_back bs h =
     ∙ ap (λ (k : ℕ). take k bs) n
     ∙ take_all (length bs) bs (omega arith)
 
-command_back : (p : ℕ) (bs : List ℕ) → length bs ≤ received_most → is_command bs ≡ true
+command_back : (p : ℕ) (bs : List ℕ) → length bs ≤ received_most → is_command_line bs ≡ true
     → command_in p (front bs) ≡ Some (receives p bs)
-unfolding command_in is_command
+unfolding command_in is_command_line
 command_back p bs h text =
     let some = command_some bs text in
     let long = length-take-le (length bs - 1) bs (omega arith) in
@@ -114,7 +119,7 @@ command_back p bs h text =
     ∙ ap (λ (l : List ℕ). Some (receives p l)) (front_back bs text)
 
 in_hex_back : (p : ℕ) (bs : List ℕ) → is_place_number p ≡ true → length bs ≤ received_most → list_all is_byte bs ≡ true
-    → is_command bs ≡ false
+    → is_command_line bs ≡ false
     → call_in (hex_placed p bs) ≡ Some (receives p bs)
 unfolding call_in kind_in call_at call_alone
 in_hex_back p [] there h typed e = alone_back (code "B") p there
@@ -122,7 +127,7 @@ in_hex_back p (b ∷ bs) there h typed e =
     placed_back (code "B") p (hex_text (b ∷ bs)) there ∙ hex_back p (b ∷ bs) (omega arith) h typed e
 
 bytes_back : (p : ℕ) (bs : List ℕ) → is_place_number p ≡ true → length bs ≤ received_most → list_all is_byte bs ≡ true
-    → (t : Bool) → is_command bs ≡ t
+    → (t : Bool) → is_command_line bs ≡ t
     → call_in (bytes_text p bs) ≡ Some (receives p bs)
 unfolding bytes_text call_in kind_in call_at
 bytes_back p bs there h typed true e =
@@ -137,7 +142,8 @@ passing_back n h = ap (λ o. o >>= λ n. Some (passes n)) (number_back n h)
 
 errors_back : (ds : List ℕ) → is_errors ds ≡ true → errors_in (errors_text ds) ≡ Some (reports ds)
 unfolding errors_in
-errors_back ds h = ap (λ o. o >>= λ ds. Some (reports ds)) ((whole_says errors_codec).back ds (errors_text ds) (h, refl))
+errors_back ds h =
+    ap (λ o. o >>= λ ds. Some (reports ds)) ((whole_says errors_codec).back ds (errors_text ds) (h, refl))
 
 lamp_back : (k : ℕ) (m : Bool) → is_lamp_number k ≡ true
     → lamp_in (figure (k + 1) ∷ code " " ∷ switch_figure m ∷ []) ≡ Some (enables k m)
@@ -151,7 +157,7 @@ call_back (opens p r) t h = placed_back (code "O") p (hex_digits 8 r) h ∙ open
 call_back (receives p bs) t h =
     bytes_back p bs (both_left (is_place_number p) (nat_le (length bs) received_most) h)
     (leb-true (length bs) received_most (both_right (is_place_number p) (nat_le (length bs) received_most) h)) t
-    (is_command bs) refl
+    (is_command_line bs) refl
 call_back (passes n) t h = passing_back n t
 call_back (closes p) t h = alone_back (code "X") p h
 call_back (marks true) t h = refl

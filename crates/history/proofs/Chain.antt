@@ -1,7 +1,9 @@
 -- What the recorder writes is a history.
 -- Assumes nothing.
-use Rattle.std.proofs.Common.{ℕ, ◌+◌, ◌≤◌, ◌<◌, ◌^◌, ◌≡◌, Bool, true, false, not, ◌&&◌, List, [], ◌∷◌, ◌++◌, arith, length, map}
-use Rattle.std.proofs.Common.{refl, sym, ap, ◌∙◌, Some, None, Option, append_assoc, append-nil, nat_lt, nat_le, ◌==◌, leb-true}
+use Rattle.std.proofs.Common.{ℕ, ◌+◌, ◌≤◌, ◌<◌, ◌^◌, ◌≡◌, Bool, true, false, not, ◌&&◌, List, [], ◌∷◌, ◌++◌, arith}
+use Rattle.std.proofs.Common.{length, map}
+use Rattle.std.proofs.Common.{refl, sym, ap, ◌∙◌, Some, None, Option, append_assoc, append-nil, nat_lt, nat_le, ◌==◌}
+use Rattle.std.proofs.Common.{leb-true}
 use Rattle.std.proofs.Common.{eqb-true, subst}
 use Rattle.std.specs.Prelude.{◌||◌}
 use Rattle.text.proofs.Choices.{both_left, both_right}
@@ -12,7 +14,8 @@ use Rattle.crc32.proofs.GoesOn.{crc32_on-crc32_of}
 use Rattle.crc32.proofs.Changes.{AreBytes, crc32_on_within, crc32_of_within}
 use Rattle.history.specs.Calls.{LogCall, IsTyped}
 use Rattle.history.specs.Lines.{number_most}
-use Rattle.history.specs.Entries.{LogEntry, header, call, stated, is_entry, IsTypedEntry, entry_line, is_time_if_any}
+use Rattle.history.specs.Entries.{LogEntry, header, call, stated, is_sayable_entry, IsTypedEntry, entry_line}
+use Rattle.history.specs.Entries.{is_time_if_any}
 use Rattle.history.specs.Logs.{Sayable, log_text, LogPlace, begun_at, past, FitsAt, IsHistory}
 use Rattle.history.specs.Recording.{log_line_room, cannot_follow, entry_rows, recorded_by, advanced, recorder_after}
 use Rattle.history.specs.Recording.{Asked, begins, makes, states, asked_entry, recorder_begun, entry_if_served}
@@ -43,7 +46,7 @@ module _ (r : Recorder) (p : LogPlace) (k : KeptAt r p) where
   typed (makes c) h = h
   typed (states s) h = (k.few, k.within)
 
-  kept_past : (a : Asked) → is_entry (asked_entry r a) ≡ true → cannot_follow r (asked_entry r a) ≡ false
+  kept_past : (a : Asked) → is_sayable_entry (asked_entry r a) ≡ true → cannot_follow r (asked_entry r a) ≡ false
       → KeptAt (advanced r (asked_entry r a)) (past p (asked_entry r a))
   kept_past (begins t) e h = record {
     file = refl;
@@ -69,7 +72,7 @@ module _ (r : Recorder) (p : LogPlace) (k : KeptAt r p) where
 
 -- served, or refused and nothing kept or written
 data Tried (r : Recorder) (e : LogEntry) (room : ℕ) : Type 0 where
-  served : is_entry e ≡ true → cannot_follow r e ≡ false
+  served : is_sayable_entry e ≡ true → cannot_follow r e ≡ false
       → entry_if_served (recorded_by r e room) e ≡ e ∷ []
       → (recorded_by r e room).bytes ≡ entry_line e
       → recorder_after r e room ≡ advanced r e
@@ -81,9 +84,10 @@ data Tried (r : Recorder) (e : LogEntry) (room : ℕ) : Type 0 where
 
 tried : (r : Recorder) (e : LogEntry) (room : ℕ) → Tried r e room
 unfolding recorded_by recorder_after
-tried r e room = by (nat_lt room log_line_room) (is_entry e) (cannot_follow r e) refl refl refl
+tried r e room = by (nat_lt room log_line_room) (is_sayable_entry e) (cannot_follow r e) refl refl refl
   where
-    by : (a b c : Bool) → nat_lt room log_line_room ≡ a → is_entry e ≡ b → cannot_follow r e ≡ c → Tried r e room
+    by : (a b c : Bool) → nat_lt room log_line_room ≡ a → is_sayable_entry e ≡ b → cannot_follow r e ≡ c
+        → Tried r e room
     by true b c p q s = refused (simp p) (simp p) (simp p)
     by false false c p q s = refused (simp (p, q)) (simp (p, q)) (simp (p, q))
     by false true true p q s = refused (simp (p, q, s)) (simp (p, q, s)) (simp (p, q, s))
@@ -94,7 +98,8 @@ pub record Recorded (p : LogPlace) (r : Recorder) (asked : List (Asked × ℕ)) 
   pub sayable : Sayable (entries_recorded r asked)
   pub written : bytes_recorded r asked ≡ log_text (entries_recorded r asked)
 
-recorded_from : (asked : List (Asked × ℕ)) (r : Recorder) (p : LogPlace) → KeptAt r p → AreTyped asked → Recorded p r asked
+recorded_from : (asked : List (Asked × ℕ)) (r : Recorder) (p : LogPlace) → KeptAt r p → AreTyped asked
+    → Recorded p r asked
 recorded_from [] r p k t = record { history = tt; sayable = tt; written = refl }
 recorded_from ((a, room) ∷ more) r p k (t, ts) =
     let e = asked_entry r a in

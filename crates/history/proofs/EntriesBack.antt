@@ -2,7 +2,8 @@
 -- Assumes nothing.
 use Rattle.std.specs.List.{list_all}
 use Rattle.std.proofs.Common.{ℕ, zero, suc, ◌+◌, ◌≤◌, ◌<◌, ◌^◌, ◌≡◌, Bool, true, false, not, ◌&&◌, List, [], ◌∷◌, ◌++◌}
-use Rattle.std.proofs.Common.{arith, length, nat_le, leb-true, le-leb, eqb-true, eq-eqb, ◌==◌, ap, ◌∙◌, refl, sym, codes}
+use Rattle.std.proofs.Common.{arith, length, nat_le, leb-true, le-leb, eqb-true, eq-eqb, ◌==◌, ap, ◌∙◌, refl, sym}
+use Rattle.std.proofs.Common.{codes}
 use Rattle.std.proofs.Common.{Option, Some, None, take, drop, append_assoc, length-append}
 use Rattle.std.proofs.Math.Seq.{take-append_seam, drop-append_seam}
 use Rattle.std.proofs.lemmas.Bool.{not-true}
@@ -16,9 +17,12 @@ use Rattle.digest.specs.Hex.{hex_digits, hex_value, is_hex_digit}
 use Rattle.digest.proofs.Laws.{length-hex_digits, hex_digits_are_digits, hex_value_back}
 use Rattle.words.specs.Codec.{◌>>=◌}
 use Rattle.history.specs.Calls.{LogCall, opens, receives, passes, closes, marks, reports, enables}
-use Rattle.history.specs.Lines.{is_plain, number_in, number_most, call_text, bytes_text, hex_placed, is_command, call_in}
-use Rattle.history.specs.Entries.{LogEntry, header, call, stated, is_entry, IsTypedEntry, is_time, is_time_if_any, time_text}
-use Rattle.history.specs.Entries.{shown_most, summed_text, entry_text, first_word, past_word, sum_in, summed_in, header_of}
+use Rattle.history.specs.Lines.{is_plain, decimal_in, number_most, call_text, bytes_text, hex_placed, is_command_line}
+use Rattle.history.specs.Lines.{call_in}
+use Rattle.history.specs.Entries.{LogEntry, header, call, stated, is_sayable_entry, IsTypedEntry, is_time}
+use Rattle.history.specs.Entries.{is_time_if_any, time_text}
+use Rattle.history.specs.Entries.{shown_most, summed_text, entry_text, first_word, past_word, sum_in, summed_in}
+use Rattle.history.specs.Entries.{header_of}
 use Rattle.history.specs.Entries.{stated_of, header_in, stated_in, entry_in}
 use Rattle.history.proofs.Back.{number_back, call_back}
 
@@ -48,14 +52,16 @@ word_then (b ∷ w) rest h =
           ∙ more.past;
     }
 
-sum_taken : (w rest : List ℕ) → length w ≡ 8 → list_all is_hex_digit w ≡ true → sum_in (w ++ rest) ≡ Some (hex_value w, rest)
+sum_taken : (w rest : List ℕ) → length w ≡ 8 → list_all is_hex_digit w ≡ true
+    → sum_in (w ++ rest) ≡ Some (hex_value w, rest)
 unfolding sum_in
 sum_taken w rest long digits =
     let front : take 8 (w ++ rest) ≡ w
     = ap (λ (n : ℕ). take n (w ++ rest)) (sym long) ∙ take-append_seam w rest in
     let back : drop 8 (w ++ rest) ≡ rest
     = ap (λ (n : ℕ). drop n (w ++ rest)) (sym long) ∙ drop-append_seam w rest in
-    let some : nat_le 8 (length (w ++ rest)) ≡ true = le-leb 8 (length (w ++ rest)) (omega (arith, length-append w rest)) in
+    let some : nat_le 8 (length (w ++ rest)) ≡ true
+    = le-leb 8 (length (w ++ rest)) (omega (arith, length-append w rest)) in
     if_yes _ _ (both some (ap (list_all is_hex_digit) front ∙ digits)) ∙ (λ i. Some (hex_value (front i), back i))
 
 sum_back : (s : ℕ) (rest : List ℕ) → s < 2 ^ 32 → sum_in (hex_digits 8 s ++ rest) ≡ Some (s, rest)
@@ -68,12 +74,13 @@ summed_back : (n s : ℕ) (rest : List ℕ) → n < 2 ^ 32 → s < 2 ^ 32
 unfolding summed_in
 summed_back n s rest hn hs =
     let w = digits n in
-    let parts = word_then w (hex_digits 8 s ++ rest) (digits_without " " (omega arith) n) in
+    let behind = hex_digits 8 s ++ rest in
+    let parts = word_then w behind (digits_without " " (omega arith) n) in
     let regrouped : summed_text n s ++ rest ≡ w ++ (code " " ∷ (hex_digits 8 s ++ rest))
     = append_assoc (w ++ codes " ") (hex_digits 8 s) rest ∙ append_assoc w (codes " ") (hex_digits 8 s ++ rest) in
     ap summed_in regrouped
-    ∙ ap (λ (o : Option ℕ). o >>= λ n. sum_in (past_word (w ++ (code " " ∷ (hex_digits 8 s ++ rest)))) >>= λ r. Some (n, r))
-    (ap number_in parts.word ∙ number_back n hn)
+    ∙ ap (λ (o : Option ℕ). o >>= λ n. sum_in (past_word (w ++ (code " " ∷ behind))) >>= λ r. Some (n, r))
+    (ap decimal_in parts.word ∙ number_back n hn)
     ∙ ap (λ (l : List ℕ). sum_in l >>= λ r. Some (n, r)) parts.past
     ∙ ap (λ (o : Option (ℕ × List ℕ)). o >>= λ r. Some (n, r)) (sum_back s rest hs)
 
@@ -100,15 +107,15 @@ hex_apart p (b ∷ bs) = refl
 call_apart : (c : LogCall) → Apart (call_text c)
 unfolding call_text bytes_text entry_in
 call_apart (opens p r) = refl
-call_apart (receives p bs) = if_all Apart (is_command bs) refl (hex_apart p bs)
+call_apart (receives p bs) = if_all Apart (is_command_line bs) refl (hex_apart p bs)
 call_apart (passes n) = refl
 call_apart (closes p) = refl
 call_apart (marks m) = refl
 call_apart (reports ds) = refl
 call_apart (enables k m) = refl
 
-pub entry_back : (e : LogEntry) → IsTypedEntry e → is_entry e ≡ true → entry_in (entry_text e) ≡ Some e
-unfolding entry_text is_entry entry_in header_in stated_in
+pub entry_back : (e : LogEntry) → IsTypedEntry e → is_sayable_entry e ≡ true → entry_in (entry_text e) ≡ Some e
+unfolding entry_text is_sayable_entry entry_in header_in stated_in
 entry_back (header f s t) typed h =
     let few = both_left (nat_le 1 f && nat_le f number_most) (is_time_if_any t) h in
     let some = leb-true 1 f (both_left (nat_le 1 f) (nat_le f number_most) few) in

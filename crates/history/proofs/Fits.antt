@@ -1,8 +1,10 @@
 -- What a line takes.
 -- Assumes nothing.
 use Rattle.std.specs.List.{list_all}
-use Rattle.std.proofs.Common.{ℕ, ◌+◌, ◌*◌, ◌-◌, ◌≤◌, ◌<◌, ◌≡◌, true, false, ◌&&◌, List, [], ◌∷◌, ◌++◌, arith, length, nat_le}
-use Rattle.std.proofs.Common.{Option, Some, None, leb-true, eqb-true, codes, length-append, length-take-le, ◌==◌, ap, ◌∙◌, refl}
+use Rattle.std.proofs.Common.{ℕ, ◌+◌, ◌*◌, ◌-◌, ◌≤◌, ◌<◌, ◌≡◌, true, false, ◌&&◌, List, [], ◌∷◌, ◌++◌, arith, length}
+use Rattle.std.proofs.Common.{nat_le}
+use Rattle.std.proofs.Common.{Option, Some, None, leb-true, eqb-true, codes, length-append, length-take-le, ◌==◌, ap}
+use Rattle.std.proofs.Common.{◌∙◌, refl}
 use Rattle.std.proofs.lemmas.List.{length-map}
 use Prim.Native.Char.{code}
 use Rattle.text.proofs.Choices.{if_all, both_left, both_right}
@@ -15,12 +17,14 @@ use Rattle.words.specs.ErrorDigits.{errors_text, is_errors, is_error_digit}
 use Rattle.words.specs.Inputs.{number_digit}
 use Rattle.history.specs.Calls.{LogCall, opens, receives, passes, closes, marks, reports, enables, is_sayable}
 use Rattle.history.specs.Calls.{received_most, is_place_number}
-use Rattle.history.specs.Entries.{LogEntry, header, call, stated, is_entry, is_time, is_time_if_any, time_text, summed_text}
+use Rattle.history.specs.Entries.{LogEntry, header, call, stated, is_sayable_entry, is_time, is_time_if_any, time_text}
+use Rattle.history.specs.Entries.{summed_text}
 use Rattle.history.specs.Entries.{shown_most, entry_text}
-use Rattle.history.specs.Lines.{is_plain, number_most, is_command, front, bytes_text, hex_placed, hex_text, call_text}
+use Rattle.history.specs.Lines.{is_plain, number_most, is_command_line, front, bytes_text, hex_placed, hex_text}
+use Rattle.history.specs.Lines.{call_text}
 
-pub command_some : (bs : List ℕ) → is_command bs ≡ true → 1 ≤ length bs
-unfolding is_command
+pub command_some : (bs : List ℕ) → is_command_line bs ≡ true → 1 ≤ length bs
+unfolding is_command_line
 command_some bs h = grind arith
 
 pub length-hex_text : (bs : List ℕ) → length (hex_text bs) ≡ 2 * length bs
@@ -39,7 +43,7 @@ hex_fits p (b ∷ bs) h = omega (arith, length-hex_text (b ∷ bs))
 bytes_fit : (p : ℕ) (bs : List ℕ) → length bs ≤ received_most → length (bytes_text p bs) ≤ 4096
 unfolding bytes_text
 bytes_fit p bs h =
-    if_all (λ (l : List ℕ). length l ≤ 4096) (is_command bs) (omega (arith, length-front bs)) (hex_fits p bs h)
+    if_all (λ (l : List ℕ). length l ≤ 4096) (is_command_line bs) (omega (arith, length-front bs)) (hex_fits p bs h)
 
 pub call_fits : (c : LogCall) → is_sayable c ≡ true → length (call_text c) ≤ 4096
 unfolding call_text is_sayable
@@ -75,8 +79,8 @@ unfolding is_time
 time_fits None h = omega arith
 time_fits (Some t) h = grind arith
 
-pub entry_fits : (e : LogEntry) → is_entry e ≡ true → length (entry_text e) ≤ 4096
-unfolding entry_text is_entry
+pub entry_fits : (e : LogEntry) → is_sayable_entry e ≡ true → length (entry_text e) ≤ 4096
+unfolding entry_text is_sayable_entry
 entry_fits (header f s t) h =
     let short = time_fits t (both_right (nat_le 1 f && nat_le f number_most) (is_time_if_any t) h) in
     omega (arith, summed_fits f s, short, length-append (codes "LOG 2 " ++ summed_text f s) (time_text t))

@@ -1,6 +1,6 @@
 pub mod Numbers
 pub mod Fits
-mod Writing
+pub mod Writing
 pub mod Back
 pub mod EntriesBack
 pub mod Printable

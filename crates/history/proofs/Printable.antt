@@ -1,7 +1,8 @@
 -- A line is printable ASCII; so it has no LF in it, and its bytes are bytes.
 -- Assumes nothing.
 use Rattle.std.specs.List.{list_all}
-use Rattle.std.proofs.Common.{ℕ, ◌+◌, ◌≡◌, Bool, true, false, not, ◌&&◌, List, [], ◌∷◌, ◌++◌, arith, length, nat_le, ◌==◌, refl}
+use Rattle.std.proofs.Common.{ℕ, ◌+◌, ◌≡◌, Bool, true, false, not, ◌&&◌, List, [], ◌∷◌, ◌++◌, arith, length, nat_le}
+use Rattle.std.proofs.Common.{◌==◌, refl}
 use Rattle.std.proofs.Common.{zero, suc, ◌<◌, ◌≤◌, codes, Option, Some, None, leb-true, slice_index_or}
 use Rattle.std.proofs.lemmas.Bool.Decides.{nat_tests}
 use Rattle.text.specs.Words.{◌is◌}
@@ -16,9 +17,11 @@ use Rattle.words.specs.ErrorDigits.{errors_text, is_errors, is_error_digit}
 use Rattle.words.specs.Inputs.{number_digit}
 use Rattle.history.specs.Calls.{LogCall, opens, receives, passes, closes, marks, reports, enables, is_sayable}
 use Rattle.history.specs.Calls.{is_place_number, is_lamp_number, received_most}
-use Rattle.history.specs.Lines.{figure, switch_figure, is_printable, is_plain, front, is_command, hex_text, hex_placed}
+use Rattle.history.specs.Lines.{figure, switch_figure, is_printable, is_plain, front, is_command_line, hex_text}
+use Rattle.history.specs.Lines.{hex_placed}
 use Rattle.history.specs.Lines.{bytes_text, call_text}
-use Rattle.history.specs.Entries.{LogEntry, header, call, stated, is_entry, is_visible, is_time, is_time_if_any, time_text}
+use Rattle.history.specs.Entries.{LogEntry, header, call, stated, is_sayable_entry, is_visible, is_time, is_time_if_any}
+use Rattle.history.specs.Entries.{time_text}
 use Rattle.history.specs.Entries.{shown_most, summed_text, entry_text, entry_line}
 use Rattle.history.specs.Lines.{number_most}
 
@@ -39,7 +42,8 @@ digits_printable : (n : ℕ) → list_all is_printable (digits n) ≡ true
 digits_printable n = list_all_implies is_digit is_printable decimal_printable (digits n) (digits_are_digits n)
 
 hex_printable : (n x : ℕ) → list_all is_printable (hex_digits n x) ≡ true
-hex_printable n x = list_all_implies is_hex_digit is_printable hex_digit_printable (hex_digits n x) (hex_digits_are_digits n x)
+hex_printable n x =
+    list_all_implies is_hex_digit is_printable hex_digit_printable (hex_digits n x) (hex_digits_are_digits n x)
 
 visible_printable : (b : ℕ) → is_visible b ≡ true → is_printable b ≡ true
 visible_printable b h = grind (arith, nat_tests)
@@ -51,18 +55,19 @@ plain_printable : (s : List ℕ) → is_plain s ≡ true → list_all is_printab
 unfolding is_plain
 plain_printable s h = both_right _ (list_all is_printable s) h
 
-front_printable : (bs : List ℕ) → is_command bs ≡ true → list_all is_printable (front bs) ≡ true
-unfolding is_command
+front_printable : (bs : List ℕ) → is_command_line bs ≡ true → list_all is_printable (front bs) ≡ true
+unfolding is_command_line
 front_printable bs h = plain_printable (front bs) (both_right _ (is_plain (front bs)) h)
 
 in_hex_printable : (p : ℕ) (bs : List ℕ) → p ≤ 9 → list_all is_printable (hex_placed p bs) ≡ true
 in_hex_printable p [] h = both (figure_printable p h) refl
-in_hex_printable p (b ∷ bs) h = both (figure_printable p h) (list_all-each_in_turn (hex_digits 2) is_printable (hex_printable 2) (b ∷ bs))
+in_hex_printable p (b ∷ bs) h = both (figure_printable p h)
+    (list_all-each_in_turn (hex_digits 2) is_printable (hex_printable 2) (b ∷ bs))
 
 bytes_printable : (p : ℕ) (bs : List ℕ) → p ≤ 9 → list_all is_printable (bytes_text p bs) ≡ true
 unfolding bytes_text
 bytes_printable p bs h =
-    if_by (λ (l : List ℕ). list_all is_printable l ≡ true) (is_command bs)
+    if_by (λ (l : List ℕ). list_all is_printable l ≡ true) (is_command_line bs)
     (λ e. both (figure_printable p h) (front_printable bs e))
     (λ e. in_hex_printable p bs h)
 
@@ -93,10 +98,11 @@ summed_printable n s =
 time_printable : (t : Option (List ℕ)) → is_time_if_any t ≡ true → list_all is_printable (time_text t) ≡ true
 unfolding is_time
 time_printable None h = refl
-time_printable (Some t) h = list_all_implies is_visible is_printable visible_printable t (both_right _ (list_all is_visible t) h)
+time_printable (Some t) h =
+    list_all_implies is_visible is_printable visible_printable t (both_right _ (list_all is_visible t) h)
 
-pub entry_printable : (e : LogEntry) → is_entry e ≡ true → list_all is_printable (entry_text e) ≡ true
-unfolding entry_text is_entry
+pub entry_printable : (e : LogEntry) → is_sayable_entry e ≡ true → list_all is_printable (entry_text e) ≡ true
+unfolding entry_text is_sayable_entry
 entry_printable (header f s t) h =
     list_all-append is_printable (codes "LOG 2 " ++ summed_text f s) (time_text t)
     (list_all-append is_printable (codes "LOG 2 ") (summed_text f s) refl (summed_printable f s))
@@ -113,14 +119,14 @@ not_lf b = not (b is "\n")
 printable_no_lf : (b : ℕ) → is_printable b ≡ true → not_lf b ≡ true
 printable_no_lf b h = grind (arith, nat_tests)
 
-pub entry_no_lf : (e : LogEntry) → is_entry e ≡ true → list_all not_lf (entry_text e) ≡ true
+pub entry_no_lf : (e : LogEntry) → is_sayable_entry e ≡ true → list_all not_lf (entry_text e) ≡ true
 entry_no_lf e h = list_all_implies is_printable not_lf printable_no_lf (entry_text e) (entry_printable e h)
 
 byte_at : (b : ℕ) → is_printable b ≡ true → b < 256
 byte_at b h = grind (arith, nat_tests)
 
 -- each byte of a line is one
-pub line_bytes : (e : LogEntry) → is_entry e ≡ true → (k : ℕ) → slice_index_or (entry_line e) k 0 < 256
+pub line_bytes : (e : LogEntry) → is_sayable_entry e ≡ true → (k : ℕ) → slice_index_or (entry_line e) k 0 < 256
 line_bytes e h k = bytes_then (entry_text e) (entry_printable e h) k
   where
     bytes_then : (s : List ℕ) → list_all is_printable s ≡ true → (k : ℕ) → slice_index_or (s ++ codes "\n") k 0 < 256

@@ -6,7 +6,7 @@
 --   entry_text e      its line without LF, `LOG 2 1 0a1b2c3d 2026-11-27T05:45:09Z` or `S 12 0a1b2c3d power 1 lamps 60`;
 --                     that of a call is the call's
 --   entry_line e      the line
---   is_entry e        a line can say it
+--   is_sayable_entry e        a line can say it
 --   entry_in l        the entry that the line l says, without its LF
 -- Assumes nothing.
 use Rattle.std.specs.List.{list_all}
@@ -20,7 +20,7 @@ use Rattle.numbers.specs.Decimal.{digits}
 use Rattle.digest.specs.Hex.{hex_digits, hex_value, is_hex_digit}
 use Rattle.words.specs.Codec.{◌>>=◌}
 use Rattle.history.specs.Calls.{LogCall, call_seen, is_sayable, IsTyped}
-use Rattle.history.specs.Lines.{is_plain, call_text, number_in, number_most, call_in}
+use Rattle.history.specs.Lines.{is_plain, call_text, decimal_in, number_most, call_in}
 use Rattle.history.specs.declared.entry.Header.{Header}
 use Rattle.history.specs.declared.entry.Stated.{Stated}
 use Rattle.history.specs.declared.entry.Entry.{Entry}
@@ -55,10 +55,10 @@ abbrev pub is_time_if_any : Option (List ℕ) → Bool
 is_time_if_any None = true
 is_time_if_any (Some t) = is_time t
 
-unfoldable pub is_entry : LogEntry → Bool
-is_entry (header f s t) = nat_le 1 f && nat_le f number_most && is_time_if_any t
-is_entry (call c) = is_sayable c
-is_entry (stated n s shown) = is_plain shown && nat_le (length shown) shown_most
+unfoldable pub is_sayable_entry : LogEntry → Bool
+is_sayable_entry (header f s t) = nat_le 1 f && nat_le f number_most && is_time_if_any t
+is_sayable_entry (call c) = is_sayable c
+is_sayable_entry (stated n s shown) = is_plain shown && nat_le (length shown) shown_most
 
 abbrev pub IsTypedEntry : LogEntry → Type 0
 IsTypedEntry (header f s t) = s < 2 ^ 32
@@ -95,7 +95,7 @@ sum_in s =
     if nat_le 8 (length s) && list_all is_hex_digit (take 8 s) then Some (hex_value (take 8 s), drop 8 s) else None
 
 unfoldable pub summed_in : List ℕ → Option (ℕ × (ℕ × List ℕ))
-summed_in s = number_in (first_word s) >>= λ n. sum_in (past_word s) >>= λ r. Some (n, r)
+summed_in s = decimal_in (first_word s) >>= λ n. sum_in (past_word s) >>= λ r. Some (n, r)
 
 unfoldable pub header_of : ℕ → ℕ → List ℕ → Option LogEntry
 header_of f s [] = if nat_le 1 f then Some (header f s None) else None

@@ -1,9 +1,9 @@
 -- The line of a call, without its LF, and the call of such a line (RULES, History of a board).
 --   figure n           the character of a number below ten
---   is_command bs      the bytes are a line of a controller: printable ASCII, at least one, the last of them no space,
---                      and one CR behind; it is said as text, any other bytes in hex
+--   is_command_line bs the bytes are a line of a controller: printable ASCII, at least one, the last of them no
+--                      space, and one CR behind; it is said as text, any other bytes in hex
 --   call_text c        `O 2 0a1b2c3d`, `R 2 %1POWR 1`, `B 2 0d0aff`, `B 3`, `T 60`, `X 2`, `F 1`, `E 012000`, `M 2 0`
---   number_in s        the number that s is written for: its decimal digits, no zero before them
+--   decimal_in s       the number that s is written for: its decimal digits, no zero before them
 --   call_in l          the call that the line l says
 -- Assumes nothing.
 use Rattle.std.specs.List.{list_all}
@@ -35,8 +35,8 @@ is_plain s = nat_le 1 (length s) && not (s at (length s - 1) is " ") && list_all
 abbrev pub front : List ℕ → List ℕ
 front bs = take (length bs - 1) bs
 
-unfoldable pub is_command : List ℕ → Bool
-is_command bs = nat_le 1 (length bs) && bs at (length bs - 1) is "\r" && is_plain (front bs)
+unfoldable pub is_command_line : List ℕ → Bool
+is_command_line bs = nat_le 1 (length bs) && bs at (length bs - 1) is "\r" && is_plain (front bs)
 
 abbrev pub hex_text : List ℕ → List ℕ
 hex_text bs = each_in_turn (hex_digits 2) bs
@@ -53,7 +53,7 @@ hex_placed p [] = place_head (code "B") p
 hex_placed p (b ∷ bs) = placed_text "B" p (hex_text (b ∷ bs))
 
 unfoldable pub bytes_text : ℕ → List ℕ → List ℕ
-bytes_text p bs = if is_command bs then placed_text "R" p (front bs) else hex_placed p bs
+bytes_text p bs = if is_command_line bs then placed_text "R" p (front bs) else hex_placed p bs
 
 unfoldable pub call_text : LogCall → List ℕ
 call_text (opens p r) = placed_text "O" p (hex_digits 8 r)
@@ -72,8 +72,8 @@ number_most = 4294967295
 abbrev pub is_shortest : List ℕ → Bool
 is_shortest s = length s == 1 || not (s at 0 is "0")
 
-unfoldable pub number_in : List ℕ → Option ℕ
-number_in s =
+unfoldable pub decimal_in : List ℕ → Option ℕ
+decimal_in s =
     if nat_le 1 (length s) && nat_le (length s) 10 && is_shortest s && list_all is_digit s
     && nat_le (decimal_value s) number_most
     then Some (decimal_value s)
@@ -96,12 +96,12 @@ hex_bytes (a ∷ b ∷ s) = hex_value (a ∷ b ∷ []) ∷ hex_bytes s
 unfoldable pub hex_in : ℕ → List ℕ → Option LogCall
 hex_in p s =
     if nat_le 2 (length s) && nat_le (length s) (2 * received_most) && length s % 2 == 0 && list_all is_hex_digit s
-    && not (is_command (hex_bytes s))
+    && not (is_command_line (hex_bytes s))
     then Some (receives p (hex_bytes s))
     else None
 
 unfoldable pub passing_in : List ℕ → Option LogCall
-passing_in s = number_in s >>= λ n. Some (passes n)
+passing_in s = decimal_in s >>= λ n. Some (passes n)
 
 unfoldable pub errors_in : List ℕ → Option LogCall
 errors_in s = whole_value errors_read s >>= λ ds. Some (reports ds)

@@ -1,7 +1,7 @@
--- A log as lines (RULES, History of a board): each ends with LF, and what stands behind the last LF is no line. And what
--- makes it the history of a board: it begins with the header of file 1, each header and stated line has the sum of all
--- that came before it, the stored form first, a header the next number, and a stated line the count of lines since the
--- header.
+-- A log as lines (RULES, History of a board): each ends with LF, and what stands behind the last LF is no line. And
+-- what makes it the history of a board: it begins with the header of file 1, each header and stated line has the sum of
+-- all that came before it, the stored form first, a header the next number, and a stated line the count of lines since
+-- the header.
 --   Sayable es         each of the entries es can be said by a line
 --   log_text es        the lines of the entries es, one after the other
 --   lines_ended g log  the lines of a log of which the first has begun with g
@@ -17,11 +17,11 @@ use Rattle.std.specs.Prelude.{ℕ, ◌+◌, ◌≡◌, ◌≤◌, true, List, []
 use Rattle.text.specs.Words.{◌is◌}
 use Rattle.text.specs.InTurn.{each_in_turn}
 use Rattle.crc32.specs.Crc.{crc32_of}
-use Rattle.history.specs.Entries.{LogEntry, header, call, stated, is_entry, IsTypedEntry, entry_line, entry_in}
+use Rattle.history.specs.Entries.{LogEntry, header, call, stated, is_sayable_entry, IsTypedEntry, entry_line, entry_in}
 
 abbrev pub Sayable : List LogEntry → Type 0
 Sayable [] = Unit {0}
-Sayable (e ∷ es) = IsTypedEntry e × (is_entry e ≡ true) × Sayable es
+Sayable (e ∷ es) = IsTypedEntry e × (is_sayable_entry e ≡ true) × Sayable es
 
 abbrev pub log_text : List LogEntry → List ℕ
 log_text es = each_in_turn entry_line es

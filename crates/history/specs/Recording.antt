@@ -7,10 +7,11 @@
 --   advanced r e         what is kept after the line
 --   recorder_after r e room   what is kept after the call: refused, what was kept
 --   header_next r t      the header of the next file;    stated_next r shown   a stated line
---   stated_by r d room   refused with 1 where the record d is not legal, else its stated line; stated_after, what is kept
+--   stated_by r d room   refused with 1 where the record d is not legal, else its stated line;
+--   stated_after r d room   what is kept after that
 --   Asked                what the recorder is asked to record;    asked_entry r a   the entry of that
 --   recorder_begun form  what is kept before the first file
---   entries_recorded r asked   what is recorded of what is asked, each time with so much memory; what is refused is left out
+--   entries_recorded r asked   what is recorded of what is asked, each time with so much memory; refused is left out
 --   bytes_recorded r asked     what is written
 --   AreTyped asked          the calls asked have the numbers of the code's types
 -- Assumes nothing.
@@ -22,7 +23,7 @@ use Rattle.record.specs.declared.types.Device.{Device}
 use Rattle.crc32.specs.Crc.{crc32_on, crc32_of}
 use Rattle.history.specs.Calls.{LogCall, IsTyped}
 use Rattle.history.specs.Lines.{number_most}
-use Rattle.history.specs.Entries.{LogEntry, header, call, stated, is_entry, entry_line}
+use Rattle.history.specs.Entries.{LogEntry, header, call, stated, is_sayable_entry, entry_line}
 use Rattle.history.specs.Shown.{device_shown}
 use Rattle.history.specs.declared.recorder.Recorder.{Recorder}
 
@@ -35,7 +36,7 @@ cannot_follow r e = r.file == 0 || r.lines == number_most
 
 abbrev pub entry_rows : Recorder → LogEntry → ℕ → List Row
 entry_rows r e room =
-    (2 when nat_lt room log_line_room) ∷ (3 when not (is_entry e)) ∷ (3 when cannot_follow r e) ∷ []
+    (2 when nat_lt room log_line_room) ∷ (3 when not (is_sayable_entry e)) ∷ (3 when cannot_follow r e) ∷ []
 
 unfoldable pub recorded_by : Recorder → LogEntry → ℕ → WrittenAs
 recorded_by r e room = by_rows (entry_rows r e room) nothing_written (record { number = 0; bytes = entry_line e })

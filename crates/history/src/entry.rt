@@ -1,7 +1,7 @@
 // What a line of a log says.
 ghost use Rattle.std.specs.Prelude.{◌≡◌};
 ghost use Rattle.std.specs.List.{list_all};
-ghost use Rattle.history.specs.Entries.{entry_seen, is_entry, is_visible, is_time};
+ghost use Rattle.history.specs.Entries.{entry_seen, is_sayable_entry, is_visible, is_time};
 
 use crate::call::Call;
 use crate::put;
@@ -61,10 +61,11 @@ pub fn is_time(t: &[u8]) -> bool
 
 impl Entry<'_> {
     /// Whether a line can say it: a header of a file from 1 on, with a start time that it can have; a call that a line
-    /// can say ([`Call::is_sayable`]); of what a record shows 1 to 128 characters ` ` to `~`, the last of them no space.
-    #[tactic(auto, unfolding(crate::specs::Entries::is_entry))]
+    /// can say ([`Call::is_sayable`]); of what a record shows 1 to 128 characters ` ` to `~`, the last of them no
+    /// space.
+    #[tactic(auto, unfolding(crate::specs::Entries::is_sayable_entry))]
     pub fn is_sayable(&self) -> bool
-        ensures { result ≡ is_entry (entry_seen self.now) }
+        ensures { result ≡ is_sayable_entry (entry_seen self.now) }
     {
         match self {
             Entry::Header(header) => {

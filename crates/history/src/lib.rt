@@ -1,5 +1,5 @@
-//! The history of a board as a log (RULES, History of a board): the line of a call that can change a record, and the
-//! call of such a line.
+//! The history of a board as a log (RULES, History of a board): the lines of a header, of a call that can change a
+//! record and of what a record shows, their reading, and the recorder.
 #![tactic(auto)]
 
 pub mod call;
@@ -8,4 +8,6 @@ mod put;
 pub mod read;
 pub mod recorder;
 pub mod shown;
+#[cfg(test)]
+mod tests;
 pub mod theorems;

@@ -5,9 +5,9 @@ ghost use Rattle.lent.specs.Puts.{Puts};
 ghost use Rattle.numbers.specs.Decimal.{digits};
 ghost use Rattle.words.specs.ErrorDigits.{errors_text};
 ghost use Rattle.history.specs.Calls.{call_seen, is_sayable, is_place_number, received_most};
-ghost use Rattle.history.specs.Lines.{is_printable, is_plain, is_command, hex_text, place_head, bytes_text};
+ghost use Rattle.history.specs.Lines.{is_printable, is_plain, is_command_line, hex_text, place_head, bytes_text};
 ghost use Rattle.history.specs.Lines.{switch_figure, call_text};
-ghost use Rattle.history.specs.Entries.{summed_text, time_text, time_seen, entry_seen, entry_text, is_entry};
+ghost use Rattle.history.specs.Entries.{summed_text, time_text, time_seen, entry_seen, entry_text, is_sayable_entry};
 
 use crate::call::Call;
 use crate::entry::Entry;
@@ -41,9 +41,9 @@ pub fn is_plain(s: &[u8]) -> bool
 }
 
 /// Whether the bytes are one line of a controller, which is said as text.
-#[tactic(auto, unfolding(crate::specs::Lines::is_command))]
-pub fn is_command(bytes: &[u8]) -> bool
-    ensures { result ≡ is_command bytes.now }
+#[tactic(auto, unfolding(crate::specs::Lines::is_command_line))]
+pub fn is_command_line(bytes: &[u8]) -> bool
+    ensures { result ≡ is_command_line bytes.now }
 {
     let n = bytes.len();
     if n < 1 || bytes[n - 1] != b'\r' {
@@ -73,7 +73,7 @@ fn errors(w: &mut Writer<'_>, digits: &Errors)
     }
 }
 
-#[tactic(auto, using(numbers::proofs::Digits::digits_at_most_10))]
+#[tactic(auto, using(crate::proofs::Writing::steps))]
 fn number(w: &mut Writer<'_>, n: u32)
     requires short { w.old.at ≤ 100 }
     ensures { Puts w.old w.new (digits n) }
@@ -98,14 +98,14 @@ fn head(w: &mut Writer<'_>, letter: u8, place: u8)
     w.bytes(&[letter, b' ', b'0' + place]);
 }
 
-#[tactic(auto, unfolding(crate::specs::Lines::bytes_text), using(crate::proofs::Fits::command_some, lent::proofs::Writing::puts_then))]
+#[tactic(auto, unfolding(crate::specs::Lines::bytes_text), using(crate::proofs::Writing::steps))]
 fn bytes(w: &mut Writer<'_>, place: u8, bytes: &[u8])
     requires first { w.old.at ≡ 0 }
     requires there { is_place_number place ≡ true }
     requires fits { length bytes.now ≤ received_most }
     ensures { Puts w.old w.new (bytes_text place bytes.now) }
 {
-    if is_command(bytes) {
+    if is_command_line(bytes) {
         head(w, b'R', place);
         w.byte(b' ');
         w.bytes(&bytes[..bytes.len() - 1]);
@@ -119,7 +119,7 @@ fn bytes(w: &mut Writer<'_>, place: u8, bytes: &[u8])
 }
 
 /// Puts the line of a call, without its LF.
-#[tactic(auto, unfolding(crate::specs::Lines::call_text, crate::specs::Calls::is_sayable), using(lent::proofs::Writing::puts_then))]
+#[tactic(auto, unfolding(crate::specs::Lines::call_text, crate::specs::Calls::is_sayable), using(crate::proofs::Writing::steps))]
 pub fn call(w: &mut Writer<'_>, call: &Call<'_>)
     requires first { w.old.at ≡ 0 }
     requires sayable { is_sayable (call_seen call.now) ≡ true }
@@ -150,7 +150,7 @@ pub fn call(w: &mut Writer<'_>, call: &Call<'_>)
 }
 
 // A number, a space, a sum.
-#[tactic(auto, using(lent::proofs::Writing::puts_then, numbers::proofs::Digits::digits_at_most_10))]
+#[tactic(auto, using(crate::proofs::Writing::steps))]
 fn summed(w: &mut Writer<'_>, n: u32, sum: u32)
     requires short { w.old.at ≤ 6 }
     ensures written { Puts w.old w.new (summed_text n sum) }
@@ -162,7 +162,7 @@ fn summed(w: &mut Writer<'_>, n: u32, sum: u32)
 }
 
 // A space and what stands at the end of a line.
-#[tactic(auto, using(lent::proofs::Writing::puts_then))]
+#[tactic(auto, using(crate::proofs::Writing::steps))]
 fn ending(w: &mut Writer<'_>, s: &[u8])
     requires { w.old.at + 1 + length s.now < 2 ^ 64 }
     ensures { Puts w.old w.new (codes " " ++ s.now) }
@@ -181,10 +181,10 @@ fn time(w: &mut Writer<'_>, time: Option<&[u8]>)
 }
 
 /// Puts what a line says, without its LF.
-#[tactic(auto, unfolding(crate::specs::Entries::entry_text, crate::specs::Entries::is_entry), using(lent::proofs::Writing::puts_then, crate::proofs::Fits::stated_short))]
+#[tactic(auto, unfolding(crate::specs::Entries::entry_text, crate::specs::Entries::is_sayable_entry), using(crate::proofs::Writing::steps))]
 pub fn entry(w: &mut Writer<'_>, entry: &Entry<'_>)
     requires first { w.old.at ≡ 0 }
-    requires sayable { is_entry (entry_seen entry.now) ≡ true }
+    requires sayable { is_sayable_entry (entry_seen entry.now) ≡ true }
     ensures { Puts w.old w.new (entry_text (entry_seen entry.now)) }
 {
     match entry {

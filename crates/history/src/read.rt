@@ -8,7 +8,8 @@ ghost use Rattle.history.specs.Calls.{call_seen, received_most};
 ghost use Rattle.history.specs.Entries.{entry_seen, first_word, past_word, sum_in, summed_in, header_of, stated_of};
 ghost use Rattle.history.specs.Entries.{header_in, stated_in, entry_in};
 ghost use Rattle.history.specs.Reads.{rest_seen, summed_seen};
-ghost use Rattle.history.specs.Lines.{is_shortest, number_in, opening_in, command_in, hex_bytes, hex_in, passing_in, errors_in};
+ghost use Rattle.history.specs.Lines.{is_shortest, decimal_in, opening_in, command_in, hex_bytes, hex_in, passing_in};
+ghost use Rattle.history.specs.Lines.{errors_in};
 ghost use Rattle.history.specs.Lines.{call_at, call_alone, placed_in, fault_in, lamp_in, kind_in, call_in};
 
 use crate::call::{Call, RECEIVED_MOST};
@@ -43,9 +44,9 @@ fn is_shortest(s: &[u8]) -> bool
 }
 
 // One to ten decimal digits with no zero before them, of a number that a u32 can hold.
-#[tactic(auto, unfolding(crate::specs::Lines::number_in))]
-fn number_in(s: &[u8]) -> Option<u32>
-    ensures { result ≡ number_in s.now }
+#[tactic(auto, unfolding(crate::specs::Lines::decimal_in))]
+fn decimal_in(s: &[u8]) -> Option<u32>
+    ensures { result ≡ decimal_in s.now }
 {
     if s.len() < 1 || 10 < s.len() {
         return None;
@@ -106,7 +107,7 @@ fn hex_in<'a>(place: u8, s: &[u8], room: &'a mut Bytes) -> Option<Call<'a>>
 {
     if 2 <= s.len() && s.len() <= 2 * RECEIVED_MOST && s.len() % 2 == 0 && are_hex_digits(s) {
         put_bytes(s, room);
-        if !put::is_command(room.as_slice()) {
+        if !put::is_command_line(room.as_slice()) {
             return Some(Call::Receives(place, room.as_slice()));
         }
     }
@@ -117,7 +118,7 @@ fn hex_in<'a>(place: u8, s: &[u8], room: &'a mut Bytes) -> Option<Call<'a>>
 fn passing_in(s: &[u8]) -> Option<Call<'_>>
     ensures { option_map call_seen result ≡ passing_in s.now }
 {
-    match number_in(s) {
+    match decimal_in(s) {
         Some(seconds) => Some(Call::Passes(seconds)),
         None => None,
     }
@@ -275,7 +276,7 @@ struct Summed<'a> {
 fn summed_in(s: &[u8]) -> Option<Summed<'_>>
     ensures { option_map summed_seen result ≡ summed_in s.now }
 {
-    let number = number_in(first_word(s))?;
+    let number = decimal_in(first_word(s))?;
     let (sum, rest) = sum_in(past_word(s))?;
     Some(Summed { number, sum, rest })
 }

@@ -1,4 +1,4 @@
-// The recorder: the line of a header, of a call and of what the record shows, into lent memory, and what is kept for the
+// The recorder: the line of a header, of a call and of what a record shows, into lent memory, and what is kept for the
 // next one.
 ghost use Rattle.std.specs.Prelude.{◌≡◌, ◌≤◌, length, true, false};
 ghost use Rattle.text.specs.Words.{over};
@@ -6,8 +6,9 @@ ghost use Rattle.text.specs.Outcomes.{told_written, written_told};
 ghost use Rattle.record.specs.Refusals.{refusal_number};
 ghost use Rattle.crc32.specs.Crc.{crc32_of, crc32_on};
 ghost use Rattle.history.specs.Calls.{call_seen};
-ghost use Rattle.history.specs.Entries.{time_seen, entry_seen, is_entry, entry_line, call};
-ghost use Rattle.history.specs.Recording.{log_line_room, cannot_follow, advanced, recorded_by, recorder_after, header_next};
+ghost use Rattle.history.specs.Entries.{time_seen, entry_seen, is_sayable_entry, entry_line, call};
+ghost use Rattle.history.specs.Recording.{log_line_room, cannot_follow, advanced, recorded_by, recorder_after};
+ghost use Rattle.history.specs.Recording.{header_next};
 ghost use Rattle.history.specs.Recording.{stated_by, stated_after};
 
 use crate::call::Call;
@@ -33,9 +34,9 @@ pub struct Recorder {
 }
 
 // The line of an entry that can be said, and its length.
-#[tactic(auto, using(lent::proofs::Writing::written_over, lent::proofs::Writing::puts_then, crate::proofs::Fits::entry_fits))]
+#[tactic(auto, using(crate::proofs::Fits::entry_fits))]
 fn put_line(entry: &Entry<'_>, out: &mut [u8]) -> usize
-    requires sayable { is_entry (entry_seen entry.now) ≡ true }
+    requires sayable { is_sayable_entry (entry_seen entry.now) ≡ true }
     requires fits { log_line_room ≤ length out.old }
     ensures count { result ≡ length (entry_line (entry_seen entry.now)) }
     ensures written { out.new ≡ over (entry_line (entry_seen entry.now)) out.old }
@@ -73,7 +74,7 @@ impl Recorder {
         }
     }
 
-    /// Nothing is recorded yet: a log of the device that was loaded from this form, or whose form this is after a set-up.
+    /// Nothing is recorded yet. The form is that of the device, which was set up, or loaded from it.
     pub fn new(form: &[u8]) -> Recorder
         ensures file { result.file ≡ 0 }
         ensures lines { result.lines ≡ 0 }
@@ -112,7 +113,7 @@ impl Recorder {
     /// fills the start of the memory; its rest stays. Errors, in this order, with which the recorder and all of the
     /// memory stay: `NoRoom` under 4,097 bytes of memory; `OutOfRange` for a time that no header can have, and past
     /// file 4,294,967,295.
-    #[tactic(auto, unfolding(crate::specs::Recording::recorded_by, crate::specs::Recording::recorder_after, crate::specs::Entries::is_entry))]
+    #[tactic(auto, unfolding(crate::specs::Recording::recorded_by, crate::specs::Recording::recorder_after, crate::specs::Entries::is_sayable_entry))]
     pub fn file(&mut self, time: Option<&[u8]>, out: &mut [u8]) -> Result<usize, Refusal>
         ensures told { written_told refusal_number result ≡ told_written
             (recorded_by self.old (header_next self.old (time_seen time.entry)) (length out.old)) }
@@ -138,12 +139,13 @@ impl Recorder {
 
     /// Records a call. Returns the length of its line, which fills the start of the memory; its rest stays. Errors, in
     /// this order, with which the recorder and all of the memory stay: `NoRoom` under 4,097 bytes of memory;
-    /// `OutOfRange` for a call that no line can say ([`Call::is_sayable`]), before the first file, and past 4,294,967,295
-    /// lines of a file.
+    /// `OutOfRange` for a call that no line can say ([`Call::is_sayable`]), before the first file, and past
+    /// 4,294,967,295 lines of a file.
     pub fn call(&mut self, made: &Call<'_>, out: &mut [u8]) -> Result<usize, Refusal>
         ensures told { written_told refusal_number result
             ≡ told_written (recorded_by self.old (call (call_seen made.now)) (length out.old)) }
-        ensures memory { out.new ≡ over (recorded_by self.old (call (call_seen made.now)) (length out.old)).bytes out.old }
+        ensures memory { out.new
+            ≡ over (recorded_by self.old (call (call_seen made.now)) (length out.old)).bytes out.old }
         ensures kept { self.new ≡ recorder_after self.old (call (call_seen made.now)) (length out.old) }
     {
         self.record(&Entry::Call(*made), out)

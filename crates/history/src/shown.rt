@@ -23,7 +23,8 @@ fn put_lamps<const N: usize>(lamps: &[u32], out: &mut ArrayVec<u8, N>)
 #[tactic(auto, using(crate::proofs::ShownFits::shown_lengths))]
 pub fn put_shown<const N: usize>(d: &Device, out: &mut ArrayVec<u8, N>)
     requires { array_vec_len out.old + device_shown_most ≤ N }
-    ensures { out.new.items ≡ out.old.items ++ device_shown d.now }
+    ensures shown { out.new.items ≡ out.old.items ++ device_shown d.now }
+    ensures bound { array_vec_len out.new ≤ array_vec_len out.old + device_shown_most }
 {
     out.try_extend_from_slice(b"power ").unwrap();
     numbers::put_number(d.own.power as u32, out);

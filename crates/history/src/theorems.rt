@@ -1,14 +1,15 @@
 // What is proved beside the contracts of the functions. Nothing is done here: that these functions have their contracts
 // is that the theorems stand.
 ghost use Rattle.std.specs.Prelude.{◌≡◌, ◌≤◌, List, [], Some, true, ℕ, map, take, length};
-ghost use Rattle.history.specs.Entries.{LogEntry, IsTypedEntry, is_entry, entry_text, entry_in};
+ghost use Rattle.history.specs.Entries.{LogEntry, IsTypedEntry, is_sayable_entry, entry_text, entry_in};
 ghost use Rattle.history.specs.Logs.{Sayable, log_text, entries_in, cut_end, begun_at, IsHistory};
 ghost use Rattle.history.specs.Recording.{Asked, AreTyped, recorder_begun, entries_recorded, bytes_recorded};
 
 /// What a line says is what it was written for, and no two entries have one line.
 pub fn lines_say_what_they_were_written_for()
-    ensures back { (e : LogEntry) → IsTypedEntry e → is_entry e ≡ true → entry_in (entry_text e) ≡ Some e }
-    ensures one_line { (e f : LogEntry) → IsTypedEntry e → is_entry e ≡ true → IsTypedEntry f → is_entry f ≡ true
+    ensures back { (e : LogEntry) → IsTypedEntry e → is_sayable_entry e ≡ true → entry_in (entry_text e) ≡ Some e }
+    ensures one_line { (e f : LogEntry) → IsTypedEntry e → is_sayable_entry e ≡ true → IsTypedEntry f
+        → is_sayable_entry f ≡ true
         → entry_text e ≡ entry_text f → e ≡ f }
 {}
 

@@ -11,4 +11,5 @@ returns-in-Header c =
 pub returns-in-Stated : goal.returns-in-Stated
 unfolding entry_text
 returns-in-Stated c =
-    puts_as (grind (arith, c.in-Stated.is)) (puts_then c.bytes-in-Stated.ensures c.summed-in-Stated.ensures.written) c.ending.ensures
+    puts_as (grind (arith, c.in-Stated.is)) (puts_then c.bytes-in-Stated.ensures c.summed-in-Stated.ensures.written)
+    c.ending.ensures

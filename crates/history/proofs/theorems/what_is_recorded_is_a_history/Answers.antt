@@ -7,7 +7,8 @@ use Rattle.history.proofs.Logs.{log_back}
 use Rattle.history.proofs.theorems.what_is_recorded_is_a_history.Goals as goal
 
 pub returns-clause-history : goal.returns-clause-history
-returns-clause-history c asked t = (recorded_begun c.args.form.now (λ k. omega (arith, c.type_inv.form k)) asked t).history
+returns-clause-history c asked t =
+    (recorded_begun c.args.form.now (λ k. omega (arith, c.type_inv.form k)) asked t).history
 
 pub returns-clause-said : goal.returns-clause-said
 returns-clause-said c asked t =

@@ -7,5 +7,7 @@ pub loop-name-init : goal.loop-name-init
 loop-name-init c = (rw no_texts (puts_none _), omega arith)
 
 pub loop-name-preserved : goal.loop-name-preserved
-loop-name-preserved c =
-    (puts_as (texts_bytes-take _ _ _ c.loop-name-test.true) c.loop-name.invariant.0 c.input_name.ensures.written, omega arith)
+loop-name-preserved c = (
+  puts_as (texts_bytes-take _ _ _ c.loop-name-test.true) c.loop-name.invariant.0 c.input_name.ensures.written,
+  omega arith,
+)

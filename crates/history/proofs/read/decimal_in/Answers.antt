@@ -2,7 +2,7 @@
 use Rattle.std.proofs.Common.{arith}
 use Rattle.numbers.proofs.ReadBack.{digits_told, digits_untold}
 use Rattle.history.proofs.Numbers.{number_no_digit, number_over, number_read}
-use Rattle.history.proofs.read.number_in.Goals as goal
+use Rattle.history.proofs.read.decimal_in.Goals as goal
 
 pub returns-in-Some : goal.returns-in-Some
 returns-in-Some c = grind (arith, digits_told, number_read)
