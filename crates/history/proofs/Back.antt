@@ -1,14 +1,13 @@
 -- What a line says is the call that it was written for.
 -- Assumes nothing.
 use Rattle.std.specs.List.{list_all}
-use Rattle.std.proofs.Common.{ℕ, zero, suc, ◌+◌, ◌*◌, ◌-◌, ◌%◌, ◌≤◌, ◌<◌, ◌^◌, ◌≡◌, Bool, true, false, not, ◌&&◌, List}
+use Rattle.std.proofs.Common.{ℕ, zero, suc, ◌+◌, ◌*◌, ◌-◌, ◌%◌, ◌≤◌, ◌<◌, ◌^◌, ◌≡◌, Bool, true, false, not, List}
 use Rattle.std.proofs.Common.{[], ◌∷◌, ◌++◌}
-use Rattle.std.proofs.Common.{arith, length, nat_le, nat_lt, leb-true, le-leb, eqb-true, eq-eqb, ltb-true, ◌==◌, ap}
+use Rattle.std.proofs.Common.{arith, length, nat_le, leb-true, le-leb, eq-eqb, ltb-true, ap}
 use Rattle.std.proofs.Common.{◌∙◌, refl, sym}
 use Rattle.std.proofs.Common.{Some, None, take, take_all, take-suc, length-take-le, slice_index_or, codes}
 use Rattle.std.proofs.lemmas.Bool.Decides.{nat_tests}
 use Prim.Native.Char.{code}
-use Rattle.text.specs.Words.{◌is◌}
 use Rattle.text.proofs.Choices.{if_yes, if_no, both, both_left, both_right}
 use Rattle.text.proofs.InTurn.{list_all-each_in_turn}
 use Rattle.numbers.specs.Decimal.{digits}
@@ -17,14 +16,13 @@ use Rattle.numbers.proofs.LeadingZeros.{digits_no_leading_zero}
 use Rattle.numbers.proofs.Values.{decimal_value-digits}
 use Rattle.digest.specs.Hex.{hex_digits, hex_value, is_hex_digit}
 use Rattle.digest.proofs.Laws.{length-hex_digits, hex_digits_are_digits, hex_value_back}
-use Rattle.words.specs.Bytes.{◌at◌}
 use Rattle.words.specs.Codec.{◌>>=◌}
 use Rattle.words.specs.ErrorDigits.{errors_text, is_errors}
 use Rattle.words.specs.Laws.{errors_codec}
 use Rattle.words.specs.Combinations.{whole_says}
 use Rattle.history.specs.Calls.{LogCall, opens, receives, passes, closes, marks, reports, enables, is_sayable, IsTyped}
 use Rattle.history.specs.Calls.{received_most, is_byte, is_place_number, is_lamp_number}
-use Rattle.history.specs.Lines.{figure, switch_figure, is_printable, is_plain, front, is_command_line, hex_text}
+use Rattle.history.specs.Lines.{figure, switch_figure, is_plain, front, is_command_line, hex_text}
 use Rattle.history.specs.Lines.{hex_placed}
 use Rattle.history.specs.Lines.{bytes_text, call_text, is_shortest, decimal_in, opening_in, command_in, hex_bytes}
 use Rattle.history.specs.Lines.{hex_in}
@@ -152,7 +150,7 @@ lamp_back k true h = grind (arith, nat_tests)
 lamp_back k false h = grind (arith, nat_tests)
 
 pub call_back : (c : LogCall) → IsTyped c → is_sayable c ≡ true → call_in (call_text c) ≡ Some c
-unfolding call_text is_sayable call_in kind_in call_at call_alone fault_in
+unfolding call_text call_in kind_in call_at call_alone fault_in
 call_back (opens p r) t h = placed_back (code "O") p (hex_digits 8 r) h ∙ opening_back p r t
 call_back (receives p bs) t h =
     bytes_back p bs (both_left (is_place_number p) (nat_le (length bs) received_most) h)

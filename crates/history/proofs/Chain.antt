@@ -1,23 +1,14 @@
 -- What the recorder writes is a history.
 -- Assumes nothing.
-use Rattle.std.proofs.Common.{ℕ, ◌+◌, ◌≤◌, ◌<◌, ◌^◌, ◌≡◌, Bool, true, false, not, ◌&&◌, List, [], ◌∷◌, ◌++◌, arith}
-use Rattle.std.proofs.Common.{length, map}
-use Rattle.std.proofs.Common.{refl, sym, ap, ◌∙◌, Some, None, Option, append_assoc, append-nil, nat_lt, nat_le, ◌==◌}
-use Rattle.std.proofs.Common.{leb-true}
-use Rattle.std.proofs.Common.{eqb-true, subst}
-use Rattle.std.specs.Prelude.{◌||◌}
-use Rattle.text.proofs.Choices.{both_left, both_right}
-use Rattle.text.specs.Rows.{by_rows}
-use Rattle.text.specs.Outcomes.{WrittenAs, nothing_written}
+use Rattle.std.proofs.Common.{ℕ, ◌+◌, ◌<◌, ◌^◌, ◌≡◌, Bool, true, false, List, [], ◌∷◌, ◌++◌, arith}
+use Rattle.std.proofs.Common.{refl, sym, ap, ◌∙◌, nat_lt}
+use Rattle.std.proofs.Common.{subst}
 use Rattle.crc32.specs.Crc.{crc32_on, crc32_of}
 use Rattle.crc32.proofs.GoesOn.{crc32_on-crc32_of}
 use Rattle.crc32.proofs.Changes.{AreBytes, crc32_on_within, crc32_of_within}
-use Rattle.history.specs.Calls.{LogCall, IsTyped}
-use Rattle.history.specs.Lines.{number_most}
-use Rattle.history.specs.Entries.{LogEntry, header, call, stated, is_sayable_entry, IsTypedEntry, entry_line}
-use Rattle.history.specs.Entries.{is_time_if_any}
+use Rattle.history.specs.Entries.{LogEntry, is_sayable_entry, IsTypedEntry, entry_line}
 use Rattle.history.specs.Logs.{Sayable, log_text, LogPlace, begun_at, past, FitsAt, IsHistory}
-use Rattle.history.specs.Recording.{log_line_room, cannot_follow, entry_rows, recorded_by, advanced, recorder_after}
+use Rattle.history.specs.Recording.{log_line_room, cannot_follow, recorded_by, advanced, recorder_after}
 use Rattle.history.specs.Recording.{Asked, begins, makes, states, asked_entry, recorder_begun, entry_if_served}
 use Rattle.history.specs.Recording.{entries_recorded, bytes_recorded, IsTypedAsked, AreTyped}
 use Rattle.history.specs.declared.recorder.Recorder.{Recorder}

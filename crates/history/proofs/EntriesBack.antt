@@ -1,8 +1,8 @@
 -- What a line says is what it was written for, whatever it says.
 -- Assumes nothing.
 use Rattle.std.specs.List.{list_all}
-use Rattle.std.proofs.Common.{ℕ, zero, suc, ◌+◌, ◌≤◌, ◌<◌, ◌^◌, ◌≡◌, Bool, true, false, not, ◌&&◌, List, [], ◌∷◌, ◌++◌}
-use Rattle.std.proofs.Common.{arith, length, nat_le, leb-true, le-leb, eqb-true, eq-eqb, ◌==◌, ap, ◌∙◌, refl, sym}
+use Rattle.std.proofs.Common.{ℕ, suc, ◌+◌, ◌≤◌, ◌<◌, ◌^◌, ◌≡◌, Bool, true, false, not, ◌&&◌, List, [], ◌∷◌, ◌++◌}
+use Rattle.std.proofs.Common.{arith, length, nat_le, leb-true, le-leb, ap, ◌∙◌, refl, sym}
 use Rattle.std.proofs.Common.{codes}
 use Rattle.std.proofs.Common.{Option, Some, None, take, drop, append_assoc, length-append}
 use Rattle.std.proofs.Math.Seq.{take-append_seam, drop-append_seam}
@@ -19,7 +19,7 @@ use Rattle.words.specs.Codec.{◌>>=◌}
 use Rattle.history.specs.Calls.{LogCall, opens, receives, passes, closes, marks, reports, enables}
 use Rattle.history.specs.Lines.{is_plain, decimal_in, number_most, call_text, bytes_text, hex_placed, is_command_line}
 use Rattle.history.specs.Lines.{call_in}
-use Rattle.history.specs.Entries.{LogEntry, header, call, stated, is_sayable_entry, IsTypedEntry, is_time}
+use Rattle.history.specs.Entries.{LogEntry, header, call, stated, is_sayable_entry, IsTypedEntry}
 use Rattle.history.specs.Entries.{is_time_if_any, time_text}
 use Rattle.history.specs.Entries.{shown_most, summed_text, entry_text, first_word, past_word, sum_in, summed_in}
 use Rattle.history.specs.Entries.{header_of}
@@ -115,7 +115,7 @@ call_apart (reports ds) = refl
 call_apart (enables k m) = refl
 
 pub entry_back : (e : LogEntry) → IsTypedEntry e → is_sayable_entry e ≡ true → entry_in (entry_text e) ≡ Some e
-unfolding entry_text is_sayable_entry entry_in header_in stated_in
+unfolding entry_text entry_in header_in stated_in
 entry_back (header f s t) typed h =
     let few = both_left (nat_le 1 f && nat_le f number_most) (is_time_if_any t) h in
     let some = leb-true 1 f (both_left (nat_le 1 f) (nat_le f number_most) few) in

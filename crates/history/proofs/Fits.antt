@@ -1,19 +1,17 @@
 -- What a line takes.
 -- Assumes nothing.
 use Rattle.std.specs.List.{list_all}
-use Rattle.std.proofs.Common.{ℕ, ◌+◌, ◌*◌, ◌-◌, ◌≤◌, ◌<◌, ◌≡◌, true, false, ◌&&◌, List, [], ◌∷◌, ◌++◌, arith, length}
+use Rattle.std.proofs.Common.{ℕ, ◌*◌, ◌-◌, ◌≤◌, ◌<◌, ◌≡◌, true, ◌&&◌, List, [], ◌∷◌, ◌++◌, arith, length}
 use Rattle.std.proofs.Common.{nat_le}
-use Rattle.std.proofs.Common.{Option, Some, None, leb-true, eqb-true, codes, length-append, length-take-le, ◌==◌, ap}
-use Rattle.std.proofs.Common.{◌∙◌, refl}
+use Rattle.std.proofs.Common.{Option, Some, None, leb-true, eqb-true, codes, length-append, length-take-le, ◌==◌}
 use Rattle.std.proofs.lemmas.List.{length-map}
-use Prim.Native.Char.{code}
 use Rattle.text.proofs.Choices.{if_all, both_left, both_right}
 use Rattle.text.proofs.InTurn.{length-each_in_turn}
 use Rattle.numbers.specs.Decimal.{digits}
 use Rattle.numbers.proofs.Digits.{digits_at_most_10}
 use Rattle.digest.specs.Hex.{hex_digits, hex_value}
 use Rattle.digest.proofs.Laws.{length-hex_digits, hex_value_below}
-use Rattle.words.specs.ErrorDigits.{errors_text, is_errors, is_error_digit}
+use Rattle.words.specs.ErrorDigits.{is_error_digit}
 use Rattle.words.specs.Inputs.{number_digit}
 use Rattle.history.specs.Calls.{LogCall, opens, receives, passes, closes, marks, reports, enables, is_sayable}
 use Rattle.history.specs.Calls.{received_most, is_place_number}
@@ -46,7 +44,7 @@ bytes_fit p bs h =
     if_all (λ (l : List ℕ). length l ≤ 4096) (is_command_line bs) (omega (arith, length-front bs)) (hex_fits p bs h)
 
 pub call_fits : (c : LogCall) → is_sayable c ≡ true → length (call_text c) ≤ 4096
-unfolding call_text is_sayable
+unfolding call_text
 call_fits (opens p r) h = omega (arith, length-hex_digits 8 r)
 call_fits (receives p bs) h =
     bytes_fit p bs
@@ -80,7 +78,7 @@ time_fits None h = omega arith
 time_fits (Some t) h = grind arith
 
 pub entry_fits : (e : LogEntry) → is_sayable_entry e ≡ true → length (entry_text e) ≤ 4096
-unfolding entry_text is_sayable_entry
+unfolding entry_text
 entry_fits (header f s t) h =
     let short = time_fits t (both_right (nat_le 1 f && nat_le f number_most) (is_time_if_any t) h) in
     omega (arith, summed_fits f s, short, length-append (codes "LOG 2 " ++ summed_text f s) (time_text t))

@@ -1,15 +1,15 @@
 -- A log that was recorded says its entries, and a front of it says the first of them.
 -- Assumes nothing.
 use Rattle.std.specs.List.{list_all}
-use Rattle.std.proofs.Common.{ℕ, zero, suc, ◌+◌, ◌-◌, ◌≤◌, ◌<◌, ◌≡◌, Bool, true, false, List, [], ◌∷◌, ◌++◌, arith}
+use Rattle.std.proofs.Common.{ℕ, zero, suc, ◌+◌, ◌≤◌, ◌≡◌, true, false, List, [], ◌∷◌, ◌++◌, arith}
 use Rattle.std.proofs.Common.{length, map}
-use Rattle.std.proofs.Common.{take, refl, sym, ap, ◌∙◌, Some, None, append_assoc, codes, length-append, ◌⊎◌, inl, inr}
+use Rattle.std.proofs.Common.{take, refl, sym, ap, ◌∙◌, Some, append_assoc, codes, ◌⊎◌, inl, inr}
 use Rattle.std.proofs.lemmas.List.{append-nil}
 use Rattle.std.proofs.lemmas.Bool.{not-true}
 use Rattle.std.proofs.lemmas.Option.{same_Some}
 use Prim.Native.Char.{code}
 use Rattle.text.specs.Words.{◌is◌}
-use Rattle.text.proofs.Choices.{if_yes, if_no, both_left, both_right}
+use Rattle.text.proofs.Choices.{if_no, both_left, both_right}
 use Rattle.history.specs.Entries.{LogEntry, IsTypedEntry, is_sayable_entry, entry_text, entry_line, entry_in}
 use Rattle.history.specs.Logs.{Sayable, log_text, lines_ended, cut_end, entries_in}
 use Rattle.history.proofs.EntriesBack.{entry_back}

@@ -13,11 +13,11 @@ use Rattle.numbers.specs.Decimal.{digits, is_digit}
 use Rattle.numbers.proofs.Digits.{digits_are_digits}
 use Rattle.digest.specs.Hex.{hex_digits, is_hex_digit}
 use Rattle.digest.proofs.Laws.{hex_digits_are_digits}
-use Rattle.words.specs.ErrorDigits.{errors_text, is_errors, is_error_digit}
+use Rattle.words.specs.ErrorDigits.{is_error_digit}
 use Rattle.words.specs.Inputs.{number_digit}
 use Rattle.history.specs.Calls.{LogCall, opens, receives, passes, closes, marks, reports, enables, is_sayable}
 use Rattle.history.specs.Calls.{is_place_number, is_lamp_number, received_most}
-use Rattle.history.specs.Lines.{figure, switch_figure, is_printable, is_plain, front, is_command_line, hex_text}
+use Rattle.history.specs.Lines.{figure, switch_figure, is_printable, is_plain, front, is_command_line}
 use Rattle.history.specs.Lines.{hex_placed}
 use Rattle.history.specs.Lines.{bytes_text, call_text}
 use Rattle.history.specs.Entries.{LogEntry, header, call, stated, is_sayable_entry, is_visible, is_time, is_time_if_any}
@@ -78,7 +78,7 @@ lamp_few : (k : ℕ) → is_lamp_number k ≡ true → k + 1 ≤ 9
 lamp_few k h = omega (arith, leb-true k 7 h)
 
 call_printable : (c : LogCall) → is_sayable c ≡ true → list_all is_printable (call_text c) ≡ true
-unfolding call_text is_sayable
+unfolding call_text
 call_printable (opens p r) h = both (figure_printable p (place_few p h)) (hex_printable 8 r)
 call_printable (receives p bs) h =
     bytes_printable p bs (place_few p (both_left (is_place_number p) (nat_le (length bs) received_most) h))
@@ -102,7 +102,7 @@ time_printable (Some t) h =
     list_all_implies is_visible is_printable visible_printable t (both_right _ (list_all is_visible t) h)
 
 pub entry_printable : (e : LogEntry) → is_sayable_entry e ≡ true → list_all is_printable (entry_text e) ≡ true
-unfolding entry_text is_sayable_entry
+unfolding entry_text
 entry_printable (header f s t) h =
     list_all-append is_printable (codes "LOG 2 " ++ summed_text f s) (time_text t)
     (list_all-append is_printable (codes "LOG 2 ") (summed_text f s) refl (summed_printable f s))

@@ -39,7 +39,7 @@ is_place_number p = nat_le p 3
 abbrev pub is_lamp_number : ℕ → Bool
 is_lamp_number k = nat_le k 7
 
-unfoldable pub is_sayable : LogCall → Bool
+abbrev pub is_sayable : LogCall → Bool
 is_sayable (opens p r) = is_place_number p
 is_sayable (receives p bs) = is_place_number p && nat_le (length bs) received_most
 is_sayable (passes n) = true

@@ -10,7 +10,7 @@
 --   entry_in l        the entry that the line l says, without its LF
 -- Assumes nothing.
 use Rattle.std.specs.List.{list_all}
-use Rattle.std.specs.Prelude.{ℕ, ◌+◌, ◌≡◌, ◌<◌, ◌^◌, Bool, true, ◌&&◌, List, [], ◌∷◌, ◌++◌, length, take, drop, codes}
+use Rattle.std.specs.Prelude.{ℕ, ◌+◌, ◌<◌, ◌^◌, Bool, true, ◌&&◌, List, [], ◌∷◌, ◌++◌, length, take, drop, codes}
 use Rattle.std.specs.Prelude.{if◌then◌else◌, nat_le, Option, Some, None, option_map}
 use Rattle.std.specs.Borrow.{Bor}
 use Prim.Native.Char.{code}
@@ -21,8 +21,6 @@ use Rattle.digest.specs.Hex.{hex_digits, hex_value, is_hex_digit}
 use Rattle.words.specs.Codec.{◌>>=◌}
 use Rattle.history.specs.Calls.{LogCall, call_seen, is_sayable, IsTyped}
 use Rattle.history.specs.Lines.{is_plain, call_text, decimal_in, number_most, call_in}
-use Rattle.history.specs.declared.entry.Header.{Header}
-use Rattle.history.specs.declared.entry.Stated.{Stated}
 use Rattle.history.specs.declared.entry.Entry.{Entry}
 use Rattle.history.specs.declared.entry.Entry.TheVariants.{Header as HeaderCase, Call as CallCase, Stated as StatedCase}
 
@@ -55,7 +53,7 @@ abbrev pub is_time_if_any : Option (List ℕ) → Bool
 is_time_if_any None = true
 is_time_if_any (Some t) = is_time t
 
-unfoldable pub is_sayable_entry : LogEntry → Bool
+abbrev pub is_sayable_entry : LogEntry → Bool
 is_sayable_entry (header f s t) = nat_le 1 f && nat_le f number_most && is_time_if_any t
 is_sayable_entry (call c) = is_sayable c
 is_sayable_entry (stated n s shown) = is_plain shown && nat_le (length shown) shown_most

@@ -37,7 +37,6 @@ fn are_errors(digits: &Errors) -> bool
 impl Call<'_> {
     /// Whether a line can say it: there is such a place or lamp, at most 2,046 bytes are received, and the error digits
     /// are 0 to 2.
-    #[tactic(auto, unfolding(crate::specs::Calls::is_sayable))]
     pub fn is_sayable(&self) -> bool
         ensures { result ≡ is_sayable (call_seen self.now) }
     {

@@ -1,5 +1,5 @@
 // The line of a call, put after what a writer has written.
-ghost use Rattle.std.specs.Prelude.{◌≡◌, [], codes, ◌+◌, ◌<◌, ◌^◌, ◌*◌, ◌≤◌, ◌++◌, true, length};
+ghost use Rattle.std.specs.Prelude.{◌≡◌, codes, ◌+◌, ◌<◌, ◌^◌, ◌≤◌, ◌++◌, true, length};
 ghost use Rattle.std.specs.List.{list_all};
 ghost use Rattle.lent.specs.Puts.{Puts};
 ghost use Rattle.numbers.specs.Decimal.{digits};
@@ -119,7 +119,7 @@ fn bytes(w: &mut Writer<'_>, place: u8, bytes: &[u8])
 }
 
 /// Puts the line of a call, without its LF.
-#[tactic(auto, unfolding(crate::specs::Lines::call_text, crate::specs::Calls::is_sayable), using(crate::proofs::Writing::steps))]
+#[tactic(auto, unfolding(crate::specs::Lines::call_text), using(crate::proofs::Writing::steps))]
 pub fn call(w: &mut Writer<'_>, call: &Call<'_>)
     requires first { w.old.at ≡ 0 }
     requires sayable { is_sayable (call_seen call.now) ≡ true }
@@ -181,7 +181,7 @@ fn time(w: &mut Writer<'_>, time: Option<&[u8]>)
 }
 
 /// Puts what a line says, without its LF.
-#[tactic(auto, unfolding(crate::specs::Entries::entry_text, crate::specs::Entries::is_sayable_entry), using(crate::proofs::Writing::steps))]
+#[tactic(auto, unfolding(crate::specs::Entries::entry_text), using(crate::proofs::Writing::steps))]
 pub fn entry(w: &mut Writer<'_>, entry: &Entry<'_>)
     requires first { w.old.at ≡ 0 }
     requires sayable { is_sayable_entry (entry_seen entry.now) ≡ true }

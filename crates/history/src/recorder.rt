@@ -113,7 +113,7 @@ impl Recorder {
     /// fills the start of the memory; its rest stays. Errors, in this order, with which the recorder and all of the
     /// memory stay: `NoRoom` under 4,097 bytes of memory; `OutOfRange` for a time that no header can have, and past
     /// file 4,294,967,295.
-    #[tactic(auto, unfolding(crate::specs::Recording::recorded_by, crate::specs::Recording::recorder_after, crate::specs::Entries::is_sayable_entry))]
+    #[tactic(auto, unfolding(crate::specs::Recording::recorded_by, crate::specs::Recording::recorder_after))]
     pub fn file(&mut self, time: Option<&[u8]>, out: &mut [u8]) -> Result<usize, Refusal>
         ensures told { written_told refusal_number result ≡ told_written
             (recorded_by self.old (header_next self.old (time_seen time.entry)) (length out.old)) }

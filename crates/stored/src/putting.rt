@@ -1,5 +1,5 @@
 // The fields of a stored form (RULES, Stored form), each put after what a writer has written.
-ghost use Rattle.std.specs.Prelude.{◌≡◌, ◌∷◌, [], ◌+◌, ◌*◌, ◌^◌, ◌<◌, ◌≤◌, All, length, map};
+ghost use Rattle.std.specs.Prelude.{◌≡◌, ◌+◌, ◌*◌, ◌^◌, ◌<◌, ◌≤◌, All, length, map};
 ghost use Rattle.lent.specs.Puts.{Puts};
 ghost use Rattle.numbers.specs.HighestFirst.{highest_first};
 ghost use Rattle.words.specs.Texts.{input_name_most};

@@ -1,7 +1,7 @@
 -- What is lent are bytes.
-use Rattle.std.proofs.Common.{ℕ, List, arith, ap, ◌∙◌}
+use Rattle.std.proofs.Common.{arith, ap, ◌∙◌}
 use Rattle.history.specs.Logs.{begun_at, entries_in}
-use Rattle.history.specs.Recording.{Asked, AreTyped, recorder_begun, entries_recorded}
+use Rattle.history.specs.Recording.{recorder_begun, entries_recorded}
 use Rattle.history.proofs.Chain.{Recorded, recorded_begun}
 use Rattle.history.proofs.Logs.{log_back}
 use Rattle.history.proofs.theorems.what_is_recorded_is_a_history.Goals as goal
