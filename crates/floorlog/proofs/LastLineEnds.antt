@@ -14,7 +14,8 @@ use Rattle.text.specs.Words.{◌is◌}
 use Rattle.numbers.specs.Decimal.{digits, is_digit}
 use Rattle.numbers.proofs.Digits.{digits_at_least_1, is_digit-slice_index_or}
 use Rattle.record.specs.declared.types.Device.{Device}
-use Rattle.floorlog.specs.LastLine.{lamps_shown, last_line_of}
+use Rattle.history.specs.Shown.{lamps_shown}
+use Rattle.floorlog.specs.LastLine.{last_line_of}
 use Rattle.floorlog.specs.Playing.{replay_text}
 
 record EndsIn (f : ℕ → Bool) (l : List ℕ) : Type 0 where

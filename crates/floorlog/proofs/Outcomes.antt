@@ -14,7 +14,6 @@ use Rattle.device.specs.Calls.{Result, reply_room}
 use Rattle.floorlog.specs.declared.outcome.Outcome.{Outcome}
 use Rattle.floorlog.specs.declared.outcome.Outcome.TheVariants.{Served}
 use Rattle.floorlog.specs.Outcomes.{refusal_shown, outcome_text, IsReplyWithin}
-use Rattle.floorlog.specs.LastLine.{lamps_shown}
 use Rattle.floorlog.specs.Doing.{outcome}
 
 refused : (r : Refusal) → refusal_number r ≡ 0 → ⊥
@@ -33,13 +32,5 @@ pub outcome_short : (o : Outcome) (m : List ℕ) → IsReplyWithin o reply_room
     → length (outcome_text o m) ≤ reply_room
 outcome_short o m h = grind (arith, if_all, length-take, refusal_short)
 
-each_short : (xs : List ℕ) → length (lamps_shown xs) ≤ 11 * length xs
-each_short [] = omega arith
-each_short (x ∷ xs) = grind (arith, length-append, digits_at_most_10, each_short xs)
-
--- lamps on a line, after what stood there
-pub lamps_short : {b : List ℕ} (a xs : List ℕ) → b ≡ a ++ lamps_shown xs → length b ≤ length a + 11 * length xs
-lamps_short a xs e = omega (arith, ap length e, length-append a (lamps_shown xs), each_short xs)
-
 pub ruleset line_lengths =
-    (digits_at_most_10, long_at_most_20, outcome_short, lamps_short, length-append, length-take)
+    (digits_at_most_10, long_at_most_20, outcome_short, length-append, length-take)

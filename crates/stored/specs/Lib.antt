@@ -5,5 +5,4 @@ pub mod Views
 pub mod Loading
 pub mod Computing
 pub mod Told
-pub mod Puts
 pub mod Printed

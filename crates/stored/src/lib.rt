@@ -4,7 +4,7 @@
 pub mod error;
 mod form;
 pub mod loading;
+mod putting;
 mod reader;
 pub mod storing;
 pub mod theorems;
-mod writer;

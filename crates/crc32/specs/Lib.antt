@@ -1,0 +1,3 @@
+pub mod Crc
+pub mod Published
+pub mod Table

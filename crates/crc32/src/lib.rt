@@ -1,0 +1,31 @@
+//! CRC-32 as zlib, gzip and PNG have it (RFC 1952, 8), a text in whatever parts.
+#![tactic(auto)]
+
+mod table;
+pub mod theorems;
+
+ghost use Rattle.std.specs.Prelude.{◌≡◌};
+ghost use Rattle.crc32.specs.Crc.{crc32_of, crc32_on};
+
+// All 32 bits.
+const ONES: u32 = 0xffffffff;
+
+/// The CRC-32 of a text and of `s` behind it, where that of the text is `sum`; 0 is that of no bytes.
+#[tactic(auto, unfolding(crate::specs::Crc::crc32_on), using(crate::proofs::GoesOn::remainder_steps))]
+pub fn crc32_on(sum: u32, s: &[u8]) -> u32
+    ensures { result ≡ crc32_on sum s.now }
+{
+    let mut r = ONES ^ sum;
+    for &b in s {
+        r = table::after_byte(r, b);
+    }
+    ONES ^ r
+}
+
+/// The CRC-32 of `s`.
+#[tactic(auto, unfolding(crate::specs::Crc::crc32_on, crate::specs::Crc::crc32_of))]
+pub fn crc32(s: &[u8]) -> u32
+    ensures { result ≡ crc32_of s.now }
+{
+    crc32_on(0, s)
+}

@@ -1,7 +1,0 @@
--- each lamp so far has its seconds on the line
-use Rattle.std.proofs.Common.{◌≡◌, ◌++◌, take}
-use Rattle.floorlog.specs.LastLine.{lamps_shown}
-use Rattle.floorlog.proofs.last.put_lamps.Given as goal
-
-abbrev pub invariant-loop-lamp : goal.invariant-loop-lamp
-invariant-loop-lamp l = l.out.items ≡ l.initial.out.items ++ lamps_shown (take l.lamp-index l.lamps)

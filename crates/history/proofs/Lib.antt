@@ -1,0 +1,9 @@
+pub mod Numbers
+pub mod Fits
+pub mod Writing
+pub mod Back
+pub mod EntriesBack
+pub mod Printable
+pub mod Logs
+pub mod Chain
+pub mod ShownFits

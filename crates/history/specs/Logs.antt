@@ -1,0 +1,59 @@
+-- A log as lines (RULES, History of a board): each ends with LF, and what stands behind the last LF is no line. And
+-- what makes it the history of a board: it begins with the header of file 1, each header and stated line has the sum of
+-- all that came before it, the stored form first, a header the next number, and a stated line the count of lines since
+-- the header.
+--   Sayable es         each of the entries es can be said by a line
+--   log_text es        the lines of the entries es, one after the other
+--   lines_ended g log  the lines of a log of which the first has begun with g
+--   cut_end g log      what stands behind the last LF
+--   entries_in log     the entry of each line
+--   LogPlace           where a log stands: all the bytes so far, the number of the file, the lines since its header
+--   begun_at form      where it begins
+--   past p e           where it stands after the entry e
+--   FitsAt p e         the entry e fits where the log stands
+--   IsHistory p es     each of the entries es fits where those before it leave the log
+-- Assumes nothing.
+use Rattle.std.specs.Prelude.{ℕ, ◌+◌, ◌≡◌, ◌≤◌, true, List, [], ◌∷◌, ◌++◌, map, Option, if◌then◌else◌}
+use Rattle.text.specs.Words.{◌is◌}
+use Rattle.text.specs.InTurn.{each_in_turn}
+use Rattle.crc32.specs.Crc.{crc32_of}
+use Rattle.history.specs.Entries.{LogEntry, header, call, stated, is_sayable_entry, IsTypedEntry, entry_line, entry_in}
+
+abbrev pub Sayable : List LogEntry → Type 0
+Sayable [] = Unit {0}
+Sayable (e ∷ es) = IsTypedEntry e × (is_sayable_entry e ≡ true) × Sayable es
+
+abbrev pub log_text : List LogEntry → List ℕ
+log_text es = each_in_turn entry_line es
+
+unfoldable pub lines_ended : List ℕ → List ℕ → List (List ℕ)
+lines_ended g [] = []
+lines_ended g (b ∷ bs) = if b is "\n" then g ∷ lines_ended [] bs else lines_ended (g ++ (b ∷ [])) bs
+
+unfoldable pub cut_end : List ℕ → List ℕ → List ℕ
+cut_end g [] = g
+cut_end g (b ∷ bs) = if b is "\n" then cut_end [] bs else cut_end (g ++ (b ∷ [])) bs
+
+abbrev pub entries_in : List ℕ → List (Option LogEntry)
+entries_in log = map entry_in (lines_ended [] log)
+
+pub record LogPlace : Type 0 where
+  pub before : List ℕ
+  pub file : ℕ
+  pub lines : ℕ
+
+abbrev pub begun_at : List ℕ → LogPlace
+begun_at form = record { before = form; file = 0; lines = 0 }
+
+abbrev pub past : LogPlace → LogEntry → LogPlace
+past p (header f s t) = record { before = p.before ++ entry_line (header f s t); file = f; lines = 0 }
+past p e = record { before = p.before ++ entry_line e; file = p.file; lines = p.lines + 1 }
+
+abbrev pub FitsAt : LogPlace → LogEntry → Type 0
+FitsAt p (header f s t) = (f ≡ p.file + 1) × (s ≡ crc32_of p.before)
+FitsAt p (call c) = 1 ≤ p.file
+FitsAt p (stated n s shown) = (1 ≤ p.file) × (n ≡ p.lines) × (s ≡ crc32_of p.before)
+
+abbrev pub IsHistory : LogPlace → List LogEntry → Type 0
+IsHistory p [] = Unit {0}
+IsHistory p (e ∷ es) = FitsAt p e × IsHistory (past p e) es

@@ -1,0 +1,100 @@
+-- The recorder (RULES, History of a board): the line of an entry, by the table of numbers, and what is kept for the
+-- next one.
+--   log_line_room        no line is longer, its LF included
+--   cannot_follow r e    there is no file yet, or the count of its lines can't grow
+--   entry_rows r e room  when an entry is refused, and with which number
+--   recorded_by r e room refused with no byte, or the line
+--   advanced r e         what is kept after the line
+--   recorder_after r e room   what is kept after the call: refused, what was kept
+--   header_next r t      the header of the next file;    stated_next r shown   a stated line
+--   stated_by r d room   refused with 1 where the record d is not legal, else its stated line;
+--   stated_after r d room   what is kept after that
+--   Asked                what the recorder is asked to record;    asked_entry r a   the entry of that
+--   recorder_begun form  what is kept before the first file
+--   entries_recorded r asked   what is recorded of what is asked, each time with so much memory; refused is left out
+--   bytes_recorded r asked     what is written
+--   AreTyped asked          the calls asked have the numbers of the code's types
+-- Assumes nothing.
+use Rattle.std.specs.Prelude.{ℕ, ◌+◌, Bool, false, not, ◌||◌, List, [], ◌∷◌, ◌++◌, nat_lt, ◌==◌, Option, if◌then◌else◌}
+use Rattle.text.specs.Rows.{Row, ◌when◌, by_rows}
+use Rattle.text.specs.Outcomes.{WrittenAs, nothing_written}
+use Rattle.record.specs.Legal.{is_legal}
+use Rattle.record.specs.declared.types.Device.{Device}
+use Rattle.crc32.specs.Crc.{crc32_on, crc32_of}
+use Rattle.history.specs.Calls.{LogCall, IsTyped}
+use Rattle.history.specs.Lines.{number_most}
+use Rattle.history.specs.Entries.{LogEntry, header, call, stated, is_sayable_entry, entry_line}
+use Rattle.history.specs.Shown.{device_shown}
+use Rattle.history.specs.declared.recorder.Recorder.{Recorder}
+
+abbrev pub log_line_room : ℕ
+log_line_room = 4097
+
+abbrev pub cannot_follow : Recorder → LogEntry → Bool
+cannot_follow r (header f s t) = false
+cannot_follow r e = r.file == 0 || r.lines == number_most
+
+abbrev pub entry_rows : Recorder → LogEntry → ℕ → List Row
+entry_rows r e room =
+    (2 when nat_lt room log_line_room) ∷ (3 when not (is_sayable_entry e)) ∷ (3 when cannot_follow r e) ∷ []
+
+unfoldable pub recorded_by : Recorder → LogEntry → ℕ → WrittenAs
+recorded_by r e room = by_rows (entry_rows r e room) nothing_written (record { number = 0; bytes = entry_line e })
+
+abbrev pub advanced : Recorder → LogEntry → Recorder
+advanced r (header f s t) = record { file = f; lines = 0; sum = crc32_on r.sum (entry_line (header f s t)) }
+advanced r e = record { file = r.file; lines = r.lines + 1; sum = crc32_on r.sum (entry_line e) }
+
+unfoldable pub recorder_after : Recorder → LogEntry → ℕ → Recorder
+recorder_after r e room = by_rows (entry_rows r e room) (λ _. r) (advanced r e)
+
+abbrev pub header_next : Recorder → Option (List ℕ) → LogEntry
+header_next r t = header (r.file + 1) r.sum t
+
+abbrev pub stated_next : Recorder → List ℕ → LogEntry
+stated_next r shown = stated r.lines r.sum shown
+
+-- what the record of a device shows; refused first where it is not legal
+unfoldable pub stated_by : Recorder → Device → ℕ → WrittenAs
+stated_by r d room = if is_legal d then recorded_by r (stated_next r (device_shown d)) room else nothing_written 1
+
+unfoldable pub stated_after : Recorder → Device → ℕ → Recorder
+stated_after r d room = if is_legal d then recorder_after r (stated_next r (device_shown d)) room else r
+
+-- ---- a run of the recorder: what it is asked to record, each time with so much memory
+
+pub data Asked : Type 0 where
+  begins : (time : Option (List ℕ)) → Asked
+  makes : LogCall → Asked
+  states : (shown : List ℕ) → Asked
+
+abbrev pub asked_entry : Recorder → Asked → LogEntry
+asked_entry r (begins t) = header_next r t
+asked_entry r (makes c) = call c
+asked_entry r (states s) = stated_next r s
+
+abbrev pub recorder_begun : List ℕ → Recorder
+recorder_begun form = record { file = 0; lines = 0; sum = crc32_of form }
+
+abbrev pub entry_if_served : WrittenAs → LogEntry → List LogEntry
+entry_if_served w e = if w.number == 0 then e ∷ [] else []
+
+-- what is recorded, and what is written of it
+abbrev pub entries_recorded : Recorder → List (Asked × ℕ) → List LogEntry
+entries_recorded r [] = []
+entries_recorded r (a ∷ more) =
+    let e = asked_entry r a.0 in
+    entry_if_served (recorded_by r e a.1) e ++ entries_recorded (recorder_after r e a.1) more
+
+abbrev pub bytes_recorded : Recorder → List (Asked × ℕ) → List ℕ
+bytes_recorded r [] = []
+bytes_recorded r (a ∷ more) =
+    let e = asked_entry r a.0 in (recorded_by r e a.1).bytes ++ bytes_recorded (recorder_after r e a.1) more
+
+abbrev pub IsTypedAsked : Asked → Type 0
+IsTypedAsked (makes c) = IsTyped c
+IsTypedAsked a = Unit {0}
+
+abbrev pub AreTyped : List (Asked × ℕ) → Type 0
+AreTyped [] = Unit {0}
+AreTyped (a ∷ more) = IsTypedAsked a.0 × AreTyped more

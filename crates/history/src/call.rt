@@ -1,0 +1,53 @@
+// A call that can change a record, as a log keeps it.
+ghost use Rattle.std.specs.Prelude.{◌≡◌};
+ghost use Rattle.words.specs.ErrorDigits.{is_errors};
+ghost use Rattle.history.specs.Calls.{call_seen, is_sayable};
+
+use words::errors::Errors;
+
+/// The most bytes that one call of a log receives.
+pub const RECEIVED_MOST: usize = 2046;
+
+/// A call that can change a record. A place is 0 to 3, a lamp 0 to 7.
+#[derive(Clone, Copy)]
+pub enum Call<'a> {
+    /// A connection opened with this random number, and got this place.
+    Opens(u8, u32),
+    /// These bytes were received at this place, in one call.
+    Receives(u8, &'a [u8]),
+    /// So many seconds passed.
+    Passes(u32),
+    /// The connection at this place was closed.
+    Closes(u8),
+    /// The fault mark was set, or cleared.
+    Fault(bool),
+    /// The six error digits were set.
+    Errors(Errors),
+    /// A lamp, counted from 0, was enabled, or disabled.
+    Mark(u8, bool),
+}
+
+fn are_errors(digits: &Errors) -> bool
+    ensures { result ≡ is_errors digits.now }
+{
+    let [fan, lamp, temperature, cover, filter, other] = *digits;
+    fan <= 2 && lamp <= 2 && temperature <= 2 && cover <= 2 && filter <= 2 && other <= 2
+}
+
+impl Call<'_> {
+    /// Whether a line can say it: there is such a place or lamp, at most 2,046 bytes are received, and the error digits
+    /// are 0 to 2.
+    pub fn is_sayable(&self) -> bool
+        ensures { result ≡ is_sayable (call_seen self.now) }
+    {
+        match self {
+            Call::Opens(place, _) => *place <= 3,
+            Call::Receives(place, bytes) => *place <= 3 && bytes.len() <= RECEIVED_MOST,
+            Call::Passes(_) => true,
+            Call::Closes(place) => *place <= 3,
+            Call::Fault(_) => true,
+            Call::Errors(digits) => are_errors(digits),
+            Call::Mark(lamp, _) => *lamp <= 7,
+        }
+    }
+}

@@ -1,0 +1,203 @@
+// The line of a call, put after what a writer has written.
+ghost use Rattle.std.specs.Prelude.{◌≡◌, codes, ◌+◌, ◌<◌, ◌^◌, ◌≤◌, ◌++◌, true, length};
+ghost use Rattle.std.specs.List.{list_all};
+ghost use Rattle.lent.specs.Puts.{Puts};
+ghost use Rattle.numbers.specs.Decimal.{digits};
+ghost use Rattle.words.specs.ErrorDigits.{errors_text};
+ghost use Rattle.history.specs.Calls.{call_seen, is_sayable, is_place_number, received_most};
+ghost use Rattle.history.specs.Lines.{is_printable, is_plain, is_command_line, hex_text, place_head, bytes_text};
+ghost use Rattle.history.specs.Lines.{switch_figure, call_text};
+ghost use Rattle.history.specs.Entries.{summed_text, time_text, time_seen, entry_seen, entry_text, is_sayable_entry};
+
+use crate::call::Call;
+use crate::entry::Entry;
+use arrayvec::ArrayVec;
+use lent::Writer;
+use words::errors::Errors;
+use words::input;
+
+fn is_printable(b: u8) -> bool
+    ensures { result ≡ is_printable b }
+{
+    b' ' <= b && b <= b'~'
+}
+
+fn are_printable(s: &[u8]) -> bool
+    ensures { result ≡ list_all is_printable s.now }
+{
+    s.iter().all(|b| is_printable(*b))
+}
+
+/// Whether a line can end with these bytes: printable, at least one, and the last of them no space.
+#[tactic(auto, unfolding(crate::specs::Lines::is_plain))]
+pub fn is_plain(s: &[u8]) -> bool
+    ensures { result ≡ is_plain s.now }
+{
+    let n = s.len();
+    if n < 1 || s[n - 1] == b' ' {
+        return false;
+    }
+    are_printable(s)
+}
+
+/// Whether the bytes are one line of a controller, which is said as text.
+#[tactic(auto, unfolding(crate::specs::Lines::is_command_line))]
+pub fn is_command_line(bytes: &[u8]) -> bool
+    ensures { result ≡ is_command_line bytes.now }
+{
+    let n = bytes.len();
+    if n < 1 || bytes[n - 1] != b'\r' {
+        return false;
+    }
+    is_plain(&bytes[..n - 1])
+}
+
+// Two digits a byte.
+fn hex(w: &mut Writer<'_>, s: &[u8])
+    requires few { length s.now ≤ received_most }
+    requires short { w.old.at ≤ 4 }
+    ensures { Puts w.old w.new (hex_text s.now) }
+{
+    for &b in s {
+        let digits = digest::hex8(b as u32);
+        w.bytes(&digits[6..]);
+    }
+}
+
+fn errors(w: &mut Writer<'_>, digits: &Errors)
+    requires short { w.old.at ≤ 4 }
+    ensures { Puts w.old w.new (errors_text digits.now) }
+{
+    for &digit in digits {
+        w.byte(input::number_digit(digit));
+    }
+}
+
+#[tactic(auto, using(crate::proofs::Writing::steps))]
+fn number(w: &mut Writer<'_>, n: u32)
+    requires short { w.old.at ≤ 100 }
+    ensures { Puts w.old w.new (digits n) }
+{
+    let mut figures: ArrayVec<u8, 10> = ArrayVec::new();
+    numbers::put_number(n, &mut figures);
+    w.bytes(figures.as_slice());
+}
+
+fn switch_figure(mark: bool) -> u8
+    ensures { result ≡ switch_figure mark }
+{
+    if mark { b'1' } else { b'0' }
+}
+
+// A letter and the number of a place or a lamp.
+fn head(w: &mut Writer<'_>, letter: u8, place: u8)
+    requires first { w.old.at ≡ 0 }
+    requires few { place ≤ 9 }
+    ensures { Puts w.old w.new (place_head letter place) }
+{
+    w.bytes(&[letter, b' ', b'0' + place]);
+}
+
+#[tactic(auto, unfolding(crate::specs::Lines::bytes_text), using(crate::proofs::Writing::steps))]
+fn bytes(w: &mut Writer<'_>, place: u8, bytes: &[u8])
+    requires first { w.old.at ≡ 0 }
+    requires there { is_place_number place ≡ true }
+    requires fits { length bytes.now ≤ received_most }
+    ensures { Puts w.old w.new (bytes_text place bytes.now) }
+{
+    if is_command_line(bytes) {
+        head(w, b'R', place);
+        w.byte(b' ');
+        w.bytes(&bytes[..bytes.len() - 1]);
+        return;
+    }
+    head(w, b'B', place);
+    if !bytes.is_empty() {
+        w.byte(b' ');
+        hex(w, bytes);
+    }
+}
+
+/// Puts the line of a call, without its LF.
+#[tactic(auto, unfolding(crate::specs::Lines::call_text), using(crate::proofs::Writing::steps))]
+pub fn call(w: &mut Writer<'_>, call: &Call<'_>)
+    requires first { w.old.at ≡ 0 }
+    requires sayable { is_sayable (call_seen call.now) ≡ true }
+    ensures { Puts w.old w.new (call_text (call_seen call.now)) }
+{
+    match call {
+        Call::Opens(place, random) => {
+            head(w, b'O', *place);
+            w.byte(b' ');
+            w.bytes(&digest::hex8(*random));
+        }
+        Call::Receives(place, received) => bytes(w, *place, received),
+        Call::Passes(seconds) => {
+            w.bytes(b"T ");
+            number(w, *seconds);
+        }
+        Call::Closes(place) => head(w, b'X', *place),
+        Call::Fault(mark) => w.bytes(&[b'F', b' ', switch_figure(*mark)]),
+        Call::Errors(digits) => {
+            w.bytes(b"E ");
+            errors(w, digits);
+        }
+        Call::Mark(lamp, mark) => {
+            head(w, b'M', *lamp + 1);
+            w.bytes(&[b' ', switch_figure(*mark)]);
+        }
+    }
+}
+
+// A number, a space, a sum.
+#[tactic(auto, using(crate::proofs::Writing::steps))]
+fn summed(w: &mut Writer<'_>, n: u32, sum: u32)
+    requires short { w.old.at ≤ 6 }
+    ensures written { Puts w.old w.new (summed_text n sum) }
+    ensures bound { w.new.at ≤ w.old.at + 19 }
+{
+    number(w, n);
+    w.byte(b' ');
+    w.bytes(&digest::hex8(sum));
+}
+
+// A space and what stands at the end of a line.
+#[tactic(auto, using(crate::proofs::Writing::steps))]
+fn ending(w: &mut Writer<'_>, s: &[u8])
+    requires { w.old.at + 1 + length s.now < 2 ^ 64 }
+    ensures { Puts w.old w.new (codes " " ++ s.now) }
+{
+    w.byte(b' ');
+    w.bytes(s);
+}
+
+fn time(w: &mut Writer<'_>, time: Option<&[u8]>)
+    requires { w.old.at ≤ 25 }
+    ensures { Puts w.old w.new (time_text (time_seen time.entry)) }
+{
+    if let Some(t) = time {
+        ending(w, t);
+    }
+}
+
+/// Puts what a line says, without its LF.
+#[tactic(auto, unfolding(crate::specs::Entries::entry_text), using(crate::proofs::Writing::steps))]
+pub fn entry(w: &mut Writer<'_>, entry: &Entry<'_>)
+    requires first { w.old.at ≡ 0 }
+    requires sayable { is_sayable_entry (entry_seen entry.now) ≡ true }
+    ensures { Puts w.old w.new (entry_text (entry_seen entry.now)) }
+{
+    match entry {
+        Entry::Header(header) => {
+            w.bytes(b"LOG 2 ");
+            summed(w, header.file, header.sum);
+            time(w, header.time);
+        }
+        Entry::Call(made) => call(w, made),
+        Entry::Stated(stated) => {
+            w.bytes(b"S ");
+            summed(w, stated.lines, stated.sum);
+            ending(w, stated.shown);
+        }
+    }
+}

@@ -1,0 +1,177 @@
+// The recorder: the line of a header, of a call and of what a record shows, into lent memory, and what is kept for the
+// next one.
+ghost use Rattle.std.specs.Prelude.{◌≡◌, ◌≤◌, length, true, false};
+ghost use Rattle.text.specs.Words.{over};
+ghost use Rattle.text.specs.Outcomes.{told_written, written_told};
+ghost use Rattle.record.specs.Refusals.{refusal_number};
+ghost use Rattle.crc32.specs.Crc.{crc32_of, crc32_on};
+ghost use Rattle.history.specs.Calls.{call_seen};
+ghost use Rattle.history.specs.Entries.{time_seen, entry_seen, is_sayable_entry, entry_line, call};
+ghost use Rattle.history.specs.Recording.{log_line_room, cannot_follow, advanced, recorded_by, recorder_after};
+ghost use Rattle.history.specs.Recording.{header_next};
+ghost use Rattle.history.specs.Recording.{stated_by, stated_after};
+
+use crate::call::Call;
+use crate::entry::{Entry, Header, SHOWN_MOST, Stated};
+use crate::{put, shown};
+use arrayvec::ArrayVec;
+use lent::Writer;
+use record::refusal::Refusal;
+use record::types::Device;
+
+/// The memory that any line fits in, its LF included.
+pub const LINE_ROOM: usize = 4097;
+
+/// What is kept from line to line: plain numbers, which a host may keep wherever it likes.
+#[derive(Clone, Copy)]
+pub struct Recorder {
+    /// The number of the file in the chain; 0 before the first.
+    pub file: u32,
+    /// How many lines the file has, its header not counted.
+    pub lines: u32,
+    /// The CRC-32 of all that came before: the stored form, and the chain so far.
+    pub sum: u32,
+}
+
+// The line of an entry that can be said, and its length.
+#[tactic(auto, using(crate::proofs::Fits::entry_fits))]
+fn put_line(entry: &Entry<'_>, out: &mut [u8]) -> usize
+    requires sayable { is_sayable_entry (entry_seen entry.now) ≡ true }
+    requires fits { log_line_room ≤ length out.old }
+    ensures count { result ≡ length (entry_line (entry_seen entry.now)) }
+    ensures written { out.new ≡ over (entry_line (entry_seen entry.now)) out.old }
+{
+    let mut writer = Writer::new(out);
+    put::entry(&mut writer, entry);
+    writer.byte(b'\n');
+    writer.count()
+}
+
+impl Recorder {
+    // Whether no such line can stand there: there is no file yet, or no line more can be counted.
+    fn cannot_follow(&self, entry: &Entry<'_>) -> bool
+        ensures { result ≡ cannot_follow self.now (entry_seen entry.now) }
+    {
+        match entry {
+            Entry::Header(_) => false,
+            _ => self.file == 0 || self.lines == u32::MAX,
+        }
+    }
+
+    // What is kept after a line, of which `sum` is the sum.
+    fn advance(&mut self, entry: &Entry<'_>, sum: u32)
+        requires summed { sum ≡ crc32_on self.old.sum (entry_line (entry_seen entry.now)) }
+        requires room { cannot_follow self.old (entry_seen entry.now) ≡ false }
+        ensures { self.new ≡ advanced self.old (entry_seen entry.now) }
+    {
+        self.sum = sum;
+        match entry {
+            Entry::Header(header) => {
+                self.file = header.file;
+                self.lines = 0;
+            }
+            _ => self.lines += 1,
+        }
+    }
+
+    /// Nothing is recorded yet. The form is that of the device, which was set up, or loaded from it.
+    pub fn new(form: &[u8]) -> Recorder
+        ensures file { result.file ≡ 0 }
+        ensures lines { result.lines ≡ 0 }
+        ensures sum { result.sum ≡ crc32_of form.now }
+    {
+        Recorder {
+            file: 0,
+            lines: 0,
+            sum: crc32::crc32(form),
+        }
+    }
+
+    // The line of an entry that can be said, while lines can be counted.
+    #[tactic(auto, unfolding(crate::specs::Recording::recorded_by, crate::specs::Recording::recorder_after))]
+    fn record(&mut self, entry: &Entry<'_>, out: &mut [u8]) -> Result<usize, Refusal>
+        ensures told { written_told refusal_number result
+            ≡ told_written (recorded_by self.old (entry_seen entry.now) (length out.old)) }
+        ensures memory { out.new ≡ over (recorded_by self.old (entry_seen entry.now) (length out.old)).bytes out.old }
+        ensures kept { self.new ≡ recorder_after self.old (entry_seen entry.now) (length out.old) }
+    {
+        if out.len() < LINE_ROOM {
+            return Err(Refusal::NoRoom);
+        }
+        if !entry.is_sayable() {
+            return Err(Refusal::OutOfRange);
+        }
+        if self.cannot_follow(entry) {
+            return Err(Refusal::OutOfRange);
+        }
+        let count = put_line(entry, out);
+        self.advance(entry, crc32::crc32_on(self.sum, &out[..count]));
+        Ok(count)
+    }
+
+    /// Records that a file begins: its header, with the time that the host gives. Returns the length of the line, which
+    /// fills the start of the memory; its rest stays. Errors, in this order, with which the recorder and all of the
+    /// memory stay: `NoRoom` under 4,097 bytes of memory; `OutOfRange` for a time that no header can have, and past
+    /// file 4,294,967,295.
+    #[tactic(auto, unfolding(crate::specs::Recording::recorded_by, crate::specs::Recording::recorder_after))]
+    pub fn file(&mut self, time: Option<&[u8]>, out: &mut [u8]) -> Result<usize, Refusal>
+        ensures told { written_told refusal_number result ≡ told_written
+            (recorded_by self.old (header_next self.old (time_seen time.entry)) (length out.old)) }
+        ensures memory { out.new ≡ over
+            (recorded_by self.old (header_next self.old (time_seen time.entry)) (length out.old)).bytes
+            out.old }
+        ensures kept { self.new
+            ≡ recorder_after self.old (header_next self.old (time_seen time.entry)) (length out.old) }
+    {
+        if out.len() < LINE_ROOM {
+            return Err(Refusal::NoRoom);
+        }
+        if self.file == u32::MAX {
+            return Err(Refusal::OutOfRange);
+        }
+        let header = Header {
+            file: self.file + 1,
+            sum: self.sum,
+            time,
+        };
+        self.record(&Entry::Header(header), out)
+    }
+
+    /// Records a call. Returns the length of its line, which fills the start of the memory; its rest stays. Errors, in
+    /// this order, with which the recorder and all of the memory stay: `NoRoom` under 4,097 bytes of memory;
+    /// `OutOfRange` for a call that no line can say ([`Call::is_sayable`]), before the first file, and past
+    /// 4,294,967,295 lines of a file.
+    pub fn call(&mut self, made: &Call<'_>, out: &mut [u8]) -> Result<usize, Refusal>
+        ensures told { written_told refusal_number result
+            ≡ told_written (recorded_by self.old (call (call_seen made.now)) (length out.old)) }
+        ensures memory { out.new
+            ≡ over (recorded_by self.old (call (call_seen made.now)) (length out.old)).bytes out.old }
+        ensures kept { self.new ≡ recorder_after self.old (call (call_seen made.now)) (length out.old) }
+    {
+        self.record(&Entry::Call(*made), out)
+    }
+
+    /// Records what a record shows: its power and seconds, with the count of lines and the sum so far. Returns the
+    /// length of the line, which fills the start of the memory; its rest stays. Errors, in this order, with which the
+    /// recorder and all of the memory stay: `NotLegal`; `NoRoom` under 4,097 bytes of memory; `OutOfRange` before the
+    /// first file, and past 4,294,967,295 lines of a file.
+    #[tactic(auto, unfolding(crate::specs::Recording::stated_by, crate::specs::Recording::stated_after))]
+    pub fn stated(&mut self, device: &Device, out: &mut [u8]) -> Result<usize, Refusal>
+        ensures told { written_told refusal_number result
+            ≡ told_written (stated_by self.old device.now (length out.old)) }
+        ensures memory { out.new ≡ over (stated_by self.old device.now (length out.old)).bytes out.old }
+        ensures kept { self.new ≡ stated_after self.old device.now (length out.old) }
+    {
+        if !device.is_legal() {
+            return Err(Refusal::NotLegal);
+        }
+        let mut shown: ArrayVec<u8, SHOWN_MOST> = ArrayVec::new();
+        shown::put_shown(device, &mut shown);
+        let stated = Stated {
+            lines: self.lines,
+            sum: self.sum,
+            shown: shown.as_slice(),
+        };
+        self.record(&Entry::Stated(stated), out)
+    }
+}

@@ -1,0 +1,33 @@
+// What is proved beside the contracts of the functions. Nothing is done here: that these functions have their contracts
+// is that the theorems stand.
+ghost use Rattle.std.specs.Prelude.{◌≡◌, ◌≤◌, List, [], Some, true, ℕ, map, take, length};
+ghost use Rattle.history.specs.Entries.{LogEntry, IsTypedEntry, is_sayable_entry, entry_text, entry_in};
+ghost use Rattle.history.specs.Logs.{Sayable, log_text, entries_in, cut_end, begun_at, IsHistory};
+ghost use Rattle.history.specs.Recording.{Asked, AreTyped, recorder_begun, entries_recorded, bytes_recorded};
+
+/// What a line says is what it was written for, and no two entries have one line.
+pub fn lines_say_what_they_were_written_for()
+    ensures back { (e : LogEntry) → IsTypedEntry e → is_sayable_entry e ≡ true → entry_in (entry_text e) ≡ Some e }
+    ensures one_line { (e f : LogEntry) → IsTypedEntry e → is_sayable_entry e ≡ true → IsTypedEntry f
+        → is_sayable_entry f ≡ true
+        → entry_text e ≡ entry_text f → e ≡ f }
+{}
+
+/// A log says the entries that it was written for, and what is left of one that was cut, at any byte, says a front of
+/// them.
+pub fn a_log_says_its_entries()
+    ensures said { (es : List LogEntry) → Sayable es → entries_in (log_text es) ≡ map Some es }
+    ensures whole { (es : List LogEntry) → Sayable es → cut_end [] (log_text es) ≡ [] }
+    ensures cut { (es : List LogEntry) → Sayable es → (n : ℕ)
+        → (k : ℕ) × (k ≤ length es) × (entries_in (take n (log_text es)) ≡ map Some (take k es)) }
+{}
+
+/// What the recorder writes, whatever it is asked and with whatever memory, is a history of the form: files in a chain,
+/// each with the sum of all before it. And it says what was recorded.
+pub fn what_is_recorded_is_a_history(form: &[u8])
+    ensures history { (asked : List (Asked × ℕ)) → AreTyped asked
+        → IsHistory (begun_at form.now) (entries_recorded (recorder_begun form.now) asked) }
+    ensures said { (asked : List (Asked × ℕ)) → AreTyped asked
+        → entries_in (bytes_recorded (recorder_begun form.now) asked)
+        ≡ map Some (entries_recorded (recorder_begun form.now) asked) }
+{}

@@ -1,0 +1,57 @@
+//! Memory that a caller lends, written from its start on: one thing after the other.
+#![tactic(auto)]
+
+ghost use Rattle.std.specs.Prelude.{◌≡◌, ◌∷◌, [], ◌+◌, ◌^◌, ◌<◌, length};
+ghost use Rattle.lent.specs.Puts.{Puts};
+
+/// Writes to lent memory, each thing after what stands there. What is past the end of the memory is counted and not
+/// written, so that a writer of no memory tells how long something is.
+#[derive(Drop)]
+pub struct Writer<'a> {
+    /// The memory that is lent.
+    pub out: &'a mut [u8],
+    /// How many bytes have been put.
+    pub at: usize,
+}
+
+impl<'a> Writer<'a> {
+    /// Nothing is written yet.
+    pub fn new(out: &'a mut [u8]) -> Writer<'a>
+        ensures lent { result.out.ghost_name ≡ out.entry.ghost_name }
+        ensures memory { result.out.now ≡ out.old }
+        ensures first { result.at ≡ 0 }
+    {
+        Writer { out, at: 0 }
+    }
+
+    /// How many bytes have been put.
+    pub fn count(&self) -> usize
+        ensures { result ≡ self.now.at }
+    {
+        self.at
+    }
+
+    /// Puts these bytes.
+    #[tactic(auto, using(crate::proofs::Writing::sets_past, crate::proofs::Writing::sets_fit))]
+    pub fn bytes(&mut self, s: &[u8])
+        requires { self.old.at + length s.now < 2 ^ 64 }
+        ensures { Puts self.old self.new s.now }
+    {
+        if self.at < self.out.len() {
+            let n = s.len().min(self.out.len() - self.at);
+            text::put(self.out, self.at, &s[..n]);
+        }
+        self.at += s.len();
+    }
+
+    /// Puts one byte.
+    pub fn byte(&mut self, b: u8)
+        requires { self.old.at + 1 < 2 ^ 64 }
+        ensures { Puts self.old self.new (b ∷ []) }
+    {
+        if self.at < self.out.len() {
+            self.out[self.at] = b;
+        }
+        self.at += 1;
+    }
+}

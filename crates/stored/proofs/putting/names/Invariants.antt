@@ -1,0 +1,10 @@
+-- The names that the loop has passed are written.
+use Rattle.std.proofs.Common.{take, map, ◌≤◌, ◌+◌, ◌*◌}
+use Rattle.stored.specs.Form.{texts_bytes, name_stored}
+use Rattle.lent.specs.Puts.{Puts}
+use Rattle.stored.proofs.putting.names.Given as goal
+
+abbrev pub invariant-loop-name : goal.invariant-loop-name
+invariant-loop-name l =
+    Puts l.initial.w l.w (texts_bytes (map name_stored (take l.name-index l.names)))
+    × (l.w.at ≤ l.initial.w.at + 129 * l.name-index)

@@ -1,0 +1,10 @@
+-- The seconds that the loop has passed are written.
+use Rattle.std.proofs.Common.{take, ◌+◌, ◌*◌, ◌≤◌}
+use Rattle.stored.specs.Form.{seconds_bytes}
+use Rattle.lent.specs.Puts.{Puts}
+use Rattle.stored.proofs.putting.seconds.Given as goal
+
+abbrev pub invariant-loop-x : goal.invariant-loop-x
+invariant-loop-x l =
+    Puts l.initial.w l.w (seconds_bytes (take l.x-index l.lamps))
+    × (l.w.at ≤ l.initial.w.at + 4 * l.x-index)

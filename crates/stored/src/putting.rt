@@ -1,0 +1,99 @@
+// The fields of a stored form (RULES, Stored form), each put after what a writer has written.
+ghost use Rattle.std.specs.Prelude.{◌≡◌, ◌+◌, ◌*◌, ◌^◌, ◌<◌, ◌≤◌, All, length, map};
+ghost use Rattle.lent.specs.Puts.{Puts};
+ghost use Rattle.numbers.specs.HighestFirst.{highest_first};
+ghost use Rattle.words.specs.Texts.{input_name_most};
+ghost use Rattle.record.specs.Limits.{text_room, lamps_most};
+ghost use Rattle.stored.specs.Form.{section, text_section, seconds_bytes, mark_byte, marks_section, texts_bytes};
+ghost use Rattle.stored.specs.Form.{text_stored, name_stored};
+
+use lent::Writer;
+use numbers::highest;
+use record::types::{InputName, Text};
+
+fn mark_byte(mark: bool) -> u8
+    ensures { result ≡ mark_byte mark }
+{
+    if mark {
+        return 1;
+    }
+    0
+}
+
+/// Puts a number of two bytes, the highest first.
+pub fn number(w: &mut Writer<'_>, x: u32)
+    requires { w.old.at + 2 < 2 ^ 64 }
+    ensures written { Puts w.old w.new (highest_first 2 x) }
+    ensures bound { w.new.at ≤ w.old.at + 2 }
+{
+    w.bytes(&highest::two_bytes(x));
+}
+
+/// Puts what is counted, after its count.
+pub fn section(w: &mut Writer<'_>, count: usize, items: &[u8])
+    requires few { count < 256 }
+    requires short { w.old.at + 1 + length items.now < 2 ^ 64 }
+    ensures { Puts w.old w.new (section count items.now) }
+{
+    w.byte(count as u8);
+    w.bytes(items);
+}
+
+/// Puts a text.
+pub fn text(w: &mut Writer<'_>, t: &Text)
+    requires inside { t.now.len ≤ text_room }
+    requires short { w.old.at + 65 < 2 ^ 64 }
+    ensures written { Puts w.old w.new (text_section (text_stored t.now)) }
+    ensures bound { w.new.at ≤ w.old.at + 65 }
+{
+    let s = &t.bytes[..t.len];
+    section(w, s.len(), s);
+}
+
+// Puts an input's name.
+fn input_name(w: &mut Writer<'_>, t: &InputName)
+    requires inside { t.now.len ≤ input_name_most }
+    requires short { w.old.at + 129 < 2 ^ 64 }
+    ensures written { Puts w.old w.new (text_section (name_stored t.now)) }
+    ensures bound { w.new.at ≤ w.old.at + 129 }
+{
+    let s = &t.bytes[..t.len];
+    section(w, s.len(), s);
+}
+
+/// Puts names, one after the other.
+pub fn names(w: &mut Writer<'_>, names: &[InputName])
+    requires inside { All (λ t. t.len ≤ input_name_most) names.now }
+    requires short { w.old.at + 129 * length names.now < 2 ^ 64 }
+    ensures { Puts w.old w.new (texts_bytes (map name_stored names.now)) }
+{
+    for name in names {
+        input_name(w, name);
+    }
+}
+
+/// Puts the seconds of lamps.
+pub fn seconds(w: &mut Writer<'_>, lamps: &[u32])
+    requires few { length lamps.now ≤ lamps_most }
+    requires short { w.old.at + 33 < 2 ^ 64 }
+    ensures written { Puts w.old w.new (section (length lamps.now) (seconds_bytes lamps.now)) }
+    ensures bound { w.new.at ≤ w.old.at + 33 }
+{
+    w.byte(lamps.len() as u8);
+    for &x in lamps {
+        w.bytes(&highest::four_bytes(x));
+    }
+}
+
+/// Puts the marks of lamps.
+pub fn marks(w: &mut Writer<'_>, marks: &[bool])
+    requires few { length marks.now ≤ lamps_most }
+    requires short { w.old.at + 9 < 2 ^ 64 }
+    ensures written { Puts w.old w.new (marks_section marks.now) }
+    ensures bound { w.new.at ≤ w.old.at + 9 }
+{
+    w.byte(marks.len() as u8);
+    for &mark in marks {
+        w.byte(mark_byte(mark));
+    }
+}
