@@ -1,67 +1,25 @@
 -- Vectors of UTF-8: the examples of RFC 3629, section 7, and the borders of its tables.
 -- Assumes nothing.
-use Rattle.std.specs.Char.{encode_utf8}
+use Rattle.std.specs.Char.{encode_utf8, IsScalar}
 use Rattle.std.specs.List.{list_all}
 use Rattle.std.specs.Str.{chars, is_utf8}
-use Rattle.std.proofs.Common.{ℕ, ◌≡◌, refl, true, not, List, [], ◌∷◌, map, encode_utf8_all}
-use Rattle.std.proofs.Math.Utf8.{scalar}
+use Rattle.std.proofs.Common.{arith, ℕ, ◌≡◌, refl, true, not, List, [], ◌∷◌, map, encode_utf8_all, All}
+use Rattle.words.specs.Utf8Worked.{rfc_points, rfc_octets, well_formed, ill_formed}
 
--- "A<NOT IDENTICAL TO><ALPHA>."; the Korean "hangugeo"; the Japanese "nihongo"; a byte order mark and U+233B4
-abbrev points : List (List ℕ)
-points =
-    (0x41 ∷ 0x2262 ∷ 0x391 ∷ 0x2E ∷ [])
-    ∷ (0xD55C ∷ 0xAD6D ∷ 0xC5B4 ∷ [])
-    ∷ (0x65E5 ∷ 0x672C ∷ 0x8A9E ∷ [])
-    ∷ (0xFEFF ∷ 0x233B4 ∷ [])
-    ∷ []
-
-abbrev octets : List (List ℕ)
-octets =
-    (0x41 ∷ 0xE2 ∷ 0x89 ∷ 0xA2 ∷ 0xCE ∷ 0x91 ∷ 0x2E ∷ [])
-    ∷ (0xED ∷ 0x95 ∷ 0x9C ∷ 0xEA ∷ 0xB5 ∷ 0xAD ∷ 0xEC ∷ 0x96 ∷ 0xB4 ∷ [])
-    ∷ (0xE6 ∷ 0x97 ∷ 0xA5 ∷ 0xE6 ∷ 0x9C ∷ 0xAC ∷ 0xE8 ∷ 0xAA ∷ 0x9E ∷ [])
-    ∷ (0xEF ∷ 0xBB ∷ 0xBF ∷ 0xF0 ∷ 0xA3 ∷ 0x8E ∷ 0xB4 ∷ [])
-    ∷ []
-
-section_7 : map encode_utf8_all points ≡ octets
+pub section_7 : map encode_utf8_all rfc_points ≡ rfc_octets
 unfolding encode_utf8
 section_7 = refl
 
--- nothing, the RFC's own, and the first and the last number of each length and those beside the surrogates
-abbrev well_formed : List (List ℕ)
-well_formed =
-    [] ∷ (0x00 ∷ []) ∷ (0x7F ∷ []) ∷ (0xC2 ∷ 0x80 ∷ []) ∷ (0xDF ∷ 0xBF ∷ []) ∷ (0xE0 ∷ 0xA0 ∷ 0x80 ∷ [])
-    ∷ (0xED ∷ 0x9F ∷ 0xBF ∷ []) ∷ (0xEE ∷ 0x80 ∷ 0x80 ∷ []) ∷ (0xEF ∷ 0xBF ∷ 0xBF ∷ [])
-    ∷ (0xF0 ∷ 0x90 ∷ 0x80 ∷ 0x80 ∷ []) ∷ (0xF4 ∷ 0x8F ∷ 0xBF ∷ 0xBF ∷ []) ∷ octets
-
-taken : list_all is_utf8 well_formed ≡ true
+pub taken : list_all is_utf8 well_formed ≡ true
 unfolding chars encode_utf8 is_utf8
 taken = refl
 
-abbrev ill_formed : List (List ℕ)
-ill_formed =
-    -- overlong forms of U+0000, U+007F, U+07FF and U+FFFF
-    (0xC0 ∷ 0x80 ∷ []) ∷ (0xC1 ∷ 0xBF ∷ []) ∷ (0xE0 ∷ 0x80 ∷ 0x80 ∷ []) ∷ (0xE0 ∷ 0x9F ∷ 0xBF ∷ [])
-    ∷ (0xF0 ∷ 0x80 ∷ 0x80 ∷ 0x80 ∷ []) ∷ (0xF0 ∷ 0x8F ∷ 0xBF ∷ 0xBF ∷ [])
-    -- U+D800 and U+DFFF, alone and as a pair that means U+10000 elsewhere
-    ∷ (0xED ∷ 0xA0 ∷ 0x80 ∷ []) ∷ (0xED ∷ 0xBF ∷ 0xBF ∷ []) ∷ (0xED ∷ 0xA0 ∷ 0x80 ∷ 0xED ∷ 0xB0 ∷ 0x80 ∷ [])
-    -- U+110000 and more, and bytes that begin nothing
-    ∷ (0xF4 ∷ 0x90 ∷ 0x80 ∷ 0x80 ∷ []) ∷ (0xF5 ∷ 0x80 ∷ 0x80 ∷ 0x80 ∷ [])
-    ∷ (0xF8 ∷ 0x88 ∷ 0x80 ∷ 0x80 ∷ 0x80 ∷ []) ∷ (0xFE ∷ []) ∷ (0xFF ∷ [])
-    -- bytes that only continue, with no character to continue
-    ∷ (0x80 ∷ []) ∷ (0xBF ∷ []) ∷ (0x41 ∷ 0x80 ∷ []) ∷ (0xC2 ∷ 0x80 ∷ 0x80 ∷ [])
-    ∷ (0xE2 ∷ 0x89 ∷ 0xA2 ∷ 0xBF ∷ [])
-    -- characters cut at the end
-    ∷ (0xC2 ∷ []) ∷ (0xE2 ∷ []) ∷ (0xE2 ∷ 0x89 ∷ []) ∷ (0xF0 ∷ []) ∷ (0xF0 ∷ 0xA3 ∷ []) ∷ (0xF0 ∷ 0xA3 ∷ 0x8E ∷ [])
-    ∷ (0x41 ∷ 0xE2 ∷ 0x89 ∷ [])
-    -- and in the middle, by a letter or by the next character
-    ∷ (0xC2 ∷ 0x41 ∷ []) ∷ (0xE2 ∷ 0x89 ∷ 0x41 ∷ []) ∷ (0xF0 ∷ 0xA3 ∷ 0x8E ∷ 0x41 ∷ [])
-    ∷ (0xE2 ∷ 0x89 ∷ 0xCE ∷ 0x91 ∷ []) ∷ (0xF0 ∷ 0xE2 ∷ 0x89 ∷ 0xA2 ∷ []) ∷ []
-
-refused : list_all (λ (s : List ℕ). not (is_utf8 s)) ill_formed ≡ true
+pub refused : list_all (λ (s : List ℕ). not (is_utf8 s)) ill_formed ≡ true
 unfolding chars encode_utf8 is_utf8
 refused = refl
 
--- U+D800, U+DFFF and U+110000 are no scalar values
-no_scalars : list_all (λ (n : ℕ). not (scalar n)) (0xD800 ∷ 0xDFFF ∷ 0x110000 ∷ []) ≡ true
-no_scalars = refl
+-- U+D800, U+DFFF and U+110000
+pub no_scalars : All (λ (n : ℕ). ¬ IsScalar n) (0xD800 ∷ 0xDFFF ∷ 0x110000 ∷ [])
+no_scalars = grind arith
+
+pub ruleset worked_utf8 = (section_7, taken, refused, no_scalars)

@@ -16,3 +16,4 @@ pub mod Laws
 pub mod ClassOne
 pub mod Computing
 pub mod Utf8
+pub mod Utf8Worked

@@ -1,10 +1,13 @@
 // What is proved beside the contracts of the functions. Nothing is done here: that these functions have their contracts
 // is that the theorems stand.
 ghost use Rattle.std.specs.Prelude.{[], ◌∷◌, ◌≡◌, ◌↔◌, true, ℕ, List, Some, IsTrue, IsUtf8, encode_utf8_all};
-ghost use Rattle.std.specs.Prelude.{false, None, map, codes};
+ghost use Rattle.std.specs.Prelude.{false, None, map, codes, not, All};
+ghost use Rattle.std.specs.Char.{IsScalar};
+ghost use Rattle.std.specs.List.{list_all};
 ghost use Rattle.std.specs.Str.{is_utf8};
 ghost use Rattle.words.specs.Bytes.{◌at◌};
 ghost use Rattle.words.specs.Utf8.{IsOctets};
+ghost use Rattle.words.specs.Utf8Worked.{rfc_points, rfc_octets, well_formed, ill_formed};
 ghost use Rattle.words.specs.Sources.{input_for, number_character};
 ghost use Rattle.words.specs.Inputs.{read_input, is_input, is_input_text, source_digit, input_text};
 ghost use Rattle.words.specs.declared.input.Input.{Input};
@@ -42,4 +45,14 @@ pub fn inputs_are_worked_out()
         ≡ Some (record { source = Rgb; number = 1 }) ∷ Some (record { source = Network; number = 9 }) ∷ None
         ∷ None ∷ Some (record { source = Internal; number = 1 })
         ∷ Some (record { source = Digital; number = 11 }) ∷ [] }
+{}
+
+/// UTF-8 worked out (RULES, Texts): the examples of RFC 3629, section 7, bytes at the borders of its table, bytes
+/// beyond them, and numbers that are no character.
+#[tactic(auto, using(crate::proofs::Utf8Examples::worked_utf8))]
+pub fn utf8_is_worked_out()
+    ensures section_7 { map encode_utf8_all rfc_points ≡ rfc_octets }
+    ensures taken { list_all is_utf8 well_formed ≡ true }
+    ensures refused { list_all (λ (s : List ℕ). not (is_utf8 s)) ill_formed ≡ true }
+    ensures no_scalars { All (λ (n : ℕ). ¬ IsScalar n) (0xD800 ∷ 0xDFFF ∷ 0x110000 ∷ []) }
 {}
