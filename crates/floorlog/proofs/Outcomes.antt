@@ -1,6 +1,6 @@
 -- What an event came to says what is printed for it, in no more bytes than there is room for.
 -- Assumes nothing.
-use Rattle.std.proofs.Common.{ℕ, ◌+◌, ◌*◌, ◌≤◌, ◌≡◌, ap, List, [], ◌∷◌, ◌++◌, arith, length}
+use Rattle.std.proofs.Common.{ℕ, ◌≤◌, ◌≡◌, List, arith, length}
 use Rattle.std.proofs.Common.{length-append, length-take, codes}
 use Rattle.std.proofs.Math.Seq.{take-append_seam}
 use Rattle.text.specs.Words.{over}
