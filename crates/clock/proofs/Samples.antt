@@ -53,6 +53,14 @@ pub passed_3600 : passed_figures 3600 ≡ 0 ∷ on ∷ 0 ∷ 3600 ∷ []
 unfolding computing computing-record
 passed_3600 = refl
 
-pub ruleset worked_seconds =
-    (after_19_still_warming, after_20_on, one_short_of_the_limit, stops_at_the_limit, at_28_older, at_29_closes,
-    passed_19, passed_20, passed_3600)
+pub ruleset worked_seconds = (
+  after_19_still_warming,
+  after_20_on,
+  one_short_of_the_limit,
+  stops_at_the_limit,
+  at_28_older,
+  at_29_closes,
+  passed_19,
+  passed_20,
+  passed_3600,
+)

@@ -80,10 +80,24 @@ names_cut = refl
 pub names_short : names_in (4 ∷ 2 ∷ []) (codes "CastB") ≡ []
 names_short = refl
 
-pub ruleset numbered_set_ups =
-    (numbered, sockets_numbered, passwords_numbered, classes_numbered, settles, seven_illegal, eight_legal,
-    named_legal)
+pub ruleset numbered_set_ups = (
+  numbered,
+  sockets_numbered,
+  passwords_numbered,
+  classes_numbered,
+  settles,
+  seven_illegal,
+  eight_legal,
+  named_legal,
+)
 
-pub ruleset told_settings =
-    (each_setting_told, first_of_two_told, no_setting_told, short_password_told, later_setting_told,
-    setting_of_2_told, names_cut, names_short)
+pub ruleset told_settings = (
+  each_setting_told,
+  first_of_two_told,
+  no_setting_told,
+  short_password_told,
+  later_setting_told,
+  setting_of_2_told,
+  names_cut,
+  names_short,
+)

@@ -68,9 +68,18 @@ pub most_reached : length widest_form ≡ form_most
 unfolding computing number-computing record-computing
 most_reached = refl
 
-pub ruleset printed_forms =
-    (printed_stored, printed_loads, class_printed_lem, class_printed_loaded, marked_printed_lem,
-    marked_printed_loaded, old_printed_lem, old_printed_loaded, widest_loads, most_reached)
+pub ruleset printed_forms = (
+  printed_stored,
+  printed_loads,
+  class_printed_lem,
+  class_printed_loaded,
+  marked_printed_lem,
+  marked_printed_loaded,
+  old_printed_lem,
+  old_printed_loaded,
+  widest_loads,
+  most_reached,
+)
 
 pub ruleset refused_bytes =
     (each_refused, each_class, each_old_refused, each_marked)
