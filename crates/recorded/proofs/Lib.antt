@@ -1,0 +1,6 @@
+pub mod Taken
+pub mod Same
+pub mod Played
+pub mod Histories
+pub mod CallsSayable
+pub mod Written
