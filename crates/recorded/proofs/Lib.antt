@@ -4,3 +4,4 @@ pub mod Played
 pub mod Histories
 pub mod CallsSayable
 pub mod Written
+pub mod Illegal
