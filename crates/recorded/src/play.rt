@@ -1,6 +1,6 @@
 // One call of a history, made again. The record is lent with what its one test said; only the host's calls test it
 // again.
-ghost use Rattle.std.specs.Prelude.{◌≡◌, true};
+ghost use Rattle.std.specs.Prelude.{◌≡◌, ◌==◌, true};
 ghost use Rattle.text.specs.Words.{over};
 ghost use Rattle.record.specs.Legal.{is_legal};
 ghost use Rattle.device.specs.Calls.{reply_room, received_at, opened_by};
@@ -27,6 +27,12 @@ pub enum Stray {
     OtherPlace,
 }
 
+fn is_recorded(got: usize, place: u8) -> bool
+    ensures { result ≡ (got == place) }
+{
+    got == place as usize
+}
+
 fn open(
     device: &mut Device,
     place: u8,
@@ -39,7 +45,7 @@ fn open(
     ensures reply { reply.new ≡ over (opened_by device.old random reply_room).reply reply.old }
 {
     match on_legal::open(device, random, reply) {
-        Ok(opened) if opened.place == place as usize => Ok(opened.length),
+        Ok(opened) if is_recorded(opened.place, place) => Ok(opened.length),
         Ok(_) => Err(Stray::OtherPlace),
         Err(refusal) => Err(Stray::Refused(refusal)),
     }
