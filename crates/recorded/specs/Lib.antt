@@ -1,2 +1,3 @@
 pub mod Recorded
 pub mod Playing
+pub mod Played

@@ -1,5 +1,6 @@
-//! What a log of a board's history records of any calls, and that it plays back as it was (RULES, History of a board).
-//! Definitions and laws only; there is no code here to link.
+//! What a log of a board's history records of any calls, that it plays back as it was, and the step of a player (RULES,
+//! History of a board).
 #![tactic(auto)]
 
+pub mod play;
 pub mod theorems;

@@ -1,6 +1,6 @@
 // What is proved of recorded calls. Nothing is done here: that these functions have their contracts is that the
 // theorems stand.
-ghost use Rattle.std.specs.Prelude.{◌≡◌, ℕ, List, Some, map, take};
+ghost use Rattle.std.specs.Prelude.{◌≡◌, ◌≤◌, ℕ, List, Some, map, length, take};
 ghost use Rattle.record.specs.declared.types.Device.{Device};
 ghost use Rattle.ours.specs.Board.{ours};
 ghost use Rattle.demands.specs.Calls.{Call, run};
@@ -35,9 +35,15 @@ pub fn served_calls_can_be_said()
 {}
 
 /// What the recorder writes of these calls, with whatever headers and stated lines between them, plays back as they
-/// were: its bytes say them, and give the same record, replies and history.
+/// were: its bytes say them, and give the same record, replies and history. What is left of it where it was cut, at any
+/// byte, plays back as a front of the calls.
 pub fn what_is_written_plays_back(form: &[u8])
-    ensures { (asked : List (Asked × ℕ)) → AreTyped asked → (d : Device) (cs : List Call)
+    ensures whole { (asked : List (Asked × ℕ)) → AreTyped asked → (d : Device) (cs : List Call)
         → entry_calls (entries_recorded (recorder_begun form.now) asked) ≡ recorded d cs
         → PlaysAs d cs (bytes_recorded (recorder_begun form.now) asked) }
+    ensures cut { (asked : List (Asked × ℕ)) → AreTyped asked → (d : Device) (cs : List Call)
+        → entry_calls (entries_recorded (recorder_begun form.now) asked) ≡ recorded d cs
+        → (n : ℕ)
+        → (k : ℕ) × (k ≤ length cs)
+        × PlaysAs d (take k cs) (take n (bytes_recorded (recorder_begun form.now) asked)) }
 {}
