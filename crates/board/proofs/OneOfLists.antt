@@ -61,6 +61,6 @@ pub plan_fits : (l : Lists) (room : ℕ) (ps : List Placement) → Plans l room 
 plan_fits l room ps h = grind (arith, length-map, length-map-range_with_len)
 
 -- a later table with one place more is not compared
-one_place_short : (out : List ℤ) (r : Report) (m : List ℤ) → ComparesInto (1 ∷ []) (1 ∷ 2 ∷ []) out r m
+pub one_place_short : (out : List ℤ) (r : Report) (m : List ℤ) → ComparesInto (1 ∷ []) (1 ∷ 2 ∷ []) out r m
     → (r ≡ not_compared) × (m ≡ out)
 one_place_short out r m h = grind arith

@@ -1,6 +1,6 @@
 // What is proved beside the contracts of the functions. Nothing is done here: that these functions have their contracts
 // is that the theorems stand.
-ghost use Rattle.std.specs.Prelude.{[], ◌≡◌, ◌≢◌, ◌≤◌, ℕ, ℤ, List, length, Bool, true, not, if◌then◌else◌, nat_lt};
+ghost use Rattle.std.specs.Prelude.{[], ◌∷◌, ◌≡◌, ◌≢◌, ◌≤◌, ℕ, ℤ, List, length, Bool, true, not, if◌then◌else◌, nat_lt};
 ghost use Rattle.std.specs.Prelude.{Option, Some, None, Result};
 ghost use Rattle.std.specs.List.{list_all};
 ghost use Rattle.pjlink.specs.declared.command.Command.{Command};
@@ -18,7 +18,7 @@ ghost use Rattle.day.specs.declared.check.CheckError.{CheckError};
 ghost use Rattle.day.specs.declared.plan.PlanError.{PlanError};
 ghost use Rattle.board.specs.Lists.{Lists};
 ghost use Rattle.board.specs.Days.{flat_verdict, flat_plan, ChecksInto, PlansInto};
-ghost use Rattle.board.specs.Lamps.{ComparesInto};
+ghost use Rattle.board.specs.Lamps.{ComparesInto, not_compared};
 ghost use Rattle.board.specs.declared.lamps.Report.{Report};
 ghost use Rattle.board.specs.Results.{writing_of, panel_changed_of, panel_sent_of};
 ghost use Rattle.board.specs.declared.results.PanelChanged.{PanelChanged};
@@ -107,6 +107,13 @@ pub fn the_setting_told_goes_with_the_number()
         → setting_number (setting_told (set_up w)) ≡ setting_number (first_out_of_range w) }
     ensures short_password { (w : Wanted) → (set_up_given (set_up w)).number ≡ 8
         → setting_number (setting_told (set_up w)) ≡ setting_place Password }
+{}
+
+/// A later table of one place more than the earlier one is not compared, and nothing is written (RULES, Service).
+#[tactic(auto, using(crate::proofs::OneOfLists::one_place_short))]
+pub fn a_place_more_is_not_compared()
+    ensures { (out : List ℤ) (r : Report) (m : List ℤ) → ComparesInto (1 ∷ []) (1 ∷ 2 ∷ []) out r m
+        → (r ≡ not_compared) × (m ≡ out) }
 {}
 
 /// Two results that meet the promise of a call are equal, lent memory included.
