@@ -12,9 +12,10 @@ int main(void) {
     static pj_device device; /* the host keeps the record, and lends it */
     static uint8_t reply[PJ_REPLY_ROOM];
     const char *lines[] = {"%1POWR 1\r", "%1LAMP ?\r"};
-    const uint32_t lamps[] = {7200}; /* one lamp, which has burnt two hours; 20 s of warm-up, 60 s of cooling */
-    uint32_t number = pj_set_up_in_place(&device, TEXT("Table 3"), TEXT("maker"), TEXT("model"), TEXT(""), TEXT(""),
-                                         TEXT("1132"), lamps, 1, 20, 60);
+    const uint32_t lamps[] = {7200}; /* one lamp, which has burnt two hours */
+    const pj_setup settings = {.name = PJ_BYTES("Table 3"), .maker = PJ_BYTES("maker"), .model = PJ_BYTES("model"),
+                               .inputs = PJ_BYTES("1132"), .lamps = lamps, .lamp_count = 1, .warm = 20, .cool = 60};
+    uint32_t number = pj_set_up_from(&device, &settings);
     pj_opening opened = pj_open_in_place(&device, 0, reply, sizeof reply); /* no password: any random number will do */
     if (number != PJ_SERVED || opened.number != PJ_SERVED) return 1;
     for (int i = 0; i < 2; i++) {

@@ -243,6 +243,22 @@ static void class_2(void) {
                                    TEXT("116A"), LIST(lamps), 20, 60, TEXT("S/N 7"), TEXT("1.4"), TEXT("RGBplayer"),
                                    LIST(lengths));
     served(started, "pj_set_up_2_in_place");
+
+    /* the same by name, from a record that held something else; and the setting that a refusal is for */
+    static pj_device named = {.settings = {.warm = 7}};
+    pj_setup wanted = {.name = PJ_BYTES("Table 4"), .maker = PJ_BYTES("maker"), .model = PJ_BYTES("model"),
+                       .inputs = PJ_BYTES("116A"), .lamps = lamps, .lamp_count = 1, .warm = 20, .cool = 60,
+                       .class_2 = true, .serial = PJ_BYTES("S/N 7"), .version = PJ_BYTES("1.4"),
+                       .names = PJ_BYTES("RGBplayer"), .name_lengths = lengths, .name_count = 2};
+    served(pj_set_up_from(&named, &wanted), "pj_set_up_from");
+    printf("set up by name: the same record %d\n", memcmp(&named, &device, sizeof named) == 0);
+    wanted.name_count = 1;
+    printf("one name: refused %d", pj_set_up_from(&named, &wanted) == PJ_OUT_OF_RANGE);
+    printf(", for the names %d\n", pj_which_setting_from(&wanted) == PJ_SETTING_NAMES);
+    wanted.class_2 = false;
+    printf("6A in Class 1: refused %d", pj_set_up_from(&named, &wanted) == PJ_OUT_OF_RANGE);
+    printf(", for the inputs %d\n", pj_which_setting_from(&wanted) == PJ_SETTING_INPUTS);
+
     pj_opening opened = pj_open_in_place(&device, 0, reply, sizeof reply);
     served(opened.number, "pj_open_in_place");
     size_t place = opened.place;

@@ -30,7 +30,7 @@
    moved. A host that was written for one version can ask for it: #if CEILING_FACE != 11 .. #error. */
 #define CEILING_FACE 11
 
-/* What stands before a call whose result has the record in it: a compiler warns where such a result is dropped. */
+/* What stands before each call: a compiler warns where its result is dropped, with the number or the record in it. */
 #if defined(__cplusplus) && __cplusplus >= 201703L || defined(__STDC_VERSION__) && __STDC_VERSION__ >= 202311L
 #define CEILING_KEEP [[nodiscard]]
 #elif defined(__GNUC__)
@@ -277,6 +277,7 @@ enum pj_setting {               /* in the order in which pj_set_up and pj_set_up
    of 1 to 7 letters and digits is in range for that, and is told where nothing else is wrong: PJ_SETTING_PASSWORD where
    pj_set_up gives PJ_SHORT_PASSWORD. It is PJ_SETTING_NONE exactly where pj_set_up gives PJ_SERVED. It is for Class 1:
    inputs that pj_set_up_2 alone takes are out of range here. Refuses nothing. */
+CEILING_KEEP
 uint32_t pj_which_setting(const uint8_t *name, size_t name_len, const uint8_t *maker, size_t maker_len,
                           const uint8_t *model, size_t model_len, const uint8_t *other, size_t other_len,
                           const uint8_t *password, size_t password_len, const uint8_t *inputs, size_t inputs_len,
@@ -284,6 +285,7 @@ uint32_t pj_which_setting(const uint8_t *name, size_t name_len, const uint8_t *m
 
 /* Tells why pj_set_up_2 refuses, as pj_which_setting does of pj_set_up: inputs are in range by the rule of Class 2, and
    after the cooling come the serial number, the software version and the names, in this order. Refuses nothing. */
+CEILING_KEEP
 uint32_t pj_which_setting_2(const uint8_t *name, size_t name_len, const uint8_t *maker, size_t maker_len,
                             const uint8_t *model, size_t model_len, const uint8_t *other, size_t other_len,
                             const uint8_t *password, size_t password_len, const uint8_t *inputs, size_t inputs_len,
@@ -344,6 +346,7 @@ pj_changed pj_set_mark(pj_device d, size_t lamp, bool enabled);
 
 /* Tells whether the record is one that the other calls serve. Every record that a call gave with PJ_SERVED is; this
    is for one that was stored elsewhere, and may have been damaged. Refuses nothing. */
+CEILING_KEEP
 bool pj_legal(pj_device d);
 
 /* The stored form: settings that survive a board swap. It is bytes, the same on every processor: the version byte 3,
@@ -365,6 +368,7 @@ typedef struct {
    seconds and mark as they are now. Power, mutes, freeze, levels, faults and connections are not stored. Store at every
    stop, and as often as own.lamps would be saved.
    Refuses with PJ_NOT_LEGAL, then with PJ_NO_ROOM memory shorter than this form; PJ_FORM_MOST bytes always suffice. */
+CEILING_KEEP
 pj_written pj_store(pj_device d, uint8_t *out, size_t out_len);
 
 /* Makes the record of the projector whose stored form is lent: pj_set_up, or in Class 2 pj_set_up_2, with the settings
@@ -390,12 +394,14 @@ typedef struct {
 } pj_opening;
 
 /* pj_set_up, into *d. */
+CEILING_KEEP
 uint32_t pj_set_up_in_place(pj_device *d, const uint8_t *name, size_t name_len, const uint8_t *maker, size_t maker_len,
                             const uint8_t *model, size_t model_len, const uint8_t *other, size_t other_len,
                             const uint8_t *password, size_t password_len, const uint8_t *inputs, size_t inputs_len,
                             const uint32_t *lamps, size_t lamp_count, uint32_t warm, uint32_t cool);
 
 /* pj_set_up_2, into *d. */
+CEILING_KEEP
 uint32_t pj_set_up_2_in_place(pj_device *d, const uint8_t *name, size_t name_len,
                               const uint8_t *maker, size_t maker_len, const uint8_t *model, size_t model_len,
                               const uint8_t *other, size_t other_len, const uint8_t *password, size_t password_len,
@@ -405,28 +411,38 @@ uint32_t pj_set_up_2_in_place(pj_device *d, const uint8_t *name, size_t name_len
                               const size_t *name_lengths, size_t name_count);
 
 /* pj_load, into *d. */
+CEILING_KEEP
 uint32_t pj_load_in_place(pj_device *d, const uint8_t *bytes, size_t len);
 
 /* pj_store and pj_legal, of *d, which they only read. */
+CEILING_KEEP
 pj_written pj_store_in_place(const pj_device *d, uint8_t *out, size_t out_len);
+CEILING_KEEP
 bool pj_legal_in_place(const pj_device *d);
 
 /* pj_open. */
+CEILING_KEEP
 pj_opening pj_open_in_place(pj_device *d, uint32_t random, uint8_t *out, size_t out_len);
 
 /* pj_close. */
+CEILING_KEEP
 uint32_t pj_close_in_place(pj_device *d, size_t place);
 
 /* pj_receive. */
+CEILING_KEEP
 pj_receiving pj_receive_in_place(pj_device *d, size_t place, const uint8_t *bytes, size_t len,
                                  uint8_t *out, size_t out_len);
 
 /* pj_pass: this is the board's own clock call. */
+CEILING_KEEP
 uint32_t pj_pass_in_place(pj_device *d, uint32_t seconds);
 
 /* pj_set_fault, pj_set_errors and pj_set_mark. */
+CEILING_KEEP
 uint32_t pj_set_fault_in_place(pj_device *d, bool mark);
+CEILING_KEEP
 uint32_t pj_set_errors_in_place(pj_device *d, const uint8_t *digits, size_t count);
+CEILING_KEEP
 uint32_t pj_set_mark_in_place(pj_device *d, size_t lamp, bool enabled);
 
 /* The digest. */
@@ -436,6 +452,7 @@ typedef struct {
 } pj_digest;
 
 /* Computes the MD5 of RFC 1321 over any bytes. The other calls do so by themselves. Refuses nothing. */
+CEILING_KEEP
 pj_digest pj_md5(const uint8_t *bytes, size_t len);
 
 /* The controller. It keeps no record: the host remembers the greeting's random number until it has sent the first
@@ -481,6 +498,7 @@ typedef struct {                            /* numbers, not characters; what a c
    projector that does not list it answers ERR2. PJ_CLSS asks for the class.
    Refuses with PJ_NO_ROOM, then with PJ_OUT_OF_RANGE what is no command and, where `secured`, a password that is not
    0 to PJ_PASSWORD_MOST letters and digits; 1 to 7 are taken, since other projectors may have such a password. */
+CEILING_KEEP
 pj_written pj_write(pj_command c, bool secured, uint32_t random, const uint8_t *password, size_t password_len,
                     uint8_t *out, size_t out_len);
 
@@ -500,6 +518,7 @@ typedef struct {
 /* Reads the line that a projector sends when it is connected to. The host collects bytes up to and including the CR,
    as for a reply.
    Refuses what is no greeting with PJ_NOT_A_LINE. */
+CEILING_KEEP
 pj_greeting pj_read_greeting(const uint8_t *line, size_t len);
 
 enum pj_reading_kind {
@@ -536,6 +555,7 @@ typedef struct {                            /* what a kind does not use is zero 
    sets something, and to PJ_INNM, since a projector may say it of an input that it does not have.
    Refuses what is no command with PJ_OUT_OF_RANGE, then the line with PJ_NOT_A_LINE, PJ_OTHER_COMMAND or
    PJ_NOT_ALLOWED. */
+CEILING_KEEP
 pj_reading pj_read_reply(pj_command c, const uint8_t *line, size_t len);
 
 /* The workroom panel. It drives up to PJ_PANEL_MOST projectors, each over a connection of its own that the host makes:
@@ -636,6 +656,7 @@ typedef struct {
    list `out`, whose places past the tables stay as they were, and tells the first lamp that went backwards, as one
    does that was exchanged.
    Refuses with PJ_OUT_OF_RANGE tables of unequal length or over PJ_TABLE_MOST places, and fewer places in `out`. */
+CEILING_KEEP
 pj_compared pj_compare_lamps(const uint32_t *earlier, size_t earlier_count, const uint32_t *later, size_t later_count,
                              int64_t *out, size_t out_count);
 
@@ -664,6 +685,7 @@ typedef struct {
 
 /* Checks a day for which each job has a rig, and names the first rule that is broken with the lowest job or rig
    concerned. Refuses as above. */
+CEILING_KEEP
 pj_verdict pj_check_day(const uint32_t *starts, size_t starts_len, const uint32_t *lengths, size_t lengths_len,
                         const uint8_t *allowed, size_t allowed_len,
                         const uint8_t *rigs_of_jobs, size_t rigs_of_jobs_len,
@@ -679,12 +701,79 @@ typedef struct {
 /* Plans a day: gives each job, in the order of the list, the lowest rig that keeps every rule with the jobs before
    it, and writes the rigs to the start of the result list `out`. Where some job finds none, `out` stays as it was.
    Refuses as above. */
+CEILING_KEEP
 pj_plan pj_plan_day(const uint32_t *starts, size_t starts_len, const uint32_t *lengths, size_t lengths_len,
                     const uint8_t *allowed, size_t allowed_len, const uint32_t *warm, size_t warm_len,
                     const uint32_t *cool, size_t cool_len, const uint32_t *life, size_t life_len,
                     uint8_t *out, size_t out_len);
 
+/* Set-up with its settings by name: two calls that the header makes of those above, and the archive does not have. */
+
+typedef struct {                            /* bytes that the host keeps, and their count; NULL where that is 0 */
+    const uint8_t *bytes;
+    size_t len;
+} pj_bytes;
+
+/* The bytes of a string literal, without the NUL that ends it: .name = PJ_BYTES("Table 3") */
+#define PJ_BYTES(literal) {(const uint8_t *)("" literal), sizeof("" literal) - 1}
+
+/* The settings of pj_set_up and, where class_2 is set, of pj_set_up_2. What is left out of an initializer is empty: no
+   password, no lamp, Class 1. */
+typedef struct {
+    pj_bytes name, maker, model, other, password, inputs;
+    const uint32_t *lamps;                  /* the seconds that each has burnt */
+    size_t lamp_count;
+    uint32_t warm, cool;                    /* seconds */
+    bool class_2;                           /* Class 2; what follows is not looked at in Class 1 */
+    pj_bytes serial, version, names;
+    const size_t *name_lengths;
+    size_t name_count;
+} pj_setup;
+
+static inline const uint8_t *pj_bytes_of(pj_bytes b) { return b.len > 0 ? b.bytes : (const uint8_t *)""; }
+
+/* pj_set_up_in_place, or pj_set_up_2_in_place, with these settings. */
+CEILING_KEEP
+static inline uint32_t pj_set_up_from(pj_device *d, const pj_setup *s) {
+    static const uint32_t no_lamp = 0;
+    static const size_t no_name = 0;
+    const uint32_t *lamps = s->lamp_count > 0 ? s->lamps : &no_lamp;
+    if (!s->class_2)
+        return pj_set_up_in_place(d, pj_bytes_of(s->name), s->name.len, pj_bytes_of(s->maker), s->maker.len,
+                                  pj_bytes_of(s->model), s->model.len, pj_bytes_of(s->other), s->other.len,
+                                  pj_bytes_of(s->password), s->password.len, pj_bytes_of(s->inputs), s->inputs.len,
+                                  lamps, s->lamp_count, s->warm, s->cool);
+    return pj_set_up_2_in_place(d, pj_bytes_of(s->name), s->name.len, pj_bytes_of(s->maker), s->maker.len,
+                                pj_bytes_of(s->model), s->model.len, pj_bytes_of(s->other), s->other.len,
+                                pj_bytes_of(s->password), s->password.len, pj_bytes_of(s->inputs), s->inputs.len,
+                                lamps, s->lamp_count, s->warm, s->cool, pj_bytes_of(s->serial), s->serial.len,
+                                pj_bytes_of(s->version), s->version.len, pj_bytes_of(s->names), s->names.len,
+                                s->name_count > 0 ? s->name_lengths : &no_name, s->name_count);
+}
+
+/* pj_which_setting, or pj_which_setting_2, of these settings. */
+CEILING_KEEP
+static inline uint32_t pj_which_setting_from(const pj_setup *s) {
+    static const uint32_t no_lamp = 0;
+    static const size_t no_name = 0;
+    const uint32_t *lamps = s->lamp_count > 0 ? s->lamps : &no_lamp;
+    if (!s->class_2)
+        return pj_which_setting(pj_bytes_of(s->name), s->name.len, pj_bytes_of(s->maker), s->maker.len,
+                                pj_bytes_of(s->model), s->model.len, pj_bytes_of(s->other), s->other.len,
+                                pj_bytes_of(s->password), s->password.len, pj_bytes_of(s->inputs), s->inputs.len,
+                                lamps, s->lamp_count, s->warm, s->cool);
+    return pj_which_setting_2(pj_bytes_of(s->name), s->name.len, pj_bytes_of(s->maker), s->maker.len,
+                              pj_bytes_of(s->model), s->model.len, pj_bytes_of(s->other), s->other.len,
+                              pj_bytes_of(s->password), s->password.len, pj_bytes_of(s->inputs), s->inputs.len,
+                              lamps, s->lamp_count, s->warm, s->cool, pj_bytes_of(s->serial), s->serial.len,
+                              pj_bytes_of(s->version), s->version.len, pj_bytes_of(s->names), s->names.len,
+                              s->name_count > 0 ? s->name_lengths : &no_name, s->name_count);
+}
+
 /* The layout that the archive has. */
+#if SIZE_MAX != UINT64_MAX
+#error "the archive is for processors of 64 bits: size_t has to have 8 bytes"
+#endif
 CEILING_IS(sizeof(bool) == 1 && sizeof(size_t) == 8);
 CEILING_IS(sizeof(pj_text) == 72 && offsetof(pj_text, bytes) == 8);
 CEILING_IS(sizeof(pj_name) == 136 && offsetof(pj_name, bytes) == 8);
