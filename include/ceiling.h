@@ -1,5 +1,6 @@
 /* The control software of a ceiling projector: PJLink Class 1, version 1.04, and of Class 2 what docs/RULES.md has of it,
-   both sides, with the MD5 of RFC 1321.
+   both sides, with the MD5 of RFC 1321. Class 2 was not checked against its specification, which was not at hand. The
+   archive is for processors of 64 bits alone.
 
    This declares what the archive libboard.a defines. `./archive` writes the archive for every processor of x86-64, whose
    calls are those of the System V calling convention for AMD64, and `./archive aarch64` the one for every AArch64, by the
