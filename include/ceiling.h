@@ -27,8 +27,8 @@
 #include <stddef.h>
 #include <stdint.h>
 
-/* The version of this face. It moves with each landing that moves a struct or a call; docs/landings/README.md says what
-   moved. A host that was written for one version can ask for it: #if CEILING_FACE != 11 .. #error. */
+/* The version of this face. It changes with each change of a struct or a call; CHANGELOG.md says what changed. A host
+   that was written for one version can ask for it: #if CEILING_FACE != 11 .. #error. */
 #define CEILING_FACE 11
 
 /* What stands before each call: a compiler warns where its result is dropped, with the number or the record in it. */
