@@ -23,6 +23,7 @@ use record::types::Device;
 pub const LINE_ROOM: usize = 4097;
 
 /// What is kept from line to line: plain numbers, which a host may keep wherever it likes.
+#[repr(C)]
 #[derive(Clone, Copy)]
 pub struct Recorder {
     /// The number of the file in the chain; 0 before the first.
