@@ -4,3 +4,4 @@ pub mod Zipping
 mod FitsADay
 pub mod OneOfLists
 pub mod Gives
+mod Unsayable
