@@ -5,3 +5,4 @@ mod FitsADay
 pub mod OneOfLists
 pub mod Gives
 mod Unsayable
+mod Played

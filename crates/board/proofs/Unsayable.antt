@@ -25,7 +25,9 @@ module _ (r : Recorder) (room : ℕ) where
       where
         by : (small : Bool) → nat_lt n 255 ≡ small → recorded_by r (of (byte_of n)) room ≡ recorded_by r (of n) room
         by true p = simp p
-        by false p = simp p ∙ written_alike (of 255) (of n) (none 255 refl) (none n p)
+        by false p =
+            let e : recorded_by r (of (byte_of n)) room ≡ recorded_by r (of 255) room = simp p in
+            e ∙ written_alike (of 255) (of n) (none 255 refl) (none n p)
 
     byte_kept : (n : ℕ) → recorder_after r (of (byte_of n)) room ≡ recorder_after r (of n) room
     unfolding byte_of
@@ -34,7 +36,9 @@ module _ (r : Recorder) (room : ℕ) where
         by : (small : Bool) → nat_lt n 255 ≡ small
             → recorder_after r (of (byte_of n)) room ≡ recorder_after r (of n) room
         by true p = simp p
-        by false p = simp p ∙ kept_alike (of 255) (of n) (none 255 refl) (none n p)
+        by false p =
+            let e : recorder_after r (of (byte_of n)) room ≡ recorder_after r (of 255) room = simp p in
+            e ∙ kept_alike (of 255) (of n) (none 255 refl) (none n p)
 
   pub opens_written : (p random : ℕ)
       → recorded_by r (call (opens (byte_of p) random)) room ≡ recorded_by r (call (opens p random)) room
@@ -76,7 +80,10 @@ module _ (r : Recorder) (room : ℕ) where
       by : (six : Bool) → (length ds == 6) ≡ six
           → recorded_by r (call (reports (six_of ds))) room ≡ recorded_by r (call (reports ds)) room
       by true p = simp p
-      by false p = simp p ∙ written_alike (call (reports (replicate 6 255))) (call (reports ds)) refl (simp p)
+      by false p =
+          let six : List ℕ = replicate 6 255 in
+          let e : recorded_by r (call (reports (six_of ds))) room ≡ recorded_by r (call (reports six)) room = simp p in
+          e ∙ written_alike (call (reports six)) (call (reports ds)) refl (simp p)
 
   pub reports_kept : (ds : List ℕ)
       → recorder_after r (call (reports (six_of ds))) room ≡ recorder_after r (call (reports ds)) room
@@ -86,4 +93,8 @@ module _ (r : Recorder) (room : ℕ) where
       by : (six : Bool) → (length ds == 6) ≡ six
           → recorder_after r (call (reports (six_of ds))) room ≡ recorder_after r (call (reports ds)) room
       by true p = simp p
-      by false p = simp p ∙ kept_alike (call (reports (replicate 6 255))) (call (reports ds)) refl (simp p)
+      by false p =
+          let six : List ℕ = replicate 6 255 in
+          let e : recorder_after r (call (reports (six_of ds))) room ≡ recorder_after r (call (reports six)) room
+          = simp p in
+          e ∙ kept_alike (call (reports six)) (call (reports ds)) refl (simp p)

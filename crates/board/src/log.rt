@@ -1,19 +1,28 @@
 // The recorder of a board's history (RULES, History of a board): the line of a header, of a call and of what a record
 // shows, into lent memory. What is kept from line to line is the host's, any numbers; it stays where a call is refused.
-ghost use Rattle.std.specs.Prelude.{◌≡◌, length};
+ghost use Rattle.std.specs.Prelude.{◌≡◌, ◌≤◌, length, Ok};
 ghost use Rattle.text.specs.Words.{over};
 ghost use Rattle.text.specs.Outcomes.{told_written};
 ghost use Rattle.history.specs.Calls.{call_seen, opens, receives, passes, closes, marks, reports, enables};
-ghost use Rattle.history.specs.Entries.{call, time_seen};
+ghost use Rattle.history.specs.Entries.{call, time_seen, entry_seen};
 ghost use Rattle.history.specs.Recording.{recorder_begun, header_next, recorded_by, recorder_after};
 ghost use Rattle.history.specs.Recording.{stated_by, stated_after};
-ghost use Rattle.board.specs.Logs.{time_lent, byte_of, six_of};
+ghost use Rattle.device.specs.Calls.{reply_room};
+ghost use Rattle.recorded.specs.Chain.{why_seen, entry_told, made_told};
+ghost use Rattle.board.specs.Logs.{time_lent, byte_of, six_of, misfit_number, entry_played, line_played, playing_told};
 ghost use Rattle.board.specs.Results.{writing_of};
 
 use crate::writer::Written;
+use device::on_legal::REPLY_ROOM;
 use history::call::Call;
+use history::entry::Entry;
+use history::read::Bytes;
 use history::recorder::Recorder;
+use record::legality::Tested;
 use record::types::Device;
+use recorded::chain;
+use recorded::chain::Why;
+use text::numbered::Numbered;
 use words::errors::Errors;
 
 /// Begins a log: what is kept before its first file, of the stored form that it belongs to.
@@ -188,4 +197,87 @@ pub extern "C" fn pj_log_stated(log: &mut Recorder, device: &Device, out: &mut [
     ensures written { out.new ≡ over (stated_by log.old device.now (length out.old)).bytes out.old }
 {
     Written::from(log.stated(device, out))
+}
+
+fn misfit_number(why: Why) -> u32
+    ensures { result ≡ misfit_number (why_seen why) }
+{
+    match why {
+        Why::Refused(refusal) => refusal.number(),
+        _ => 3,
+    }
+}
+
+// What does not belong.
+fn unplayed(number: u32) -> Written
+    ensures { result ≡ record { number = number; length = 0 } }
+{
+    Written { number, length: 0 }
+}
+
+// An entry that stands where the log is. It is made on a copy of the record and of the reply memory, since an opening
+// that gets another place shows that only when it is made.
+#[tactic(auto, using(crate::proofs::Played::unmade_stays))]
+fn play_entry(
+    log: &mut Recorder,
+    device: &mut Device,
+    t: &mut Tested,
+    entry: &Entry<'_>,
+    line: &[u8],
+    reply: &mut [u8],
+) -> Written
+    requires same { t.old.device ≡ device.old }
+    requires stands { entry_told log.old device.old line.now ≡ Ok (entry_seen entry.now) }
+    requires room { reply_room ≤ length reply.old }
+    ensures says { result ≡ writing_of (playing_told (entry_played log.old device.old (entry_seen entry.now) line.now
+        (made_told device.old (entry_seen entry.now)))) }
+    ensures kept { log.new ≡ (entry_played log.old device.old (entry_seen entry.now) line.now
+        (made_told device.old (entry_seen entry.now))).log }
+    ensures device { device.new ≡ (entry_played log.old device.old (entry_seen entry.now) line.now
+        (made_told device.old (entry_seen entry.now))).device }
+    ensures written { reply.new ≡ over (entry_played log.old device.old (entry_seen entry.now) line.now
+        (made_told device.old (entry_seen entry.now))).reply reply.old }
+{
+    let mut made = [0; REPLY_ROOM];
+    text::put(&mut made, 0, &reply[..REPLY_ROOM]);
+    match chain::make(log, t, entry, line, &mut made) {
+        Ok(length) => {
+            *device = t.device;
+            text::put(reply, 0, &made);
+            Written { number: 0, length }
+        }
+        Err(why) => unplayed(misfit_number(why)),
+    }
+}
+
+/// Makes a line of a log again, which is given without its LF, and writes the reply. Errors, in this order, with which
+/// record, log and reply memory stay: 1, 2; 3 for a line that does not belong where the log stands; that of the call
+/// which the line says; 3 for an opening that would get another place.
+#[unsafe(no_mangle)]
+#[tactic(auto, unfolding(crate::specs::Logs::line_played))]
+pub extern "C" fn pj_log_play(
+    log: &mut Recorder,
+    device: &mut Device,
+    line: &[u8],
+    reply: &mut [u8],
+) -> Written
+    ensures says { result
+        ≡ writing_of (playing_told (line_played log.old device.old line.now (length reply.old))) }
+    ensures kept { log.new ≡ (line_played log.old device.old line.now (length reply.old)).log }
+    ensures device { device.new ≡ (line_played log.old device.old line.now (length reply.old)).device }
+    ensures written { reply.new
+        ≡ over (line_played log.old device.old line.now (length reply.old)).reply reply.old }
+{
+    let mut t = Tested::of(*device);
+    if !t.legal {
+        return unplayed(1);
+    }
+    if reply.len() < REPLY_ROOM {
+        return unplayed(2);
+    }
+    let mut room = Bytes::new();
+    match chain::entry(log, device, line, &mut room) {
+        Ok(entry) => play_entry(log, device, &mut t, &entry, line, reply),
+        Err(misfit) => unplayed(misfit_number(misfit)),
+    }
 }
