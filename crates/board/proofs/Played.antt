@@ -2,8 +2,8 @@
 -- there, stands over the memory.
 -- Assumes nothing.
 use Rattle.std.proofs.Common.{ℕ, ◌≡◌, ◌≤◌, List, ◌++◌, length, take, drop, sym, ap, ◌∙◌, Result, Err, arith}
-use Rattle.std.proofs.Common.{length-append, length-take-le}
-use Rattle.std.proofs.lemmas.List.{drop-append-le, take-append-drop, length-drop, append_assoc}
+use Rattle.std.proofs.Common.{length-append, length-take-le, append-nil}
+use Rattle.std.proofs.lemmas.List.{drop_all, drop-append-le, take-append-drop, length-drop, append_assoc}
 use Rattle.std.proofs.Math.Seq.{sets}
 use Rattle.text.specs.Words.{over}
 use Rattle.text.proofs.Stores.{sets_over}
@@ -17,6 +17,13 @@ pub unmade_stays : (r : Recorder) (d : Device) (e : LogEntry) (l : List ℕ) (wh
 unmade_stays r d (header f s t) l why h = grind arith
 unmade_stays r d (call c) l why h = grind arith
 unmade_stays r d (stated n s shown) l why h = grind arith
+
+-- a run as long as the memory
+pub put_front : (l s : List ℕ) → length s ≡ length l → sets l 0 s ≡ s
+put_front l s e =
+    sets_over s l (omega arith)
+    ∙ ap (λ (r : List ℕ). s ++ r) (drop_all (length s) l (omega arith))
+    ∙ append-nil s
 
 -- no more stands over memory than it has room for
 fits_over : (b m : List ℕ) (n : ℕ) → length m ≡ n → length (over b m) ≡ n → length b ≤ n

@@ -1,6 +1,6 @@
 // The recorder of a board's history (RULES, History of a board): the line of a header, of a call and of what a record
 // shows, into lent memory. What is kept from line to line is the host's, any numbers; it stays where a call is refused.
-ghost use Rattle.std.specs.Prelude.{◌≡◌, ◌≤◌, length, Ok};
+ghost use Rattle.std.specs.Prelude.{◌≡◌, ◌≤◌, length, take, Ok};
 ghost use Rattle.text.specs.Words.{over};
 ghost use Rattle.text.specs.Outcomes.{told_written};
 ghost use Rattle.history.specs.Calls.{call_seen, opens, receives, passes, closes, marks, reports, enables};
@@ -215,9 +215,19 @@ fn unplayed(number: u32) -> Written
     Written { number, length: 0 }
 }
 
+// The memory that a call is lent which is played.
+fn front(reply: &[u8]) -> [u8; REPLY_ROOM]
+    requires { reply_room ≤ length reply.now }
+    ensures { result ≡ take reply_room reply.now }
+{
+    let mut front = [0; REPLY_ROOM];
+    text::put(&mut front, 0, &reply[..REPLY_ROOM]);
+    front
+}
+
 // An entry that stands where the log is. It is made on a copy of the record and of the reply memory, since an opening
 // that gets another place shows that only when it is made.
-#[tactic(auto, using(crate::proofs::Played::unmade_stays))]
+#[tactic(auto, using(crate::proofs::Played::unmade_stays, crate::proofs::Played::over_front))]
 fn play_entry(
     log: &mut Recorder,
     device: &mut Device,
@@ -238,8 +248,7 @@ fn play_entry(
     ensures written { reply.new ≡ over (entry_played log.old device.old (entry_seen entry.now) line.now
         (made_told device.old (entry_seen entry.now))).reply reply.old }
 {
-    let mut made = [0; REPLY_ROOM];
-    text::put(&mut made, 0, &reply[..REPLY_ROOM]);
+    let mut made = front(reply);
     match chain::make(log, t, entry, line, &mut made) {
         Ok(length) => {
             *device = t.device;
