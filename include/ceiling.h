@@ -28,8 +28,8 @@
 #include <stdint.h>
 
 /* The version of this face. It changes with each change of a struct or a call; CHANGELOG.md says what changed. A host
-   that was written for one version can ask for it: #if CEILING_FACE != 11 .. #error. */
-#define CEILING_FACE 11
+   that was written for one version can ask for it: #if CEILING_FACE != 12 .. #error. */
+#define CEILING_FACE 12
 
 /* What stands before each call: a compiler warns where its result is dropped, with the number or the record in it. */
 #if defined(__cplusplus) && __cplusplus >= 201703L || defined(__STDC_VERSION__) && __STDC_VERSION__ >= 202311L
@@ -50,17 +50,19 @@ extern "C" {
 /* The number that a call gives: PJ_SERVED, or the first of the others that applies, in this order. Below, each call
    says with which it refuses. With 1 to 9 the record that was given comes back, or stays as it was where it lies (from
    pj_set_up, pj_set_up_2 and pj_load, with any number that is not 0, the blank record, all zero, which is not legal),
-   counts and lengths are 0, and no byte of the lent memory is written. With PJ_SERVED a reply fills the start of the
-   reply memory for its length, and every later byte there is as it was. */
+   what is kept of a log stays, counts and lengths are 0, and no byte of the lent memory is written. With PJ_SERVED a
+   reply or a line fills the start of the lent memory for its length, and every later byte there is as it was. */
 enum pj_number {
     PJ_SERVED = 0,
     PJ_NOT_LEGAL = 1,           /* the device record is not legal (pj_legal), or the panel's record is not */
     PJ_NO_ROOM = 2,             /* the lent reply memory is under PJ_REPLY_ROOM bytes, for pj_write and pj_panel_command
-                                   PJ_COMMAND_ROOM, for pj_store shorter than the form */
+                                   PJ_COMMAND_ROOM, for a line of a log PJ_LOG_ROOM, for pj_store shorter than the
+                                   form */
     PJ_OUT_OF_RANGE = 3,        /* a setting, an error digit, a command or a password is out of its range, a panel has
                                    no such projector or no room for one more, there is no such place for a
                                    controller, there is no such lamp or its mark is the last, two tables cannot be
-                                   compared, or the jobs, rigs or lists of a day are out of theirs */
+                                   compared, the jobs, rigs or lists of a day are out of theirs, no line of a log can
+                                   say it, or a line of a log does not belong where the log stands */
     PJ_NOT_CONNECTED = 4,       /* receiving or closing at a place whose connection is closed */
     PJ_CONNECTED = 5,           /* of the program replay alone: the log opens a connection that is not closed */
     PJ_NO_PLACE = 6,            /* opening where every place has a connection that is not closed */
@@ -108,7 +110,9 @@ enum pj_limit {
     PJ_ERRORS = 6,              /* error digits */
     PJ_REPLY_ROOM = 136,        /* the least memory for pj_open and pj_receive; enough to collect any reply */
     PJ_COMMAND_ROOM = 168,      /* the least memory for pj_write */
-    PJ_FORM_MOST = 4504         /* bytes of the longest stored form: room for pj_store with every record */
+    PJ_FORM_MOST = 4504,        /* bytes of the longest stored form: room for pj_store with every record */
+    PJ_LOG_ROOM = 4097,         /* the least memory for a line of a recorded log: no line is longer, its LF included */
+    PJ_LOG_BYTES = 2046         /* the most bytes that one line of a recorded log says were received */
 };
 
 enum pj_phase {                 /* of a connection */
@@ -445,6 +449,89 @@ CEILING_KEEP
 uint32_t pj_set_errors_in_place(pj_device *d, const uint8_t *digits, size_t count);
 CEILING_KEEP
 uint32_t pj_set_mark_in_place(pj_device *d, size_t lamp, bool enabled);
+
+/* The recorded log: the history of a board as lines of text, from which the record is made again, to the second, and the
+   programs `replay` and `burnt` tell of it (RULES, History of a board). The host records every call that can change the
+   record, at whatever place, once it is served: each call below writes the line that says it, and the host appends
+   these bytes to the log's file, before it sends the reply. A refused call is not recorded. docs/LINKING.md has the
+   recipe, "A recorded log".
+
+   A log begins where a board begins, at a set-up or a load, and belongs to the stored form of that record, as pj_store
+   writes it then. It is one file or several in a chain; the first line of each is its header (pj_log_file).
+
+   What a host keeps from line to line is pj_log. It may have any numbers; those of a log that goes on after a loss of
+   power come from its files, by pj_log_play. The calls change it where it lies, with PJ_SERVED alone.
+
+   Bytes are logged as they came, digests among them: a log is to be kept like the stored form, which has the password
+   in clear. */
+
+typedef struct {
+    uint32_t file;                          /* number of the file in the chain, from 1; 0 before the first header */
+    uint32_t lines;                         /* lines of that file, its header not counted */
+    uint32_t sum;                           /* CRC-32, as zlib has it, of the stored form and of every line so far */
+} pj_log;
+
+/* What is kept before the first file of a log, of the stored form to which it belongs. Refuses nothing. */
+CEILING_KEEP
+pj_log pj_log_begun(const uint8_t *form, size_t form_len);
+
+/* Writes a line to the start of the lent memory, its LF included; the length is that of the line. What the line says
+   was asked of no record: it is what the host hands in.
+   Each refuses first with PJ_NO_ROOM memory under PJ_LOG_ROOM bytes, then with PJ_OUT_OF_RANGE what it says itself, and
+   all but pj_log_file a log without a header (file 0) and one more line than a file can count, 4,294,967,295. */
+
+/* The header of the next file: its number, the sum of all that came before, and when it was begun, as the host tells it
+   (RFC 3339 is meant: 2026-11-27T05:45:09Z); time_len 0 is none. It is the first line of each file, of the first one
+   right after pj_log_begun.
+   Refuses with PJ_NO_ROOM, then with PJ_OUT_OF_RANGE a time that is not 0 to 35 characters '!' to '~', and one more file
+   than a chain can count, 4,294,967,295. */
+pj_written pj_log_file(pj_log *log, const uint8_t *time, size_t time_len, uint8_t *out, size_t out_len);
+
+/* pj_open was served with this random number, and gave this place. Out of range is a place of PJ_PLACES or more. */
+pj_written pj_log_opened(pj_log *log, size_t place, uint32_t random, uint8_t *out, size_t out_len);
+
+/* pj_receive was served at this place, and took these bytes: the first `taken` of those handed in. Out of range is a
+   place of PJ_PLACES or more, and more than PJ_LOG_BYTES bytes: a host hands at most so many to one pj_receive, which
+   gives the same. */
+pj_written pj_log_received(pj_log *log, size_t place, const uint8_t *bytes, size_t len, uint8_t *out, size_t out_len);
+
+/* pj_pass was served with so many seconds. Those of several calls one after the other may be added up in one line, which
+   comes before the line of any other call and before a stated line. */
+pj_written pj_log_passed(pj_log *log, uint32_t seconds, uint8_t *out, size_t out_len);
+
+/* pj_close was served at this place. A connection that time closed is not recorded: it closes again as time passes. Out
+   of range is a place of PJ_PLACES or more. */
+pj_written pj_log_closed(pj_log *log, size_t place, uint8_t *out, size_t out_len);
+
+/* pj_set_fault was served with this mark. */
+pj_written pj_log_fault(pj_log *log, bool mark, uint8_t *out, size_t out_len);
+
+/* pj_set_errors was served with these digits, numbers and not characters. Out of range is another count than PJ_ERRORS,
+   and a digit over 2. */
+pj_written pj_log_errors(pj_log *log, const uint8_t *digits, size_t count, uint8_t *out, size_t out_len);
+
+/* pj_set_mark was served with this lamp, from 0, and this mark. (In the line lamps count from 1.) Out of range is a lamp
+   of PJ_LAMPS_MOST or more. */
+pj_written pj_log_mark(pj_log *log, size_t lamp, bool enabled, uint8_t *out, size_t out_len);
+
+/* A stated line: how many lines came since the header, the sum of all before it, and the power and the seconds of each
+   lamp of the record, which is only read. Who plays the log compares it: a line that was lost, doubled or changed before
+   it is noticed there. State at midnight, say, and as the last line before a new file.
+   Refuses with PJ_NOT_LEGAL, then as above; nothing else is out of range. */
+pj_written pj_log_stated(pj_log *log, const pj_device *d, uint8_t *out, size_t out_len);
+
+/* Plays one line of a log, which is lent without its LF: the call that it says is made on the record again, and *log goes
+   on past the line. So a board starts again after a loss of power: from pj_load of the form and pj_log_begun of its
+   bytes, line by line through the files in their order, with what stands behind the last LF of the last file cut off.
+   The length is that of the reply, which fills the start of the reply memory and has been sent; it is 0 where none is
+   due, and for headers and stated lines, which are compared and change no record. Then every place that is not closed
+   has lost its socket: close it by pj_close, and record that.
+   Refuses with PJ_NOT_LEGAL; with PJ_NO_ROOM reply memory under PJ_REPLY_ROOM bytes; with PJ_OUT_OF_RANGE what is no line
+   of a log, also over 4,096 bytes, a header that has not the next number and the sum, any other line before the first
+   header, and a stated line with another count, sum, power or seconds; then as the call that the line says; then with
+   PJ_OUT_OF_RANGE an opening that would get another place than its line says. With any of these record, *log and reply
+   memory stay as they were, and the log does not belong to the form, or was damaged, from this line on. */
+pj_written pj_log_play(pj_log *log, pj_device *d, const uint8_t *line, size_t line_len, uint8_t *reply, size_t reply_len);
 
 /* The digest. */
 
@@ -800,6 +887,7 @@ CEILING_IS(sizeof(pj_received) == 5848 && offsetof(pj_received, taken) == 8);
 CEILING_IS(offsetof(pj_received, length) == 16 && offsetof(pj_received, device) == 24);
 CEILING_IS(sizeof(pj_receiving) == 24 && offsetof(pj_receiving, taken) == 8 && offsetof(pj_receiving, length) == 16);
 CEILING_IS(sizeof(pj_opening) == 24 && offsetof(pj_opening, length) == 8 && offsetof(pj_opening, place) == 16);
+CEILING_IS(sizeof(pj_log) == 12 && offsetof(pj_log, lines) == 4 && offsetof(pj_log, sum) == 8);
 CEILING_IS(sizeof(pj_digest) == 16);
 CEILING_IS(sizeof(pj_command) == 3 && offsetof(pj_command, first) == 1 && offsetof(pj_command, second) == 2);
 CEILING_IS(sizeof(pj_written) == 16 && offsetof(pj_written, length) == 8);

@@ -7,3 +7,4 @@ pub mod Printable
 pub mod Logs
 pub mod Chain
 pub mod ShownFits
+pub mod Unsayable
