@@ -485,39 +485,48 @@ pj_log pj_log_begun(const uint8_t *form, size_t form_len);
    right after pj_log_begun.
    Refuses with PJ_NO_ROOM, then with PJ_OUT_OF_RANGE a time that is not 0 to 35 characters '!' to '~', and one more file
    than a chain can count, 4,294,967,295. */
+CEILING_KEEP
 pj_written pj_log_file(pj_log *log, const uint8_t *time, size_t time_len, uint8_t *out, size_t out_len);
 
 /* pj_open was served with this random number, and gave this place. Out of range is a place of PJ_PLACES or more. */
+CEILING_KEEP
 pj_written pj_log_opened(pj_log *log, size_t place, uint32_t random, uint8_t *out, size_t out_len);
 
 /* pj_receive was served at this place, and took these bytes: the first `taken` of those handed in. Out of range is a
    place of PJ_PLACES or more, and more than PJ_LOG_BYTES bytes: a host hands at most so many to one pj_receive, which
    gives the same. */
+CEILING_KEEP
 pj_written pj_log_received(pj_log *log, size_t place, const uint8_t *bytes, size_t len, uint8_t *out, size_t out_len);
 
 /* pj_pass was served with so many seconds. Those of several calls one after the other may be added up in one line, which
    comes before the line of any other call and before a stated line. */
+CEILING_KEEP
 pj_written pj_log_passed(pj_log *log, uint32_t seconds, uint8_t *out, size_t out_len);
 
 /* pj_close was served at this place. A connection that time closed is not recorded: it closes again as time passes. Out
    of range is a place of PJ_PLACES or more. */
+CEILING_KEEP
 pj_written pj_log_closed(pj_log *log, size_t place, uint8_t *out, size_t out_len);
 
 /* pj_set_fault was served with this mark. */
+CEILING_KEEP
 pj_written pj_log_fault(pj_log *log, bool mark, uint8_t *out, size_t out_len);
 
 /* pj_set_errors was served with these digits, numbers and not characters. Out of range is another count than PJ_ERRORS,
    and a digit over 2. */
+CEILING_KEEP
 pj_written pj_log_errors(pj_log *log, const uint8_t *digits, size_t count, uint8_t *out, size_t out_len);
 
 /* pj_set_mark was served with this lamp, from 0, and this mark. (In the line lamps count from 1.) Out of range is a lamp
    of PJ_LAMPS_MOST or more. */
+CEILING_KEEP
 pj_written pj_log_mark(pj_log *log, size_t lamp, bool enabled, uint8_t *out, size_t out_len);
 
 /* A stated line: how many lines came since the header, the sum of all before it, and the power and the seconds of each
    lamp of the record, which is only read. Who plays the log compares it: a line that was lost, doubled or changed before
    it is noticed there. State at midnight, say, and as the last line before a new file.
    Refuses with PJ_NOT_LEGAL, then as above; nothing else is out of range. */
+CEILING_KEEP
 pj_written pj_log_stated(pj_log *log, const pj_device *d, uint8_t *out, size_t out_len);
 
 /* Plays one line of a log, which is lent without its LF: the call that it says is made on the record again, and *log goes
@@ -531,6 +540,7 @@ pj_written pj_log_stated(pj_log *log, const pj_device *d, uint8_t *out, size_t o
    header, and a stated line with another count, sum, power or seconds; then as the call that the line says; then with
    PJ_OUT_OF_RANGE an opening that would get another place than its line says. With any of these record, *log and reply
    memory stay as they were, and the log does not belong to the form, or was damaged, from this line on. */
+CEILING_KEEP
 pj_written pj_log_play(pj_log *log, pj_device *d, const uint8_t *line, size_t line_len, uint8_t *reply, size_t reply_len);
 
 /* The digest. */
