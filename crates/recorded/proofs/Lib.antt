@@ -9,3 +9,4 @@ pub mod Illegal
 pub mod Chained
 pub mod Believed
 pub mod Kept
+pub mod Accepted
