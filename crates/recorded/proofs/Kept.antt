@@ -2,17 +2,16 @@
 -- counted.
 -- Assumes nothing.
 use Rattle.std.proofs.Common.{ℕ, suc, ◌+◌, ◌≤◌, ◌<◌, ◌≡◌, Bool, true, false, List, [], ◌∷◌, arith, length, sym, subst}
-use Rattle.std.proofs.Common.{refl}
-use Rattle.std.proofs.Common.{leb-true, nat_le}
+use Rattle.std.proofs.Common.{refl, leb-true, nat_le, le-leb, Option}
 use Rattle.std.proofs.lemmas.Bool.Decides.{nat_tests}
 use Rattle.text.specs.Outcomes.{WrittenAs}
-use Rattle.text.proofs.Choices.{if_yes, if_no}
+use Rattle.text.proofs.Choices.{both, if_yes, if_no}
 use Rattle.record.specs.declared.types.Device.{Device}
 use Rattle.ours.specs.Board.{ours}
 use Rattle.demands.specs.Calls.{Call, after, gave_by}
 use Rattle.history.specs.Calls.{received_most}
 use Rattle.history.specs.Lines.{number_most}
-use Rattle.history.specs.Entries.{LogEntry, header, call, stated}
+use Rattle.history.specs.Entries.{LogEntry, header, call, stated, is_sayable_entry, is_time_if_any}
 use Rattle.history.specs.Shown.{device_shown}
 use Rattle.history.specs.Recording.{log_line_room, cannot_follow, recorded_by, recorder_after, header_next, stated_next}
 use Rattle.history.specs.Recording.{advanced}
@@ -102,3 +101,36 @@ pub calls_kept : (d : Device) (ss : List (HostStep × ℕ)) → HaveRoom ss → 
     → r.lines + length ss < number_most
     → AreKept r d ss
 calls_kept d ss room few r there lines = kept_from ss r d (record { file = there; lines = lines }) room few
+
+-- and so once a file was begun
+begun_first : (r : Recorder) (d : Device) (t : Option (List ℕ)) (n : ℕ) (ss : List (HostStep × ℕ)) (q : Recorder)
+    → Tried r (header_next r t) (recorded_by r (header_next r t) n) q
+    → (recorded_by r (header_next r t) n).number ≡ 0
+    → length ss < number_most
+    → HaveRoom ss
+    → TakeFew d (step_calls ss)
+    → AreKept q d ss
+begun_first r d t n ss q tried done few room take =
+    elim tried [
+      | served h free number bytes next ↦
+          kept_from ss q d
+          (subst (λ (q : Recorder). Going q (length ss)) (sym next)
+          (record { file = omega arith; lines = omega (arith, few) })) room take
+      | refused number bytes next ↦ absurd (grind (arith, done, number))
+    ]
+
+pub begun_kept : (d : Device) (ss : List (HostStep × ℕ)) (t : Option (List ℕ)) (n : ℕ) → is_time_if_any t ≡ true
+    → HaveRoom ((begins t, n) ∷ ss)
+    → TakeFew d (step_calls ss)
+    → (r : Recorder)
+    → r.file < number_most
+    → length ss < number_most
+    → AreKept r d ((begins t, n) ∷ ss)
+begun_kept d ss t n time (room, rooms) take r files few =
+    let e = header_next r t in
+    let h : is_sayable_entry e ≡ true
+    = both
+    (both (le-leb 1 (r.file + 1) (omega arith)) (le-leb (r.file + 1) number_most (omega (arith, files)))) time in (
+      tt,
+      begun_first r d t n ss (recorder_after r e n) (tried r e n) (recorded_if r e n room h refl) few rooms take,
+    )

@@ -1,13 +1,13 @@
 // What is proved of recorded calls. Nothing is done here: that these functions have their contracts is that the
 // theorems stand.
-ghost use Rattle.std.specs.Prelude.{◌≡◌, ◌≤◌, ◌<◌, ◌+◌, ◌^◌, ℕ, true, List, [], Some, map, length, take};
+ghost use Rattle.std.specs.Prelude.{◌≡◌, ◌≤◌, ◌<◌, ◌+◌, ◌^◌, ℕ, true, List, [], ◌∷◌, Option, Some, map, length, take};
 ghost use Rattle.record.specs.declared.types.Device.{Device};
 ghost use Rattle.ours.specs.Board.{ours};
 ghost use Rattle.demands.specs.Calls.{Call, run, gave_by};
 ghost use Rattle.demands.specs.History.{Streams, history};
 ghost use Rattle.history.specs.Calls.{received_most};
 ghost use Rattle.history.specs.Lines.{number_most};
-ghost use Rattle.history.specs.Entries.{LogEntry, call, entry_in, entry_text};
+ghost use Rattle.history.specs.Entries.{LogEntry, call, entry_in, entry_text, is_time_if_any};
 ghost use Rattle.history.specs.Logs.{Sayable, lines_ended, begun_at, IsHistory};
 ghost use Rattle.history.specs.Recording.{log_line_room, recorded_by};
 ghost use Rattle.history.specs.declared.recorder.Recorder.{Recorder};
@@ -15,7 +15,8 @@ ghost use Rattle.history.specs.Recording.{Asked, AreTyped, recorder_begun, entri
 ghost use Rattle.recorded.specs.Recorded.{is_served, recorded_call, recorded, replies_of, AreTypedCalls, TakeFew};
 ghost use Rattle.recorded.specs.Playing.{played_call, played, replies_played, entry_calls, PlaysAs};
 ghost use Rattle.recorded.specs.Chain.{Followed, followed, AllHold};
-ghost use Rattle.recorded.specs.Hosts.{HostStep, host_log, step_calls, host_left, AreKept, HaveRoom, AreTypedSteps};
+ghost use Rattle.recorded.specs.Hosts.{HostStep, begins, host_log, step_calls, host_left, AreKept, HaveRoom};
+ghost use Rattle.recorded.specs.Hosts.{AreTypedSteps};
 
 /// What is recorded of any calls from any record on, played back from that record, gives the record that the calls
 /// gave, the replies that they were given, and demand 3's history of the calls.
@@ -34,7 +35,8 @@ pub fn what_is_taken_is_enough()
 {}
 
 /// Each call that is served can be said by a line, if it takes 2,046 bytes at most: the recorder refuses none for what
-/// it is; so it records each, given room for a line, once there is a file and while lines can be counted.
+/// it is; so it records each, given room for a line, while lines can be counted, once there is a file, or from the
+/// header of one on.
 pub fn served_calls_can_be_said()
     ensures said { (d : Device) (cs : List Call) → AreTypedCalls cs → TakeFew d cs
         → Sayable (map call (recorded d cs)) }
@@ -43,6 +45,9 @@ pub fn served_calls_can_be_said()
         → (n : ℕ) → log_line_room ≤ n → (recorded_by r (call (recorded_call d c)) n).number ≡ 0 }
     ensures all_recorded { (d : Device) (ss : List (HostStep × ℕ)) → HaveRoom ss → TakeFew d (step_calls ss)
         → (r : Recorder) → 1 ≤ r.file → r.lines + length ss < number_most → AreKept r d ss }
+    ensures all_from_a_header { (d : Device) (ss : List (HostStep × ℕ)) (t : Option (List ℕ)) (n : ℕ)
+        → is_time_if_any t ≡ true → HaveRoom ((begins t, n) ∷ ss) → TakeFew d (step_calls ss)
+        → (r : Recorder) → r.file < number_most → length ss < number_most → AreKept r d ((begins t, n) ∷ ss) }
 {}
 
 /// What the recorder writes of these calls, with whatever headers and stated lines between them, plays back as they
