@@ -1,6 +1,6 @@
 // A chain of files, line by line: what a line says, if it stands where the reader is, and the line made again. The
 // reader keeps the recorder's three numbers.
-ghost use Rattle.std.specs.Prelude.{◌≡◌, [], Ok, Err};
+ghost use Rattle.std.specs.Prelude.{◌≡◌, [], Ok, Err, Some, None, not, if◌then◌else◌};
 ghost use Rattle.std.specs.Option.{option_map};
 ghost use Rattle.text.specs.Words.{over};
 ghost use Rattle.text.specs.Scans.{same_by, itself};
@@ -8,7 +8,7 @@ ghost use Rattle.history.specs.Entries.{entry_seen};
 ghost use Rattle.history.specs.Shown.{device_shown};
 ghost use Rattle.recorded.specs.Chain.{why_seen, misfit_header, misfit_line, misfit_stated, misfit};
 ghost use Rattle.recorded.specs.Chain.{entry_told, entry_read, made_told, made_seen, device_made, reply_made};
-ghost use Rattle.recorded.specs.Chain.{log_made, call_made};
+ghost use Rattle.recorded.specs.Chain.{log_made, call_made, other_state};
 ghost use Rattle.recorded.specs.Played.{play_told};
 
 use crate::play::{self, Stray};
@@ -76,6 +76,16 @@ fn line_misfit(log: &Recorder) -> Option<Why>
     None
 }
 
+// Of what is stated: whether it is what the record shows.
+fn state_misfit(is_shown: bool) -> Option<Why>
+    ensures { option_map why_seen result ≡ (if not is_shown then Some other_state else None) }
+{
+    if !is_shown {
+        return Some(Why::OtherState);
+    }
+    None
+}
+
 fn stated_misfit(log: &Recorder, device: &Device, stated: &Stated<'_>) -> Option<Why>
     ensures { option_map why_seen result
         ≡ misfit_stated log.now device.now stated.now.lines stated.now.sum stated.now.shown.now }
@@ -86,10 +96,7 @@ fn stated_misfit(log: &Recorder, device: &Device, stated: &Stated<'_>) -> Option
     if stated.sum != log.sum {
         return Some(Why::OtherSum);
     }
-    if !shows(device, stated.shown) {
-        return Some(Why::OtherState);
-    }
-    None
+    state_misfit(shows(device, stated.shown))
 }
 
 // Why an entry does not stand where the reader is, if it does not.
