@@ -8,3 +8,6 @@ pub mod Logs
 pub mod Chain
 pub mod ShownFits
 pub mod Unsayable
+pub mod ShownPlain
+pub mod Served
+pub mod OnlyLines

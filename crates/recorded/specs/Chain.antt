@@ -8,12 +8,20 @@
 --   made_seen t          the same of what the code's function returns
 --   device_made d e      the record then
 --   reply_made d e       the reply
---   log_made r d e l     the three numbers then, where the line l says e
+--   is_made d e          it belongs;    log_made r d e l   the three numbers then, where the line l says e
+--   Followed             where a reader stands after some lines: the three numbers, the record, and the replies of the
+--                        calls
+--   followed r d ls      where it stands after the lines ls, given without their LFs, if each belongs
+--   HoldsFor p d e       the entry e is true of the record d, where the log stands at p: a call belongs, what is stated
+--                        is shown, and a line more can be counted;    AllHold p d es   each where those before it leave
+--                        both
 -- Assumes nothing.
-use Rattle.std.specs.Prelude.{ℕ, ◌+◌, Bool, true, not, List, [], if◌then◌else◌, ◌==◌}
+use Rattle.std.specs.Prelude.{ℕ, ◌+◌, ◌≡◌, ◌<◌, Bool, true, not, List, [], ◌∷◌, if◌then◌else◌, ◌==◌}
 use Rattle.std.specs.Prelude.{Option, Some, None, Result, Ok, Err}
-use Rattle.std.specs.Option.{option_or}
+use Rattle.std.specs.Option.{option_or, option_map}
+use Rattle.std.specs.Result.{result_ok}
 use Rattle.text.specs.Scans.{same_by, itself}
+use Rattle.words.specs.Codec.{◌>>=◌}
 use Rattle.record.specs.Refusals.{refusal_number}
 use Rattle.record.specs.declared.types.Device.{Device}
 use Rattle.ours.specs.Board.{ours}
@@ -21,6 +29,7 @@ use Rattle.demands.specs.Calls.{after}
 use Rattle.history.specs.Lines.{number_most}
 use Rattle.history.specs.Entries.{LogEntry, header, call, stated, entry_seen, entry_in}
 use Rattle.history.specs.Shown.{device_shown}
+use Rattle.history.specs.Logs.{LogPlace, past}
 use Rattle.history.specs.Recording.{read_past}
 use Rattle.history.specs.declared.entry.Entry.{Entry}
 use Rattle.history.specs.declared.recorder.Recorder.{Recorder}
@@ -84,12 +93,12 @@ abbrev pub unless : Option Misfit → LogEntry → Result LogEntry Misfit
 unless None e = Ok e
 unless (Some why) e = Err why
 
-abbrev pub entry_at : Recorder → Device → Option LogEntry → Result LogEntry Misfit
-entry_at r d None = Err says_nothing
-entry_at r d (Some e) = unless (misfit r d e) e
+abbrev pub said_there : Recorder → Device → Option LogEntry → Result LogEntry Misfit
+said_there r d None = Err says_nothing
+said_there r d (Some e) = unless (misfit r d e) e
 
 abbrev pub entry_told : Recorder → Device → List ℕ → Result LogEntry Misfit
-entry_told r d l = entry_at r d (entry_in l)
+entry_told r d l = said_there r d (entry_in l)
 
 abbrev pub entry_read : Result Entry Why → Result LogEntry Misfit
 entry_read (Ok e) = Ok (entry_seen e)
@@ -125,3 +134,31 @@ is_made d e = true
 
 abbrev pub log_made : Recorder → Device → LogEntry → List ℕ → Recorder
 log_made r d e l = if is_made d e then read_past r e l else r
+
+-- ---- line by line
+
+pub record Followed : Type 0 where
+  pub log : Recorder
+  pub device : Device
+  pub replies : List (List ℕ)
+
+abbrev pub and_reply : Device → LogEntry → Followed → Followed
+and_reply d (call c) f = record { log = f.log; device = f.device; replies = reply_made d (call c) ∷ f.replies }
+and_reply d e f = f
+
+abbrev pub followed : Recorder → Device → List (List ℕ) → Option Followed
+followed r d [] = Some (record { log = r; device = d; replies = [] })
+followed r d (l ∷ ls) =
+    result_ok (entry_told r d l) >>= λ e. result_ok (made_told d e)
+    >>= λ n. option_map (and_reply d e) (followed (log_made r d e l) (device_made d e) ls)
+
+-- ---- what a history says of the record
+
+abbrev pub HoldsFor : LogPlace → Device → LogEntry → Type 0
+HoldsFor p d (header f s t) = Unit {0}
+HoldsFor p d (call c) = (p.lines < number_most) × (belongs d c ≡ true)
+HoldsFor p d (stated n s shown) = (p.lines < number_most) × (shown ≡ device_shown d)
+
+abbrev pub AllHold : LogPlace → Device → List LogEntry → Type 0
+AllHold p d [] = Unit {0}
+AllHold p d (e ∷ es) = HoldsFor p d e × AllHold (past p e) (device_made d e) es
