@@ -13,7 +13,7 @@
 #include <time.h>
 #include <unistd.h>
 
-enum { NAME_ROOM = 32, MD5_ROOM = 64 };
+enum { NAME_ROOM = 32, MD5_ROOM = 64, RESERVE = 65536 };
 
 static struct {
     const char *name;        /* of the folder */
@@ -31,12 +31,13 @@ static struct {
 
 static uint8_t line[PJ_LOG_ROOM];
 
-static void complain(const char *what, const char *why) {
-    fprintf(stderr, "%s/%s: %s\n", kept.name, what, why);
+/* Says why of a file of the folder, or where that is none, of the folder. */
+static void complain(const char *file, const char *why) {
+    fprintf(stderr, "%s%s%s: %s\n", kept.name, file == NULL ? "" : "/", file == NULL ? "" : file, why);
 }
 
-static void refuse(const char *what, const char *why) {
-    complain(what, why);
+static void refuse(const char *file, const char *why) {
+    complain(file, why);
     exit(1);
 }
 
@@ -136,6 +137,7 @@ static void stop_recording(const char *why) {
         close(kept.file);
         kept.file = -1;
     }
+    unlinkat(kept.folder, "reserve", 0);
     name_other(name, kept.generation, "ended");
     int mark = openat(kept.folder, name, O_WRONLY | O_CREAT | O_CLOEXEC, 0600);
     if (mark < 0 || fsync(kept.folder) != 0) complain(name, strerror(errno));
@@ -271,6 +273,13 @@ static bool is_there(const char *name) {
     return faccessat(kept.folder, name, F_OK, 0) == 0;
 }
 
+/* Takes room on the disk, which is given up where the disk is full: for the forms that are stored then. */
+static void take_reserve(void) {
+    static const uint8_t room[RESERVE];
+    if (kept.file >= 0 && !is_there("reserve") && !put_file("reserve", room, sizeof room))
+        complain("reserve", strerror(errno));
+}
+
 /* Whether this is the name of a file of a generation, which is told, and so is the file's number, 0 where it has none. */
 static bool is_ours(const char *name, unsigned *generation, unsigned *file) {
     char again[NAME_ROOM];
@@ -288,18 +297,18 @@ static uint32_t find(void) {
     unsigned generation, file, highest_log = 0;
     int folder = openat(kept.folder, ".", O_RDONLY | O_DIRECTORY | O_CLOEXEC);
     DIR *entries = folder < 0 ? NULL : fdopendir(folder);
-    if (entries == NULL) refuse(".", strerror(errno));
+    if (entries == NULL) refuse(NULL, strerror(errno));
     for (struct dirent *entry; errno = 0, (entry = readdir(entries)) != NULL;) {
         if (!is_ours(entry->d_name, &generation, &file)) continue;
         if (file == 0 && generation > kept.generation) kept.generation = generation;
         if (file > 0 && generation > highest_log) highest_log = generation;
     }
-    if (errno != 0) refuse(".", strerror(errno));
+    if (errno != 0) refuse(NULL, strerror(errno));
     rewinddir(entries);
     for (struct dirent *entry; errno = 0, (entry = readdir(entries)) != NULL;) {
         if (is_ours(entry->d_name, &generation, &file) && file > 0 && generation == kept.generation) files++;
     }
-    if (errno != 0) refuse(".", strerror(errno));
+    if (errno != 0) refuse(NULL, strerror(errno));
     closedir(entries);
     if (highest_log > kept.generation) {
         char name[NAME_ROOM];
@@ -334,26 +343,33 @@ static off_t play_file(const char *name, FILE *in, pj_device *device) {
     return whole;
 }
 
-/* Plays the chain on the record that its form gave. What stands behind the last line end of the last file was cut off
-   when the host was killed, and is taken away. */
-static void play(pj_device *device, uint32_t files) {
+/* Takes off what stands behind a file's last line end: it was cut off when the host was killed. */
+static bool cut(const char *name, off_t length) {
+    complain(name, "what stands behind the last line end is taken away");
+    int file = openat(kept.folder, name, O_WRONLY | O_CLOEXEC);
+    bool done = file >= 0 && ftruncate(file, length) == 0 && fsync(file) == 0;
+    if (file >= 0) close(file);
+    return done;
+}
+
+/* Plays the chain on the record that its form gave. Gives whether the last file now ends with a line end. */
+static bool play(pj_device *device, uint32_t files) {
     char name[NAME_ROOM];
+    bool is_whole = true;
     for (uint32_t k = 1; k <= files; k++) {
         name_log(name, kept.generation, k);
-        int file = openat(kept.folder, name, O_RDWR | O_APPEND | O_CLOEXEC);
+        int file = openat(kept.folder, name, O_RDONLY | O_CLOEXEC);
         if (file < 0) refuse(name, errno == ENOENT ? "is missing, and a later one is there" : strerror(errno));
         FILE *in = fdopen(file, "r");
         if (in == NULL) refuse(name, strerror(errno));
         off_t whole = play_file(name, in, device);
         off_t all = lseek(file, 0, SEEK_END);
+        fclose(in);
         if (whole < all && k < files) refuse(name, "has no line end at its end");
         if (whole > 0 && kept.log.file != k) refuse(name, "has not the header that its name says");
-        if (whole < all) {
-            complain(name, "what stands behind the last line end is taken away");
-            if (ftruncate(file, whole) != 0 || fsync(file) != 0) complain(name, strerror(errno));
-        }
-        fclose(in);
+        if (whole < all) is_whole = cut(name, whole);
     }
+    return is_whole;
 }
 
 /* Goes on with the last file of the chain that has a header: it is stated in, and a new file begins. */
@@ -380,9 +396,9 @@ void keep_begin(const char *folder, pj_device *device) {
     kept.name = folder;
     kept.device = device;
     kept.folder = open(folder, O_RDONLY | O_DIRECTORY | O_CLOEXEC);
-    if (kept.folder < 0) refuse(".", strerror(errno));
+    if (kept.folder < 0) refuse(NULL, strerror(errno));
     if (flock(kept.folder, LOCK_EX | LOCK_NB) != 0)
-        refuse(".", errno == EWOULDBLOCK ? "another host keeps its log there" : strerror(errno));
+        refuse(NULL, errno == EWOULDBLOCK ? "another host keeps its log there" : strerror(errno));
 
     uint32_t files = find();
     if (kept.generation == 0) {
@@ -390,7 +406,7 @@ void keep_begin(const char *folder, pj_device *device) {
         kept.generation = 1;
     }
     get_form(device);
-    play(device, files);
+    bool is_whole = play(device, files);
 
     name_other(name, kept.generation, "ended");
     if (is_there(name)) { /* the next generation begins with what this one tells of the lamps */
@@ -401,12 +417,15 @@ void keep_begin(const char *folder, pj_device *device) {
         } else {
             stop_recording(strerror(errno));
         }
-    } else {
+    } else if (is_whole) {
         go_on();
+    } else {
+        stop_recording(strerror(errno));
     }
     for (size_t place = 0; place < PJ_PLACES; place++) {
         if (device->connections[place].phase == PJ_PHASE_CLOSED) continue;
-        if (pj_close_in_place(device, place) != PJ_SERVED) refuse(".", "a place can't be closed");
+        if (pj_close_in_place(device, place) != PJ_SERVED) refuse(NULL, "a place can't be closed");
         keep_closed(place);
     }
+    take_reserve();
 }

@@ -7,18 +7,19 @@
        0001-0001.log   the files of the log's chain, in order
        0001-0002.log
        0001.ended      nothing in it: the log does not go on
+       reserve         room on the disk
 
    The first number is the generation. It is 1 at the set-up; a start begins a later one, off, where the log had ended.
-   Both numbers have more digits from 10,000 on. All files are their owner's alone to read: a form has the password in clear, and a
-   log what a dictionary can be tried on.
+   Both numbers have more digits from 10,000 on. All files are their owner's alone to read: a form has the password in
+   clear, and a log what a dictionary can be tried on.
 
-   Each line is written before the call that made it returns from here, so a host that is killed loses no line; the files
+   Each line is written before the call that says it returns from here, so a host that is killed loses no line; the files
    are synced every KEEP_SYNCED seconds, before a new file and at a stop. A new file begins at midnight (UTC), at each
    start and where keep_next_file is called.
 
-   What can't be written ends the recording, and never the projector: it is said on standard error, the generation's log
-   has ended, and every KEEP_SYNCED seconds the form of a new generation is stored, with the lamps' seconds as they are then.
-   The next start begins with the last of these; where there is none, with a form of what the log tells. */
+   What can't be written ends the recording, and never the projector: standard error says so, the log has ended, the room
+   on the disk is given up, and every KEEP_SYNCED seconds the form of a new generation is stored, with the lamps' seconds
+   as they are then. The next start begins with the last of these; where there is none, with what the log tells. */
 #ifndef KEEP_H
 #define KEEP_H
 

@@ -298,14 +298,14 @@ static void begin_keeping(const char *folder, const char *password, const char *
 
 int main(int argc, char **argv) {
     const char *password = getenv("PJLINK_PASSWORD"), *class_number = getenv("PJLINK_CLASS"), *folder = NULL;
-    if (argc > 2 && strcmp(argv[1], "--keep") == 0) {
-        folder = argv[2];
+    if (argc > 1 && strcmp(argv[1], "--keep") == 0) {
+        folder = argc > 2 ? argv[2] : "";
         argc -= 2;
         argv += 2;
     }
     unsigned long idle = argc > 3 ? strtoul(argv[3], NULL, 10) : 300;
     uint32_t made = set_up(password ? password : "", class_number != NULL && strcmp(class_number, "2") == 0);
-    if (made != PJ_SERVED || idle == 0 || argc > 4) {
+    if (made != PJ_SERVED || idle == 0 || argc < 1 || argc > 4) {
         fprintf(stderr, "projector [--keep FOLDER] [PORT [ADDRESS [IDLE]]], PJLINK_PASSWORD: 8 to %d letters, digits\n",
                 PJ_PASSWORD_MOST);
         return 2;
