@@ -195,8 +195,9 @@ void keep_passed(uint32_t seconds) {
 }
 
 static void sync_file(void) {
+    if (!append_seconds()) return;
     kept.synced = time(NULL);
-    if (append_seconds() && fdatasync(kept.file) != 0) stop_recording(strerror(errno));
+    if (fdatasync(kept.file) != 0) stop_recording(strerror(errno));
 }
 
 static void state(void) {
