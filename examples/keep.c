@@ -291,8 +291,8 @@ static bool is_ours(const char *name, unsigned *generation, unsigned *file) {
     return *generation > 0 && strcmp(name, again) == 0;
 }
 
-/* Finds the highest generation of a form, 0 where there is none; how many files its log has; and that no other log needs a
-   form that is missing. */
+/* Finds the highest generation of a form, 0 where there is none; how many files its log has; and that no other log
+   needs a form that is missing. */
 static uint32_t find(void) {
     uint32_t files = 0;
     unsigned generation, file, highest_log = 0;

@@ -13,13 +13,14 @@
    Both numbers have more digits from 10,000 on. All files are their owner's alone to read: a form has the password in
    clear, and a log what a dictionary can be tried on.
 
-   Each line is written before the call that says it returns from here, so a host that is killed loses no line; the files
-   are synced every KEEP_SYNCED seconds, before a new file and at a stop. A new file begins at midnight (UTC), at each
-   start and where keep_next_file is called.
+   Each line is written before the call that says it returns from here, so a host that is killed loses no line; the
+   files are synced every KEEP_SYNCED seconds, before a new file and at a stop. A new file begins at midnight (UTC), at
+   each start and where keep_next_file is called.
 
-   What can't be written ends the recording, and never the projector: standard error says so, the log has ended, the room
-   on the disk is given up, and every KEEP_SYNCED seconds the form of a new generation is stored, with the lamps' seconds
-   as they are then. The next start begins with the last of these; where there is none, with what the log tells. */
+   What can't be written ends the recording, and never the projector: standard error says so, the log has ended, the
+   room on the disk is given up, and every KEEP_SYNCED seconds the form of a new generation is stored, with the lamps'
+   seconds as they are then. The next start begins with the last of these; where there is none, with what the log
+   tells. */
 #ifndef KEEP_H
 #define KEEP_H
 
@@ -30,10 +31,10 @@ enum {
     KEEP_SYNCED = 60   /* seconds */
 };
 
-/* Takes up what the folder has, or begins there with the device as it was set up, and leaves in *device what is recorded
-   from here on. Places that were open are closed. Ends the program where the folder is not there or another host keeps
-   its log there, where a form does not match its MD5, where a log is damaged, has a gap or does not belong to its form,
-   and where a first form can't be written. */
+/* Takes up what the folder has, or begins there with the device as it was set up, and leaves in *device what is
+   recorded from here on. Places that were open are closed. Ends the program where the folder is not there or another
+   host keeps its log there, where a form does not match its MD5, where a log is damaged, has a gap or does not belong to
+   its form, and where a first form can't be written. */
 void keep_begin(const char *folder, pj_device *device);
 
 /* A call that was served, after it was made and before its reply is sent. Without keep_begin, or where recording has

@@ -15,7 +15,8 @@
    With --keep it keeps form and log in FOLDER, which has to be there, and goes on where they end: keep.h has how, and
    what becomes of the recording where the disk is full. Settings are then those of the form that lies there, and
    PJLINK_PASSWORD and PJLINK_CLASS are for a folder that has none. The operator gives calls by lines to the pipe
-   FOLDER/operator, written as the log writes them, and standard output says with which number each was served or refused:
+   FOLDER/operator, written as the log writes them, and standard output says with which number each was served or
+   refused:
 
        F 1         the fault mark (F 0: none)
        E 012000    the six error digits
@@ -129,8 +130,8 @@ static void greet(int listener) {
     answer(opened.place, reply, opened.length);
 }
 
-/* How many of these bytes the record would pass over: all where the digest has failed, and of a line that is too long all
-   before its CR. They are not handed on, so that nobody fills a log with them. */
+/* How many of these bytes the record would pass over: all where the digest has failed, and of a line that is too long
+   all before its CR. They are not handed on, so that nobody fills a log with them. */
 static size_t passed_over(size_t place, const uint8_t *bytes, size_t length) {
     const pj_connection *connection = &device.connections[place];
     if (connection->phase == PJ_PHASE_FAILED) return length;
@@ -139,8 +140,8 @@ static size_t passed_over(size_t place, const uint8_t *bytes, size_t length) {
     return end == NULL ? length : (size_t)(end - bytes);
 }
 
-/* What has come at a place, in whatever cuts: handed on until all is taken, no more at once than a line of a log can say.
-   Gives whether there may be more. */
+/* What has come at a place, in whatever cuts: handed on until all is taken, no more at once than the longest line and its
+   CR, which a line of a log can say (PJ_LOG_BYTES). Gives whether there may be more. */
 static bool serve(size_t place) {
     uint8_t bytes[4096], reply[PJ_REPLY_ROOM];
     ssize_t got = recv(peers[place].socket, bytes, sizeof bytes, MSG_DONTWAIT);
@@ -151,7 +152,7 @@ static bool serve(size_t place) {
     }
     for (size_t at = 0; peers[place].socket >= 0 && at < (size_t)got;) {
         at += passed_over(place, bytes + at, (size_t)got - at);
-        size_t length = (size_t)got - at < PJ_LOG_BYTES ? (size_t)got - at : PJ_LOG_BYTES;
+        size_t length = (size_t)got - at <= PJ_LINE_ROOM ? (size_t)got - at : PJ_LINE_ROOM + 1;
         if (length == 0) break;
         pj_receiving r = pj_receive_in_place(&device, place, bytes + at, length, reply, sizeof reply);
         served(r.number, "pj_receive_in_place");
@@ -288,7 +289,7 @@ static void begin_keeping(const char *folder, const char *password, const char *
     const pj_text *kept = &device.settings.password;
     if ((password != NULL && (strlen(password) != kept->len || memcmp(password, kept->bytes, kept->len) != 0)) ||
         (class_number != NULL && atoi(class_number) != device.settings.class_number))
-        fprintf(stderr, "%s: password and class are those of the form there, and not those of the environment\n", folder);
+        fprintf(stderr, "%s: password and class are those of the form there, not of the environment\n", folder);
     open_operator(folder);
     const char *clock = getenv("PJLINK_CLOCK");
     operators_clock = clock != NULL && strcmp(clock, "operator") == 0;
