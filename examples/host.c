@@ -1,7 +1,7 @@
 /* A host: it keeps one projector, feeds it bytes in odd cuts as a network would, lets time pass, and asks as a
    controller; service compares two tables of lamp seconds, the board is swapped, four controllers are connected at
-   once, one lamp burns while the other rests, a projector of Class 2 is asked what one of Class 1 does not answer, and
-   a cutting day is planned and checked. It lends its record to the calls in place, and makes one call by value. Every
+   once, one lamp burns while the other rests, a projector of Class 2 is asked what one of Class 1 does not answer, a log
+   of all calls is recorded and played back, and a cutting day is planned and checked. It lends its record to the calls in place, and makes one call by value. Every
    number that a call gives is tested before anything else of its result is used. What it must print, by docs/RULES.md,
    is in host.stdout: `0 < LINE` is a reply to the controller at place 0. */
 #include <stdio.h>
@@ -281,6 +281,86 @@ static void class_2(void) {
            (const char *)settings->names[1].bytes, loaded.own.frozen, loaded.own.speaker);
 }
 
+/* What lies in a log's file: here in memory. Each line is printed, and what it says is in the file before a reply goes
+   out. */
+static uint8_t file[2048], line[PJ_LOG_ROOM];
+static size_t file_len;
+static pj_log kept;
+
+static void append(pj_written w, const char *call) {
+    served(w.number, call);
+    printf("log: %.*s", (int)w.length, (const char *)line);
+    memcpy(file + file_len, line, w.length);
+    file_len += w.length;
+}
+
+/* Bytes that come at a place, of which the call takes all. */
+static void receive(size_t place, const char *bytes) {
+    pj_receiving r = pj_receive_in_place(&device, place, TEXT(bytes), reply, sizeof reply);
+    served(r.number, "pj_receive_in_place");
+    append(pj_log_received(&kept, place, (const uint8_t *)bytes, r.taken, line, sizeof line), "pj_log_received");
+    if (r.length > 0) printf("%zu < %.*s\n", place, (int)r.length - 1, (const char *)reply);
+}
+
+/* Every call is recorded. Then the power is lost, and the board starts again from the stored form and the log. */
+static void recorded_log(void) {
+    const uint32_t lamps[] = {0};
+    uint8_t form[PJ_FORM_MOST];
+    served(pj_set_up_in_place(&device, TEXT("Table 5"), TEXT("maker"), TEXT("model"), TEXT(""), TEXT(""), TEXT("11"),
+                              LIST(lamps), 20, 60), "pj_set_up_in_place");
+    pj_written stored = pj_store_in_place(&device, form, sizeof form);
+    served(stored.number, "pj_store_in_place");
+    kept = pj_log_begun(form, stored.length);
+    append(pj_log_file(&kept, TEXT("2026-11-27T05:45:09Z"), line, sizeof line), "pj_log_file");
+
+    pj_opening opened = pj_open_in_place(&device, 0x498e4a67, reply, sizeof reply);
+    served(opened.number, "pj_open_in_place");
+    append(pj_log_opened(&kept, opened.place, 0x498e4a67, line, sizeof line), "pj_log_opened");
+    receive(opened.place, "%1POWR 1\r");
+    pass(20);
+    pass(3600); /* seconds of several calls are one line, before that of any other call */
+    append(pj_log_passed(&kept, 3620, line, sizeof line), "pj_log_passed");
+    served(pj_set_fault_in_place(&device, true), "pj_set_fault_in_place");
+    append(pj_log_fault(&kept, true, line, sizeof line), "pj_log_fault");
+    receive(opened.place, "%1POWR ?\r");
+    receive(opened.place, "%1LAM");
+    receive(opened.place, "P ?\r");
+
+    /* what no line can say is refused, and the log goes on as if it had not been asked; so does less than the room */
+    printf("lamp 8: refused %d\n", pj_log_mark(&kept, 8, false, line, sizeof line).number == PJ_OUT_OF_RANGE);
+    printf("place 256: refused %d\n", pj_log_closed(&kept, 256, line, sizeof line).number == PJ_OUT_OF_RANGE);
+    printf("no room: refused %d\n", pj_log_closed(&kept, 0, line, sizeof line - 1).number == PJ_NO_ROOM);
+    append(pj_log_stated(&kept, &device, line, sizeof line), "pj_log_stated");
+
+    /* the power is lost: all that is left is the form and the file */
+    pj_device again;
+    served(pj_load_in_place(&again, form, stored.length), "pj_load_in_place");
+    pj_log read = pj_log_begun(form, stored.length);
+    for (size_t at = 0, end = 0; at < file_len; at = end + 1) {
+        for (end = at; file[end] != '\n';) end++;
+        pj_written w = pj_log_play(&read, &again, file + at, end - at, reply, sizeof reply);
+        served(w.number, "pj_log_play");
+        if (w.length > 0) printf("again < %.*s\n", (int)w.length - 1, (const char *)reply);
+    }
+    printf("again: power %d, %u s, fault %d\n", again.own.power, (unsigned)again.own.lamps[0], again.own.fault);
+    printf("the log goes on: %d\n", read.file == kept.file && read.lines == kept.lines && read.sum == kept.sum);
+
+    /* a line that does not belong there is not played: another place, a call that is refused, what a line can't say */
+    pj_written w = pj_log_play(&read, &again, TEXT("O 2 498e4a67"), reply, sizeof reply);
+    printf("place 2, not 1: refused %d\n", w.number == PJ_OUT_OF_RANGE);
+    w = pj_log_play(&read, &again, TEXT("X 3"), reply, sizeof reply);
+    printf("nobody at place 3: refused %d\n", w.number == PJ_NOT_CONNECTED);
+    w = pj_log_play(&read, &again, TEXT("T 060"), reply, sizeof reply);
+    printf("T 060: refused %d\n", w.number == PJ_OUT_OF_RANGE);
+    printf("place 1 is closed: %d, the log is as it was: %d\n", again.connections[1].phase == PJ_PHASE_CLOSED,
+           read.lines == kept.lines && read.sum == kept.sum);
+
+    /* the controller's socket is gone: its place is closed, and that is recorded */
+    device = again;
+    served(pj_close_in_place(&device, opened.place), "pj_close_in_place");
+    append(pj_log_closed(&kept, opened.place, line, sizeof line), "pj_log_closed");
+}
+
 static void one_day(void) {
     /* three jobs, of which the first two overlap, on two rigs; the last may use rig 0 alone (bit 0) */
     const uint32_t starts[] = {600, 1200, 9000}, lengths[] = {3600, 1800, 7200};
@@ -314,6 +394,7 @@ int main(void) {
     four_controllers();
     one_lamp();
     class_2();
+    recorded_log();
     one_day();
     return 0;
 }

@@ -11,6 +11,8 @@ mod floor;
 #[cfg(board = "linked")]
 mod measure;
 #[cfg(board = "linked")]
+mod recording;
+#[cfg(board = "linked")]
 mod work;
 
 #[cfg(board = "linked")]

@@ -2,7 +2,7 @@
 //! calls, less what it takes without them (`By::Nobody`).
 
 use crate::work::{self, By, Run, Work};
-use crate::{day, floor};
+use crate::{day, floor, recording};
 use std::fs;
 use std::path::Path;
 use std::process::{Command, ExitCode};
@@ -33,6 +33,7 @@ pub fn main() -> ExitCode {
 fn all() -> Vec<Work> {
     let mut all = work::all();
     all.extend(day::all());
+    all.extend(recording::all());
     all
 }
 

@@ -11,6 +11,7 @@ enum { PAINTED = 1 << 18, LEFT = 256, PAINT = 0xA5 };
 static pj_device device;
 static uint8_t out[PJ_COMMAND_ROOM];
 static uint8_t message[4096];
+static uint8_t logged[PJ_LOG_ROOM];
 
 /* Paints what lies below its own frame, which is smaller than what is left alone; tells where that frame is. */
 static __attribute__((noinline)) uint8_t *painted(void) {
@@ -55,6 +56,8 @@ static pj_panel panel;
 static uint32_t tables[2][PJ_TABLE_MOST];
 static int64_t differences[PJ_TABLE_MOST];
 static pj_command command;
+static const uint8_t no_errors[PJ_ERRORS];
+static pj_log history;
 static volatile uint32_t sink;
 
 CALL(call_set_up, {
@@ -97,6 +100,17 @@ CALL(call_store_in_place, { stored = pj_store_in_place(&device, form, sizeof for
 CALL(call_load_in_place, { sink = pj_load_in_place(&device, form, stored); })
 CALL(call_set_fault_in_place, { sink = pj_set_fault_in_place(&device, true); })
 CALL(call_set_errors_in_place, { sink = pj_set_errors_in_place(&device, message, 6); })
+CALL(call_log_begun, { history = pj_log_begun(form, stored); })
+CALL(call_log_file, { sink = pj_log_file(&history, TEXT("2026-11-27T05:45:09Z"), logged, sizeof logged).number; })
+CALL(call_log_opened, { sink = pj_log_opened(&history, 0, 0x498e4a67, logged, sizeof logged).number; })
+CALL(call_log_received, { sink = pj_log_received(&history, 0, form, 2046, logged, sizeof logged).number; })
+CALL(call_log_passed, { sink = pj_log_passed(&history, 4294967295u, logged, sizeof logged).number; })
+CALL(call_log_closed, { sink = pj_log_closed(&history, 0, logged, sizeof logged).number; })
+CALL(call_log_fault, { sink = pj_log_fault(&history, true, logged, sizeof logged).number; })
+CALL(call_log_errors, { sink = pj_log_errors(&history, no_errors, PJ_ERRORS, logged, sizeof logged).number; })
+CALL(call_log_mark, { sink = pj_log_mark(&history, 1, false, logged, sizeof logged).number; })
+CALL(call_log_stated, { sink = pj_log_stated(&history, &device, logged, sizeof logged).number; })
+CALL(call_log_play, { sink = pj_log_play(&history, &device, TEXT(line), out, sizeof out).number; })
 CALL(call_set_fault, { device = pj_set_fault(device, true).device; })
 CALL(call_set_errors, { device = pj_set_errors(device, message, 6).device; })
 CALL(call_set_mark, { device = pj_set_mark(device, 1, false).device; })
@@ -157,6 +171,19 @@ int main(void) {
     BOTH(pj_receive, ", %2INNM ?6A", call_receive);
     BOTH(pj_store, ", Class 2", call_store);
     BOTH(pj_load, ", Class 2", call_load);
+    measure("pj_log_begun", call_log_begun);
+    measure("pj_log_file", call_log_file);
+    device = pj_open(device, 1, out, sizeof out).device;
+    line = "R 0 %2INNM ?6A";
+    measure("pj_log_play, R 0 %2INNM ?6A", call_log_play);
+    measure("pj_log_opened", call_log_opened);
+    measure("pj_log_received, 2,046 bytes", call_log_received);
+    measure("pj_log_passed", call_log_passed);
+    measure("pj_log_closed", call_log_closed);
+    measure("pj_log_fault", call_log_fault);
+    measure("pj_log_errors", call_log_errors);
+    measure("pj_log_mark", call_log_mark);
+    measure("pj_log_stated", call_log_stated);
     measure("pj_md5", call_md5);
     command = (pj_command){PJ_INPT_SET, 5, 9};
     measure("pj_write, secured", call_write);

@@ -1,7 +1,7 @@
 //! What is measured: each piece of work, done by the archive, by the second program and, for MD5, by plain C and OpenSSL.
 
 use second::face::{Changed, Command, Connection, Device, Lent, Lent2, Receiving, in_place, linked, setting_up, swap};
-use second::reference::{calls, places, service, swap as reference_swap};
+use second::reference::{calls, marks, places, service, swap as reference_swap};
 use std::cell::RefCell;
 use std::hint::black_box;
 
@@ -77,6 +77,9 @@ pub fn all() -> Vec<Work> {
     add("pj_open_in_place, secured", BOTH, Box::new(|| opening_in_place(closed(b"panel123"))));
     add("pj_close", BOTH, Box::new(|| closing(opened(b""))));
     add("pj_close_in_place", BOTH, Box::new(|| closing_in_place(opened(b""))));
+    add("pj_set_fault_in_place", BOTH, Box::new(|| marking_in_place(opened(b""))));
+    add("pj_set_errors_in_place", BOTH, Box::new(|| reporting_in_place(opened(b""))));
+    add("pj_set_mark_in_place", BOTH, Box::new(|| enabling_in_place(opened(b""))));
     add("pj_set_up", BOTH, Box::new(setting_up));
     add("pj_set_up_in_place", BOTH, Box::new(setting_up_in_place));
     add("pj_store, Class 2", BOTH, Box::new(|| storing(class_2())));
@@ -367,6 +370,28 @@ fn closing_in_place(device: Device) -> Run {
     lent(device, |by, device| match by {
         By::Board => _ = black_box(in_place::close(device, PLACE)),
         _ => *device = places::close(device, PLACE).device,
+    })
+}
+
+fn marking_in_place(device: Device) -> Run {
+    lent(device, |by, device| match by {
+        By::Board => _ = black_box(in_place::set_fault(device, true)),
+        _ => *device = calls::set_fault(device, true).device,
+    })
+}
+
+fn reporting_in_place(device: Device) -> Run {
+    let digits = [0, 1, 2, 0, 0, 0];
+    lent(device, move |by, device| match by {
+        By::Board => _ = black_box(in_place::set_errors(device, &digits)),
+        _ => *device = calls::set_errors(device, &digits).device,
+    })
+}
+
+fn enabling_in_place(device: Device) -> Run {
+    lent(device, |by, device| match by {
+        By::Board => _ = black_box(in_place::set_mark(device, 1, false)),
+        _ => *device = marks::set_mark(device, 1, false).device,
     })
 }
 

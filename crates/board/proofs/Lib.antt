@@ -4,3 +4,5 @@ pub mod Zipping
 mod FitsADay
 pub mod OneOfLists
 pub mod Gives
+mod Unsayable
+mod Played

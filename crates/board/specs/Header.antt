@@ -29,6 +29,8 @@ use Rattle.stored.specs.Form.{form_most}
 use Rattle.stored.specs.declared.error.LoadError.{LoadError}
 use Rattle.stored.specs.declared.error.LoadError.TheVariants as form
 use Rattle.device.specs.Calls.{reply_room}
+use Rattle.history.specs.Calls.{received_most}
+use Rattle.history.specs.Recording.{log_line_room}
 use Rattle.controller.specs.Reading.{Outcome, means_it, erra_said, not_a_line, other_command, disallowed}
 use Rattle.controller.specs.Writing.{command_room}
 use Rattle.controller.specs.declared.writing.Unwritten.{Unwritten}
@@ -161,6 +163,8 @@ limits =
     ∷ (codes "PJ_REPLY_ROOM" equals 136 names reply_room)
     ∷ (codes "PJ_COMMAND_ROOM" equals 168 names command_room)
     ∷ (codes "PJ_FORM_MOST" equals 4504 names form_most)
+    ∷ (codes "PJ_LOG_ROOM" equals 4097 names log_line_room)
+    ∷ (codes "PJ_LOG_BYTES" equals 2046 names received_most)
     ∷ []
 
 abbrev pub phases : List Naming

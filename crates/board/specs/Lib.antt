@@ -4,5 +4,6 @@ pub mod Days
 pub mod Lamps
 pub mod Which
 pub mod Results
+pub mod Logs
 pub mod Writable
 pub mod Header

@@ -6,6 +6,7 @@ pub mod days;
 pub mod forms;
 pub mod lamps;
 mod lists;
+pub mod log;
 pub mod projector;
 pub mod reader;
 pub mod results;

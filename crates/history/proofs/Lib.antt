@@ -7,3 +7,7 @@ pub mod Printable
 pub mod Logs
 pub mod Chain
 pub mod ShownFits
+pub mod Unsayable
+pub mod ShownPlain
+pub mod Served
+pub mod OnlyLines

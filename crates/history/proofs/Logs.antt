@@ -30,6 +30,10 @@ none_ended g [] h = refl
 none_ended g (b ∷ t) h =
     if_no _ _ (not_lf_is b t h) ∙ none_ended (g ++ (b ∷ [])) t (both_right (not_lf b) (list_all not_lf t) h)
 
+pub no_lines : lines_ended [] [] ≡ []
+unfolding lines_ended
+no_lines = refl
+
 one_ended : (g t rest : List ℕ) → list_all not_lf t ≡ true
     → lines_ended g (t ++ (code "\n" ∷ rest)) ≡ (g ++ t) ∷ lines_ended [] rest
 unfolding lines_ended
@@ -90,31 +94,47 @@ within_or_past (suc n) (suc m) =
       | inr (k, e) ↦ inr (k, omega arith)
     ]
 
+-- of a line and what follows it: the line is the first; of a front, unless that ends within it
+pub line_ended : (t rest : List ℕ) → list_all not_lf t ≡ true
+    → lines_ended [] (t ++ (code "\n" ∷ rest)) ≡ t ∷ lines_ended [] rest
+line_ended t rest h = one_ended [] t rest h
+
+pub line_cut : (t rest : List ℕ) → list_all not_lf t ≡ true → (n : ℕ)
+    → (lines_ended [] (take n (t ++ (code "\n" ∷ rest))) ≡ [])
+    ⊎ ((j : ℕ) × (lines_ended [] (take n (t ++ (code "\n" ∷ rest))) ≡ t ∷ lines_ended [] (take j rest)))
+line_cut t rest h n =
+    elim (within_or_past n (length t)) [
+      | inl within ↦ inl (
+          ap (lines_ended []) (take_within n t (code "\n" ∷ rest) within)
+          ∙ none_ended [] (take n t) (taken_no_lf n t h)
+          )
+      | inr (j, past) ↦ inr (
+        j,
+        ap (λ (m : ℕ). lines_ended [] (take m (t ++ (code "\n" ∷ rest)))) past
+            ∙ ap (lines_ended []) (take_past (suc j) t (code "\n" ∷ rest))
+            ∙ one_ended [] t (take j rest) h,
+      )
+    ]
+
 -- a log that was cut
 pub log_cut : (es : List LogEntry) → Sayable es → (n : ℕ)
     → (k : ℕ) × (k ≤ length es) × (entries_in (take n (log_text es)) ≡ map Some (take k es))
-unfolding lines_ended
-log_cut [] h zero = (0, omega arith, refl)
-log_cut [] h (suc n) = (0, omega arith, refl)
+log_cut [] h zero = (0, omega arith, ap (map entry_in) no_lines)
+log_cut [] h (suc n) = (0, omega arith, ap (map entry_in) no_lines)
 log_cut (e ∷ es) (t, h, more) n =
-    let s = entry_text e in
     let whole = line_then e (log_text es) in
-    elim (within_or_past n (length s)) [
-      | inl within ↦ (
+    elim (line_cut (entry_text e) (log_text es) (entry_no_lf e h) n) [
+      | inl none ↦ (
         0,
         omega arith,
-        ap (λ (l : List ℕ). entries_in (take n l)) whole
-            ∙ ap entries_in (take_within n s (code "\n" ∷ log_text es) within)
-            ∙ ap (map entry_in) (none_ended [] (take n s) (taken_no_lf n s (entry_no_lf e h))),
+        ap (λ (l : List ℕ). entries_in (take n l)) whole ∙ ap (map entry_in) none,
       )
-      | inr (j, past) ↦
+      | inr (j, one) ↦
           let (k, few, same) = log_cut es more j in (
             suc k,
             omega arith,
             ap (λ (l : List ℕ). entries_in (take n l)) whole
-                ∙ ap (λ (m : ℕ). entries_in (take m (s ++ (code "\n" ∷ log_text es)))) past
-                ∙ ap entries_in (take_past (suc j) s (code "\n" ∷ log_text es))
-                ∙ ap (map entry_in) (one_ended [] s (take j (log_text es)) (entry_no_lf e h))
+                ∙ ap (map entry_in) one
                 ∙ (λ i. entry_back e t h i ∷ same i),
           )
     ]

@@ -11,7 +11,6 @@ ghost use Rattle.history.specs.Entries.{summed_text, time_text, time_seen, entry
 
 use crate::call::Call;
 use crate::entry::Entry;
-use arrayvec::ArrayVec;
 use lent::Writer;
 use words::errors::Errors;
 use words::input;
@@ -60,7 +59,8 @@ fn hex(w: &mut Writer<'_>, s: &[u8])
 {
     for &b in s {
         let digits = digest::hex8(b as u32);
-        w.bytes(&digits[6..]);
+        w.byte(digits[6]);
+        w.byte(digits[7]);
     }
 }
 
@@ -68,19 +68,30 @@ fn errors(w: &mut Writer<'_>, digits: &Errors)
     requires short { w.old.at ≤ 4 }
     ensures { Puts w.old w.new (errors_text digits.now) }
 {
-    for &digit in digits {
-        w.byte(input::number_digit(digit));
-    }
+    let [fan, lamp, temperature, cover, filter, other] = *digits;
+    w.bytes(&[
+        input::number_digit(fan),
+        input::number_digit(lamp),
+        input::number_digit(temperature),
+        input::number_digit(cover),
+        input::number_digit(filter),
+        input::number_digit(other),
+    ]);
 }
 
-#[tactic(auto, using(crate::proofs::Writing::steps))]
+// All digits: those of the quotient by ten, then the last.
+#[tactic(auto, using(crate::proofs::Writing::figures))]
 fn number(w: &mut Writer<'_>, n: u32)
     requires short { w.old.at ≤ 100 }
     ensures { Puts w.old w.new (digits n) }
 {
-    let mut figures: ArrayVec<u8, 10> = ArrayVec::new();
-    numbers::put_number(n, &mut figures);
-    w.bytes(figures.as_slice());
+    let last = b'0' + (n % 10) as u8;
+    if n < 10 {
+        w.byte(last);
+    } else {
+        number(w, n / 10);
+        w.byte(last);
+    }
 }
 
 fn switch_figure(mark: bool) -> u8
@@ -98,6 +109,15 @@ fn head(w: &mut Writer<'_>, letter: u8, place: u8)
     w.bytes(&[letter, b' ', b'0' + place]);
 }
 
+// The same, and something behind it.
+fn placed(w: &mut Writer<'_>, letter: u8, place: u8)
+    requires first { w.old.at ≡ 0 }
+    requires few { place ≤ 9 }
+    ensures { Puts w.old w.new (place_head letter place ++ codes " ") }
+{
+    w.bytes(&[letter, b' ', b'0' + place, b' ']);
+}
+
 #[tactic(auto, unfolding(crate::specs::Lines::bytes_text), using(crate::proofs::Writing::steps))]
 fn bytes(w: &mut Writer<'_>, place: u8, bytes: &[u8])
     requires first { w.old.at ≡ 0 }
@@ -106,16 +126,16 @@ fn bytes(w: &mut Writer<'_>, place: u8, bytes: &[u8])
     ensures { Puts w.old w.new (bytes_text place bytes.now) }
 {
     if is_command_line(bytes) {
-        head(w, b'R', place);
-        w.byte(b' ');
+        placed(w, b'R', place);
         w.bytes(&bytes[..bytes.len() - 1]);
         return;
     }
-    head(w, b'B', place);
-    if !bytes.is_empty() {
-        w.byte(b' ');
-        hex(w, bytes);
+    if bytes.is_empty() {
+        head(w, b'B', place);
+        return;
     }
+    placed(w, b'B', place);
+    hex(w, bytes);
 }
 
 /// Puts the line of a call, without its LF.
@@ -127,8 +147,7 @@ pub fn call(w: &mut Writer<'_>, call: &Call<'_>)
 {
     match call {
         Call::Opens(place, random) => {
-            head(w, b'O', *place);
-            w.byte(b' ');
+            placed(w, b'O', *place);
             w.bytes(&digest::hex8(*random));
         }
         Call::Receives(place, received) => bytes(w, *place, received),
@@ -143,8 +162,8 @@ pub fn call(w: &mut Writer<'_>, call: &Call<'_>)
             errors(w, digits);
         }
         Call::Mark(lamp, mark) => {
-            head(w, b'M', *lamp + 1);
-            w.bytes(&[b' ', switch_figure(*mark)]);
+            placed(w, b'M', *lamp + 1);
+            w.byte(switch_figure(*mark));
         }
     }
 }

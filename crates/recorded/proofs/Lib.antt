@@ -6,3 +6,7 @@ pub mod CallsSayable
 pub mod Fronts
 pub mod Written
 pub mod Illegal
+pub mod Chained
+pub mod Believed
+pub mod Kept
+pub mod Accepted

@@ -1,3 +1,5 @@
 pub mod Recorded
 pub mod Playing
 pub mod Played
+pub mod Chain
+pub mod Hosts

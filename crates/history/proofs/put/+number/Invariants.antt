@@ -1,0 +1,4 @@
+use Rattle.history.proofs.put.+number.Given as goal
+
+abbrev pub decreases-number : goal.decreases-number
+decreases-number l = l.n
