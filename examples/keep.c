@@ -69,7 +69,9 @@ static bool put_file(const char *name, const uint8_t *bytes, size_t length) {
     bool put = write_all(file, bytes, length) && fsync(file) == 0;
     put = close(file) == 0 && put;
     put = put && renameat(kept.folder, "new", kept.folder, name) == 0 && fsync(kept.folder) == 0;
+    int why = errno;
     if (!put) unlinkat(kept.folder, "new", 0);
+    errno = why;
     return put;
 }
 
@@ -349,6 +351,7 @@ static bool cut(const char *name, off_t length) {
     complain(name, "what stands behind the last line end is taken away");
     int file = openat(kept.folder, name, O_WRONLY | O_CLOEXEC);
     bool done = file >= 0 && ftruncate(file, length) == 0 && fsync(file) == 0;
+    if (!done) complain(name, strerror(errno));
     if (file >= 0) close(file);
     return done;
 }
@@ -421,7 +424,7 @@ void keep_begin(const char *folder, pj_device *device) {
     } else if (is_whole) {
         go_on();
     } else {
-        stop_recording(strerror(errno));
+        stop_recording("no line can stand behind its end");
     }
     for (size_t place = 0; place < PJ_PLACES; place++) {
         if (device->connections[place].phase == PJ_PHASE_CLOSED) continue;
