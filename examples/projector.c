@@ -1,7 +1,7 @@
 /* A projector on a network: a host with sockets around the record. The product has no sockets and no clock; this is an
    example of what stands around it, and no part of what is proved.
 
-       projector [PORT [ADDRESS [IDLE]]]        port 4352, address 127.0.0.1, 300 seconds
+       projector [--keep FOLDER] [PORT [ADDRESS [IDLE]]]        port 4352, address 127.0.0.1, 300 seconds
 
    ADDRESS is numeric; 127.0.0.1 is heard on this machine alone, 0.0.0.0 by every network that it is on. Port 0 is any
    free one. The password is that of the environment, PJLINK_PASSWORD, of eight characters or more; none, or an empty
@@ -10,21 +10,38 @@
    Four controllers are answered at a time: the host keeps a socket for each of the record's places. Before it takes a
    new one it reads what the others have sent, to see who has gone; so whoever hangs up and connects again at once is
    greeted. A fifth is hung up on at once. As the record never times an open connection out, the host ends one that got
-   no reply for IDLE seconds, or its place would be held for ever. */
+   no reply for IDLE seconds, or its place would be held for ever.
+
+   With --keep it keeps form and log in FOLDER, which has to be there, and goes on where they end: keep.h has how, and
+   what becomes of the recording where the disk is full. Settings are then those of the form that lies there, and
+   PJLINK_PASSWORD and PJLINK_CLASS are for a folder that has none. The operator gives calls by lines to the pipe
+   FOLDER/operator, written as the log writes them, and standard output says with which number each was served or
+   refused:
+
+       F 1         the fault mark (F 0: none)
+       E 012000    the six error digits
+       M 2 0       the second lamp is disabled (M 2 1: enabled)
+       LOG         a new file of the log begins
+
+   as in `echo F 1 > FOLDER/operator`. SIGTERM and SIGINT end the recording in order, and the host. With
+   PJLINK_CLOCK=operator, for trials, no time passes but what the operator says: `T 3600`. */
 #define _DEFAULT_SOURCE
 #include <errno.h>
 #include <fcntl.h>
 #include <netdb.h>
 #include <poll.h>
+#include <signal.h>
 #include <stdio.h>
 #include <stdlib.h>
 #include <string.h>
 #include <sys/random.h>
 #include <sys/socket.h>
+#include <sys/stat.h>
 #include <time.h>
 #include <unistd.h>
 
 #include "ceiling.h"
+#include "keep.h"
 
 #define TEXT(s) (const uint8_t *)(s), strlen(s)
 
@@ -34,6 +51,9 @@ static struct {
     int socket;         /* the controller's at this place; -1: none, and the record's connection there is closed */
     uint64_t answered;  /* the clock's milliseconds at the last greeting or reply */
 } peers[PJ_PLACES];
+static int operator = -1;       /* the pipe for the operator's lines; -1: none */
+static bool operators_clock;
+static volatile sig_atomic_t is_over;
 
 static void die(const char *what) {
     perror(what);
@@ -55,18 +75,25 @@ static uint64_t milliseconds(void) {
 
 /* Ends a connection on both sides: in the record, where time has not closed it already, and on the network. */
 static void hang_up(size_t place) {
-    if (device.connections[place].phase != PJ_PHASE_CLOSED)
+    if (device.connections[place].phase != PJ_PHASE_CLOSED) {
         served(pj_close_in_place(&device, place), "pj_close_in_place");
+        keep_closed(place);
+    }
     close(peers[place].socket);
     peers[place].socket = -1;
 }
 
-/* Whole seconds, as they pass; what is left of one counts next time. A real board saves device.own.lamps here from time
-   to time, and hands them to pj_set_up_in_place when it starts again. */
+static void pass(uint32_t seconds) {
+    served(pj_pass_in_place(&device, seconds), "pj_pass_in_place");
+    keep_passed(seconds);
+}
+
+/* Whole seconds, as they pass; what is left of one counts next time. */
 static void pass_time(void) {
     uint64_t seconds = (milliseconds() - passed) / 1000;
     passed += seconds * 1000;
-    served(pj_pass_in_place(&device, (uint32_t)seconds), "pj_pass_in_place");
+    if (!operators_clock) pass((uint32_t)seconds);
+    keep_time();
 }
 
 /* The sockets follow the record: time closes an awaiting or failed connection, and an open one is ours to end. */
@@ -98,11 +125,23 @@ static void greet(int listener) {
         return;
     }
     served(opened.number, "pj_open_in_place");
+    keep_opened(opened.place, random);
     peers[opened.place].socket = peer;
     answer(opened.place, reply, opened.length);
 }
 
-/* What has come at a place, in whatever cuts: handed on until all is taken. Gives whether there may be more. */
+/* How many of these bytes the record would pass over: all where the digest has failed, and of a line that is too long
+   all before its CR. They are not handed on, so that nobody fills a log with them. */
+static size_t passed_over(size_t place, const uint8_t *bytes, size_t length) {
+    const pj_connection *connection = &device.connections[place];
+    if (connection->phase == PJ_PHASE_FAILED) return length;
+    if (!connection->line.overlong) return 0;
+    const uint8_t *end = memchr(bytes, '\r', length);
+    return end == NULL ? length : (size_t)(end - bytes);
+}
+
+/* What has come at a place, in whatever cuts: handed on until all is taken, no more at once than the longest line and its
+   CR, which a line of a log can say (PJ_LOG_BYTES). Gives whether there may be more. */
 static bool serve(size_t place) {
     uint8_t bytes[4096], reply[PJ_REPLY_ROOM];
     ssize_t got = recv(peers[place].socket, bytes, sizeof bytes, MSG_DONTWAIT);
@@ -112,8 +151,12 @@ static bool serve(size_t place) {
         return false;
     }
     for (size_t at = 0; peers[place].socket >= 0 && at < (size_t)got;) {
-        pj_receiving r = pj_receive_in_place(&device, place, bytes + at, (size_t)got - at, reply, sizeof reply);
+        at += passed_over(place, bytes + at, (size_t)got - at);
+        size_t length = (size_t)got - at <= PJ_LINE_ROOM ? (size_t)got - at : PJ_LINE_ROOM + 1;
+        if (length == 0) break;
+        pj_receiving r = pj_receive_in_place(&device, place, bytes + at, length, reply, sizeof reply);
         served(r.number, "pj_receive_in_place");
+        keep_received(place, bytes + at, r.taken);
         at += r.taken;
         if (r.length > 0) answer(place, reply, r.length);
     }
@@ -125,6 +168,83 @@ static void serve_all(void) {
     for (size_t place = 0; place < PJ_PLACES; place++) {
         for (int turn = 0; turn < 64 && peers[place].socket >= 0 && serve(place);) turn++;
     }
+}
+
+/* The operator's lines. */
+
+static uint32_t set_fault(bool mark) {
+    uint32_t number = pj_set_fault_in_place(&device, mark);
+    if (number == PJ_SERVED) keep_fault(mark);
+    return number;
+}
+
+static uint32_t set_errors(const char *characters) {
+    uint8_t digits[PJ_ERRORS];
+    size_t count = strlen(characters);
+    for (size_t k = 0; k < count && k < PJ_ERRORS; k++) digits[k] = (uint8_t)(characters[k] - '0');
+    uint32_t number = pj_set_errors_in_place(&device, digits, count < PJ_ERRORS ? count : PJ_ERRORS);
+    if (number == PJ_SERVED) keep_errors(digits, PJ_ERRORS);
+    return number;
+}
+
+static uint32_t set_mark(size_t lamp, bool enabled) {
+    uint32_t number = pj_set_mark_in_place(&device, lamp, enabled);
+    if (number == PJ_SERVED) keep_mark(lamp, enabled);
+    return number;
+}
+
+static void operate(const char *line) {
+    unsigned first, second;
+    char more;
+    uint32_t number = PJ_SERVED;
+    if (sscanf(line, "F %1u%c", &first, &more) == 1 && first <= 1) {
+        number = set_fault(first == 1);
+    } else if (strncmp(line, "E ", 2) == 0 && strlen(line) == 2 + PJ_ERRORS) {
+        number = set_errors(line + 2);
+    } else if (sscanf(line, "M %1u %1u%c", &first, &second, &more) == 2 && first >= 1 && second <= 1) {
+        number = set_mark(first - 1, second == 1);
+    } else if (operators_clock && sscanf(line, "T %9u%c", &first, &more) == 1) {
+        pass(first);
+    } else if (strcmp(line, "LOG") == 0) {
+        keep_next_file();
+    } else {
+        printf("%s: no such line\n", line);
+        fflush(stdout);
+        return;
+    }
+    printf("%s: %u\n", line, (unsigned)number);
+    fflush(stdout);
+}
+
+/* What the operator has written: each line by itself, and nothing of one that is too long. */
+static void hear_operator(void) {
+    static char line[32];
+    static size_t held;
+    for (char byte; read(operator, &byte, 1) == 1;) {
+        if (byte != '\n') {
+            if (held < sizeof line) line[held++] = byte;
+            continue;
+        }
+        if (held < sizeof line) {
+            line[held] = '\0';
+            operate(line);
+        }
+        held = 0;
+    }
+}
+
+/* A pipe that the host has open at both its ends never comes to its end. */
+static void open_operator(const char *folder) {
+    int at = open(folder, O_RDONLY | O_DIRECTORY | O_CLOEXEC);
+    if (at >= 0 && (mkfifoat(at, "operator", 0600) == 0 || errno == EEXIST))
+        operator = openat(at, "operator", O_RDWR | O_NONBLOCK | O_CLOEXEC);
+    if (operator < 0) perror("no operator is heard");
+    if (at >= 0) close(at);
+}
+
+static void end(int signal) {
+    (void)signal;
+    is_over = 1;
 }
 
 static int listen_at(const char *address, const char *port) {
@@ -163,28 +283,51 @@ static uint32_t set_up(const char *password, bool class_2) {
                                 TEXT("RGBplayer"), lengths, 3);
 }
 
+/* Form and log are taken from the folder, or begin there. */
+static void begin_keeping(const char *folder, const char *password, const char *class_number) {
+    keep_begin(folder, &device);
+    const pj_text *kept = &device.settings.password;
+    if ((password != NULL && (strlen(password) != kept->len || memcmp(password, kept->bytes, kept->len) != 0)) ||
+        (class_number != NULL && atoi(class_number) != device.settings.class_number))
+        fprintf(stderr, "%s: password and class are those of the form there, not of the environment\n", folder);
+    open_operator(folder);
+    const char *clock = getenv("PJLINK_CLOCK");
+    operators_clock = clock != NULL && strcmp(clock, "operator") == 0;
+    signal(SIGTERM, end);
+    signal(SIGINT, end);
+}
+
 int main(int argc, char **argv) {
-    const char *password = getenv("PJLINK_PASSWORD"), *class_number = getenv("PJLINK_CLASS");
+    const char *password = getenv("PJLINK_PASSWORD"), *class_number = getenv("PJLINK_CLASS"), *folder = NULL;
+    if (argc > 1 && strcmp(argv[1], "--keep") == 0) {
+        folder = argc > 2 ? argv[2] : "";
+        argc -= 2;
+        argv += 2;
+    }
     unsigned long idle = argc > 3 ? strtoul(argv[3], NULL, 10) : 300;
     uint32_t made = set_up(password ? password : "", class_number != NULL && strcmp(class_number, "2") == 0);
-    if (made != PJ_SERVED || idle == 0 || argc > 4) {
-        fprintf(stderr, "projector [PORT [ADDRESS [IDLE]]], PJLINK_PASSWORD: 8 to %d letters, digits\n",
+    if (made != PJ_SERVED || idle == 0 || argc < 1 || argc > 4) {
+        fprintf(stderr, "projector [--keep FOLDER] [PORT [ADDRESS [IDLE]]], PJLINK_PASSWORD: 8 to %d letters, digits\n",
                 PJ_PASSWORD_MOST);
         return 2;
     }
+    if (folder != NULL) begin_keeping(folder, password, class_number);
 
     int listener = listen_at(argc > 2 ? argv[2] : "127.0.0.1", argc > 1 ? argv[1] : "4352");
     for (size_t place = 0; place < PJ_PLACES; place++) peers[place].socket = -1;
-    for (passed = milliseconds();;) {
-        struct pollfd waiting[PJ_PLACES + 1] = {{listener, POLLIN, 0}};
+    for (passed = milliseconds(); !is_over;) {
+        struct pollfd waiting[PJ_PLACES + 2] = {{listener, POLLIN, 0}, {operator, POLLIN, 0}};
         for (size_t place = 0; place < PJ_PLACES; place++) /* poll passes over a socket of -1 */
-            waiting[place + 1] = (struct pollfd){peers[place].socket, POLLIN, 0};
-        int ready = poll(waiting, PJ_PLACES + 1, (int)(1000 - (milliseconds() - passed) % 1000));
+            waiting[place + 2] = (struct pollfd){peers[place].socket, POLLIN, 0};
+        int ready = poll(waiting, PJ_PLACES + 2, (int)(1000 - (milliseconds() - passed) % 1000));
         if (ready < 0 && errno != EINTR) die("poll");
         pass_time();
+        if (ready > 0 && waiting[1].revents != 0) hear_operator();
         keep_up(idle);
         if (ready <= 0) continue;
         serve_all();
         if (waiting[0].revents != 0) greet(listener);
     }
+    pass_time();
+    keep_end();
 }
