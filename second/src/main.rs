@@ -98,7 +98,7 @@ fn with_count(word: &str, run: impl FnOnce(usize) -> ExitCode) -> ExitCode {
 fn part_of(nth: fn(u64, usize) -> Case, part: &str, seed: &str, number: &str) -> ExitCode {
     with_seed(seed, |seed| {
         with_count(number, |number| {
-            let Case { form, fed } = nth(seed, number);
+            let Case { form, fed, .. } = nth(seed, number);
             done(io::stdout().write_all(&if part == "log" { fed.log } else { form.unwrap_or_default() }))
         })
     })

@@ -2,7 +2,9 @@
 //! power-on with its mark set", put together to stretches.
 
 use super::Steps;
+use crate::reference::recorded::{Call, Why};
 use crate::reference::{Power, Projector};
+use crate::replay::history::Player;
 use crate::replay::{Event, play};
 
 /// From one second since the log began up to another, which is not in it. It has at least one second.
@@ -44,6 +46,20 @@ pub struct Watch<'a> {
     /// Seconds since the log began: as many as any log can have.
     pub second: u128,
     lamps: Vec<Lamp>,
+}
+
+impl Player for Watch<'_> {
+    fn projector(&self) -> &Projector {
+        &self.projector
+    }
+
+    fn make(&mut self, call: &Call) -> Result<Vec<u8>, Why> {
+        match call {
+            Call::Passed(seconds) => self.pass((self.steps.passed)(*seconds)),
+            _ => return (self.steps.make)(&mut self.projector, call),
+        }
+        Ok(Vec::new())
+    }
 }
 
 impl Watch<'_> {

@@ -17,10 +17,12 @@ pub use report::Difference;
 use crate::burnt::burnt_on;
 use crate::burnt::mistakes::{BURNT, REPLAY, Wrong};
 use crate::compare::random::Random;
+use crate::compare::recorded::making::any_seconds;
 use crate::compare::shrink::{self, Smaller, simpler_forms};
 use crate::logs::workers::on_all;
-use crate::logs::{Fed, Program, TRIES};
-use crate::replay::{device, replayed_on, sample};
+use crate::logs::{Fed, Program, TRIES, recorded};
+use crate::replay::history::is_history;
+use crate::replay::{device, lines, replayed_on, sample};
 pub use started::Started;
 
 /// The logs that have everything of a kind come first.
@@ -50,11 +52,13 @@ impl Played {
     }
 }
 
-/// The form that is given to a program, if one is, and the log.
+/// The form that is given to a program, if one is, and the log; where it stands in several files, where each but the first
+/// begins.
 #[derive(Clone, PartialEq, Eq, Debug)]
 pub struct Case {
     pub form: Option<Vec<u8>>,
     pub fed: Fed,
+    pub files: Vec<usize>,
 }
 
 impl Case {
@@ -70,9 +74,11 @@ impl Case {
         }
     }
 
-    /// One log in two comes in small reads.
+    /// One log in two comes in small reads. Where there is a form, one in four comes in files.
     pub fn new(random: &mut Random, (form, log): FormAndLog, number: usize) -> Case {
-        Case { form, fed: Fed::new(random, log, number % 2 == 1) }
+        let is_in_files = form.is_some() && random.one_in(4);
+        let files = if is_in_files { files(random, &log) } else { Vec::new() };
+        Case { form, fed: Fed::new(random, log, number % 2 == 1), files }
     }
 
     pub fn form(&self) -> Option<&[u8]> {
@@ -80,22 +86,46 @@ impl Case {
     }
 }
 
-/// A random log. One in two comes with a form.
+pub fn form_of(random: &mut Random, number: usize) -> Option<Vec<u8>> {
+    (number / 2 % 2 == 1).then(|| forms::form(random))
+}
+
+/// Where files begin: those of a chain at each header, more often than not; else anywhere, also within a line.
+fn files(random: &mut Random, log: &[u8]) -> Vec<usize> {
+    if is_history(log) && !random.one_in(4) {
+        let mut at = 0;
+        let begins = lines(log).map(|line| {
+            at += line.len();
+            (at - line.len(), line)
+        });
+        return begins.filter(|(at, line)| *at > 0 && is_history(line)).map(|(at, _)| at).collect();
+    }
+    let mut files: Vec<usize> = (0..random.from_to(1, 3)).map(|_| random.below(log.len() + 1)).collect();
+    files.sort_unstable();
+    files
+}
+
+/// A random log, one in four a history. One in two comes with a form.
 pub fn made(random: &mut Random, number: usize) -> FormAndLog {
-    let form = (number / 2 % 2 == 1).then(|| forms::form(random));
+    let form = form_of(random, number);
     let start = device(form.as_deref()).unwrap_or_else(|_| sample());
-    let log = making::log(random, start);
+    let log = match random.below(4) {
+        0 => recorded::log(random, form.as_deref(), &mut any_seconds),
+        _ => making::log(random, start),
+    };
     (form, log)
 }
 
 impl Smaller for Case {
     /// Without the form first, then a smaller log, then a simpler form.
     fn smaller(&self) -> impl Iterator<Item = Case> {
-        let without = self.form.is_some().then(|| Case { form: None, fed: self.fed.clone() });
-        let logs = self.fed.smaller().map(|fed| Case { form: self.form.clone(), fed });
+        let without = self.form.is_some().then(|| Case { form: None, files: Vec::new(), ..self.clone() });
+        let fewer = shrink::shorter(&self.files).map(|files| Case { files, ..self.clone() });
+        let within = |fed: &Fed| self.files.iter().map(|&at| at.min(fed.log.len())).collect();
+        let logs = self.fed.smaller().map(move |fed| Case { form: self.form.clone(), files: within(&fed), fed });
         let forms = self.form.iter().flat_map(|form| simpler_forms(form));
-        let forms = forms.map(|form| Case { form: Some(form), fed: self.fed.clone() });
-        without.into_iter().chain(logs).chain(forms)
+        let forms = forms.map(|form| Case { form: Some(form), ..self.clone() });
+        without.into_iter().chain(fewer).chain(logs).chain(forms)
     }
 }
 
@@ -136,22 +166,25 @@ mod tests {
     /// Every kind of form, of `M` line and of stretch, and not just once.
     #[test]
     fn logs_meet_everything() {
-        let met = met(Played::Burnt, 3, 300);
+        let met = met(Played::Burnt, 3, 500);
         for kind in kinds::KINDS {
             assert!(met.times(kind) >= 3, "{kind}: {}", met.times(kind));
+        }
+        for kind in recorded::KINDS {
+            assert!(met.times(kind) >= 1, "{kind}: {}", met.times(kind));
         }
     }
 
     /// Random logs show each mistake, several of them.
     #[test]
     fn logs_show_the_mistakes() {
-        let cases: Vec<Case> = (FIXED..FIXED + 300).map(|number| Case::nth(4, number)).collect();
+        let cases: Vec<Case> = (FIXED..FIXED + 800).map(|number| Case::nth(4, number)).collect();
         for played in [Played::Burnt, Played::Replay] {
             let right: Vec<Vec<u8>> = cases.iter().map(|case| played.printed(case)).collect();
             for (words, wrong) in played.mistakes() {
                 let shows = |case: &Case, right: &[u8]| wrong.printed(case.form(), &case.fed.log) != right;
                 let shown = cases.iter().zip(&right).filter(|(case, right)| shows(case, right)).count();
-                assert!(shown >= 4, "{words}: {shown}");
+                assert!(shown >= 2, "{words}: {shown}");
             }
         }
     }
@@ -178,7 +211,8 @@ mod tests {
     fn a_difference_is_cut_down() {
         let cat = Program(vec!["sh".to_string(), "-c".to_string(), "cat".to_string()]);
         let Err(difference) = compare(&cat, Played::Burnt, 1, 1) else { panic!("cat tells stretches") };
-        assert_eq!(difference.case, Case { form: None, fed: Fed { log: Vec::new(), reads: Vec::new() } });
+        let fed = Fed { log: Vec::new(), reads: Vec::new() };
+        assert_eq!(difference.case, Case { form: None, fed, files: Vec::new() });
         assert_eq!(difference.given, b"");
     }
 }

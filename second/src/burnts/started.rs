@@ -1,7 +1,7 @@
 //! The program that is compared, with each form in a file of its own while it runs.
 
 use super::Case;
-use crate::logs::Program;
+use crate::logs::{Fed, Program};
 use crate::replay::device;
 use std::path::PathBuf;
 use std::{env, fs, process};
@@ -25,9 +25,31 @@ impl Started<'_> {
         let file = self.folder.join(format!("{number}.form"));
         fs::write(&file, form).expect("the form is written");
         let program = self.program.with(file.display().to_string());
+        if !case.files.is_empty() {
+            return self.in_files(program, case, number);
+        }
         match device(Some(form)) {
             Ok(_) => program.printed(log, reads),
             Err(_) => program.printed_unread(log, reads),
+        }
+    }
+}
+
+impl Started<'_> {
+    /// The log in files, each named after the form; where its reads have sizes, the last is `-`, standard input.
+    fn in_files(&self, mut program: Program, case: &Case, number: usize) -> Vec<u8> {
+        let Fed { log, reads } = &case.fed;
+        let mut begins = [&[0], &case.files[..]].concat();
+        let fed = if reads.is_empty() { log.len() } else { begins.pop().expect("there is one") };
+        for (place, &first) in begins.iter().enumerate() {
+            let end = begins.get(place + 1).copied().unwrap_or(fed);
+            let file = self.folder.join(format!("{number}-{place}.log"));
+            fs::write(&file, &log[first..end]).expect("the log is written");
+            program = program.with(file.display().to_string());
+        }
+        match device(case.form()) {
+            Ok(_) if !reads.is_empty() => program.with("-".to_string()).printed(&log[fed..], reads),
+            _ => program.printed_unread(&[], &[]),
         }
     }
 }

@@ -6,6 +6,7 @@ pub mod damage;
 pub mod every;
 pub mod making;
 mod program;
+pub mod recorded;
 pub mod report;
 pub mod workers;
 
@@ -105,7 +106,7 @@ mod tests {
     /// Every form with every answer that it can have, every kind of line of no form, and not just once.
     #[test]
     fn logs_meet_everything() {
-        let met = (FIXED..FIXED + 200).fold(Met::default(), |mut met, number| {
+        let met = (FIXED..FIXED + 400).fold(Met::default(), |mut met, number| {
             let log = Fed::nth(3, number).log;
             met.count(&log, &replayed(&log));
             met
@@ -113,16 +114,19 @@ mod tests {
         for kind in report::KINDS {
             assert!(met.times(kind) >= 40, "{kind}: {}", met.times(kind));
         }
+        for kind in recorded::KINDS {
+            assert!(met.times(kind) >= 2, "{kind}: {}", met.times(kind));
+        }
     }
 
     /// Random logs show each mistake, several of them, but for one that needs more lines than they have.
     #[test]
     fn logs_show_the_mistakes() {
-        let logs: Vec<Vec<u8>> = (FIXED..FIXED + 300).map(|number| Fed::nth(4, number).log).collect();
+        let logs: Vec<Vec<u8>> = (FIXED..FIXED + 900).map(|number| Fed::nth(4, number).log).collect();
         let right: Vec<Vec<u8>> = logs.iter().map(|log| replayed(log)).collect();
         for (words, wrong) in mistakes::all().filter(|(words, _)| *words != "a line's number has 16 bits") {
             let shown = logs.iter().zip(&right).filter(|(log, right)| wrong.replayed(log) != **right).count();
-            assert!(shown >= 4, "{words}: {shown}");
+            assert!(shown >= 2, "{words}: {shown}");
         }
     }
 

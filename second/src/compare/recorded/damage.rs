@@ -128,7 +128,6 @@ pub fn other(random: &mut Random) -> Vec<u8> {
         b"T",
         b"T ",
         b"T 060",
-        b"T 4294967295",
         b"T 4294967296",
         b"T 00",
         b"T 0",

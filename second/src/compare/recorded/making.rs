@@ -34,22 +34,15 @@ fn any_started(random: &mut Random) -> (Device, Option<Vec<u8>>) {
     }
     let form = match random.below(3) {
         0 => forms::old(&setups::legal(random)),
-        _ => stored(&device),
+        _ => forms::stored_of(&device),
     };
     let loaded = unmistaken(|| swap::load(&form));
     (loaded.device, Some(form))
 }
 
-fn stored(device: &Device) -> Vec<u8> {
-    let mut form = vec![0; forms::ROOM];
-    let length = unmistaken(|| swap::store(device, &mut form)).length;
-    form.truncate(length);
-    form
-}
-
 /// A log's numbers before its first file, and the record where it begins.
 pub fn begun(device: &Device, form: Option<&[u8]>) -> (Device, Log) {
-    let form = form.map_or_else(|| stored(device), <[u8]>::to_vec);
+    let form = form.map_or_else(|| forms::stored_of(device), <[u8]>::to_vec);
     unmistaken(|| (swap::load(&form).device, Log::begun(&form)))
 }
 

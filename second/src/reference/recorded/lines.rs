@@ -68,11 +68,12 @@ fn place_of(place: usize) -> Option<usize> {
 
 /// "`R` says what is one line of a controller .. `B` says all else, and never that."
 fn received(place: usize, bytes: &[u8]) -> Option<Vec<u8>> {
-    let most = if made(Mistake::OneByteMoreRecorded) { MOST_BYTES + 1 } else { MOST_BYTES };
+    let is_text = is_line_of_a_controller(bytes);
+    let most = if is_text && made(Mistake::OneByteMoreRecorded) { MOST_BYTES + 1 } else { MOST_BYTES };
     if bytes.len() > most {
         return None;
     }
-    if is_line_of_a_controller(bytes) && !made(Mistake::TextRecordedInHex) {
+    if is_text && !made(Mistake::TextRecordedInHex) {
         return Some([format!("R {place} ").as_bytes(), &bytes[..bytes.len() - 1]].concat());
     }
     let digits: String = bytes.iter().map(|byte| format!("{byte:02x}")).collect();
