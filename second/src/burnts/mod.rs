@@ -20,13 +20,15 @@ use crate::compare::random::Random;
 use crate::compare::recorded::making::any_seconds;
 use crate::compare::shrink::{self, Smaller, simpler_forms};
 use crate::logs::workers::on_all;
-use crate::logs::{Fed, Program, TRIES, recorded};
+use crate::logs::{Fed, Program, TRIES, every_history, recorded};
 use crate::replay::history::is_history;
 use crate::replay::{device, lines, replayed_on, sample};
 pub use started::Started;
 
-/// The logs that have everything of a kind come first.
-const FIXED: usize = every::LOGS.len();
+/// The logs that have everything of a kind come first; then histories, on the sample set-up and on a form in turn.
+fn fixed() -> usize {
+    every::LOGS.len() + every_history::ON_FORM.len()
+}
 
 /// Which program it is that is compared.
 #[derive(Clone, Copy, PartialEq, Eq, Debug)]
@@ -65,9 +67,11 @@ impl Case {
     /// The one of a seed with that number.
     pub fn nth(seed: u64, number: usize) -> Case {
         let mut random = Random::new(Random::new(seed.wrapping_add(number as u64)).number());
-        match every::LOGS.get(number) {
-            Some(every) => Case::new(&mut random, every(), number),
-            None => {
+        let history = number.checked_sub(every::LOGS.len()).filter(|at| *at < every_history::ON_FORM.len());
+        match (every::LOGS.get(number), history) {
+            (Some(every), _) => Case::new(&mut random, every(), number),
+            (None, Some(at)) => Case::new(&mut random, history_at(at), number),
+            (None, None) => {
                 let case = made(&mut random, number);
                 Case::new(&mut random, case, number)
             }
@@ -83,6 +87,13 @@ impl Case {
 
     pub fn form(&self) -> Option<&[u8]> {
         self.form.as_deref()
+    }
+}
+
+fn history_at(at: usize) -> FormAndLog {
+    match every_history::ON_SAMPLE.get(at) {
+        Some(log) if at % 2 == 0 => (None, log.clone()),
+        _ => (Some(every_history::form()), every_history::ON_FORM[at].clone()),
     }
 }
 
@@ -133,7 +144,7 @@ impl Smaller for Case {
 pub fn compare(program: &Program, played: Played, seed: u64, count: usize) -> Result<Met, Box<Difference>> {
     let started = Started::new(program);
     let none = || Met::new(played);
-    let met = on_all(FIXED + count, none, |number, met| {
+    let met = on_all(fixed() + count, none, |number, met| {
         let case = Case::nth(seed, number);
         let expected = played.printed(&case);
         if started.printed(&case, number) != expected {
@@ -156,7 +167,7 @@ mod tests {
     use crate::burnt::RIGHT;
 
     fn met(played: Played, seed: u64, count: usize) -> Met {
-        (0..FIXED + count).fold(Met::new(played), |mut met, number| {
+        (0..fixed() + count).fold(Met::new(played), |mut met, number| {
             let case = Case::nth(seed, number);
             met.count(&case, &played.printed(&case));
             met
@@ -166,7 +177,7 @@ mod tests {
     /// Every kind of form, of `M` line and of stretch, and not just once.
     #[test]
     fn logs_meet_everything() {
-        let met = met(Played::Burnt, 3, 500);
+        let met = met(Played::Burnt, 3, 300);
         for kind in kinds::KINDS {
             assert!(met.times(kind) >= 3, "{kind}: {}", met.times(kind));
         }
@@ -178,7 +189,7 @@ mod tests {
     /// Random logs show each mistake, several of them.
     #[test]
     fn logs_show_the_mistakes() {
-        let cases: Vec<Case> = (FIXED..FIXED + 800).map(|number| Case::nth(4, number)).collect();
+        let cases: Vec<Case> = (every::LOGS.len()..fixed() + 300).map(|number| Case::nth(4, number)).collect();
         for played in [Played::Burnt, Played::Replay] {
             let right: Vec<Vec<u8>> = cases.iter().map(|case| played.printed(case)).collect();
             for (words, wrong) in played.mistakes() {
@@ -199,7 +210,7 @@ mod tests {
             Wrong::Prints(str::to_string),
             Wrong::Plays(burnt_on),
         ];
-        for number in 0..FIXED + 50 {
+        for number in 0..fixed() + 50 {
             let case = Case::nth(5, number);
             let right = burnt_on(case.form(), &case.fed.log);
             assert!(none.iter().all(|wrong| wrong.printed(case.form(), &case.fed.log) == right), "log {number}");

@@ -41,11 +41,11 @@ pub fn log(random: &mut Random) -> Vec<u8> {
 
 /// Lines of the first kind after one that makes a history of them, or hardly not.
 fn after_a_first_line(random: &mut Random) -> Vec<u8> {
-    let first = if random.one_in(3) { recorded::hardly(random) } else { recorded::nearly(random) };
+    let first = if random.one_in(3) { random.pick(recorded::HARDLY) } else { random.pick(recorded::NEARLY) };
     let day = day(random, sample(), line, play_text);
     match random.below(8) {
-        0 => first,
-        _ => [&first[..], b"\n", &day].concat(),
+        0 => first.to_vec(),
+        _ => [first, b"\n", &day].concat(),
     }
 }
 

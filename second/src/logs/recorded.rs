@@ -4,10 +4,9 @@
 use crate::compare::random::Random;
 use crate::compare::recorded::damage;
 use crate::compare::recorded::making::{Seconds, kept, parts};
-use crate::reference::recorded::chain::shown_of;
 use crate::reference::recorded::{Entry, lines as entries};
 use crate::reference::text::LF;
-use crate::replay::history::is_history;
+use crate::replay::history::{History, RIGHT, is_history};
 use crate::replay::{device, lines, sample, text_of};
 
 /// On the device of this form, or on the sample set-up; two in five are whole.
@@ -17,11 +16,10 @@ pub fn log(random: &mut Random, form: Option<&[u8]>, seconds: Seconds) -> Vec<u8
     let most = random.pick(&[3, 20, 60, 120]);
     let parts = parts(random, projector.record(), most, seconds);
     let log = kept(&projector.record(), form, parts).text;
-    let stated = shown_of(&projector);
-    damaged(random, log, &stated)
+    damaged(random, form, log)
 }
 
-fn damaged(random: &mut Random, mut log: Vec<u8>, shown: &[u8]) -> Vec<u8> {
+fn damaged(random: &mut Random, form: Option<&[u8]>, mut log: Vec<u8>) -> Vec<u8> {
     let mut all: Vec<Vec<u8>> = lines(&log).map(<[u8]>::to_vec).collect();
     let place = random.below(all.len());
     let other = random.below(all.len());
@@ -36,10 +34,9 @@ fn damaged(random: &mut Random, mut log: Vec<u8>, shown: &[u8]) -> Vec<u8> {
         12 => all.swap(place, other),
         13 => change(random, &mut all[place], damage::changed),
         14 => change(random, &mut all[place], damage::changed_number),
-        15 => change(random, &mut all[place], |random, _| damage::other(random)),
+        15 | 18 => all.insert(place, another(random, form, &all, place)),
         16 => another_sum(random, &mut all),
         17 => gap(random, &mut all),
-        18 => all.insert(place, [&b"S 0 00000000 "[..], shown, b"\n"].concat()),
         _ => all.iter_mut().for_each(|line| line.insert(line.len() - 1, random.pick(b"\r\r "))),
     }
     all.concat()
@@ -49,6 +46,17 @@ fn damaged(random: &mut Random, mut log: Vec<u8>, shown: &[u8]) -> Vec<u8> {
 fn change(random: &mut Random, line: &mut Vec<u8>, change: fn(&mut Random, Vec<u8>) -> Vec<u8>) {
     *line = change(random, text_of(line).to_vec());
     line.push(LF);
+}
+
+/// A line that comes before this one, made for where the log stands there.
+fn another(random: &mut Random, form: Option<&[u8]>, all: &[Vec<u8>], place: usize) -> Vec<u8> {
+    let mut projector = device(form).expect("it loads");
+    let mut history = History::begun(&RIGHT, form);
+    all[..place].iter().for_each(|line| drop(history.play(&mut projector, line)));
+    let texts: Vec<&[u8]> = all.iter().map(|line| text_of(line)).collect();
+    let mut line = damage::line(random, &texts, place, &history.log, &projector.record());
+    line.push(LF);
+    line
 }
 
 /// Of a header or a stated line.
@@ -104,42 +112,36 @@ pub fn kind(out: &[u8]) -> &'static str {
 }
 
 /// What looks like a header's first line and makes no history.
-pub fn nearly(random: &mut Random) -> Vec<u8> {
-    let others: &[&[u8]] = &[
-        b"LOG",
-        b"LOG2 1 00000000",
-        b"log 2 1 00000000",
-        b"Log 2 1 00000000",
-        b" LOG 2 1 00000000",
-        b"LOG\t2 1 00000000",
-        b"LOG\r",
-        b"LO",
-        b"L",
-        b"LOGS 2 1 00000000",
-        b"LOF 2 1 00000000",
-        b"\xEF\xBB\xBFLOG 2 1 00000000",
-        b"\0LOG 2 1 00000000",
-        b"\nLOG 2 1 00000000",
-        b"?\nLOG 2 1 00000000",
-    ];
-    random.pick(others).to_vec()
-}
+pub const NEARLY: &[&[u8]] = &[
+    b"LOG",
+    b"LOG2 1 00000000",
+    b"log 2 1 00000000",
+    b"Log 2 1 00000000",
+    b" LOG 2 1 00000000",
+    b"LOG\t2 1 00000000",
+    b"LOG\r",
+    b"LO",
+    b"L",
+    b"LOGS 2 1 00000000",
+    b"LOF 2 1 00000000",
+    b"\xEF\xBB\xBFLOG 2 1 00000000",
+    b"\0LOG 2 1 00000000",
+    b"\nLOG 2 1 00000000",
+    b"?\nLOG 2 1 00000000",
+];
 
 /// What makes a history whose first line does not belong.
-pub fn hardly(random: &mut Random) -> Vec<u8> {
-    let others: &[&[u8]] = &[
-        b"LOG ",
-        b"LOG  2 1 00000000",
-        b"LOG 1 1 00000000",
-        b"LOG 3 1 00000000",
-        b"LOG 2 1 00000000",
-        b"LOG 2 2 00000000",
-        b"LOG 2 0 00000000",
-        b"LOG 2 1 0000000",
-        b"LOG 2 1 00000000\r",
-        b"LOG 2",
-        b"LOG R %1POWR 1",
-        b"LOG \xFF",
-    ];
-    random.pick(others).to_vec()
-}
+pub const HARDLY: &[&[u8]] = &[
+    b"LOG ",
+    b"LOG  2 1 00000000",
+    b"LOG 1 1 00000000",
+    b"LOG 3 1 00000000",
+    b"LOG 2 1 00000000",
+    b"LOG 2 2 00000000",
+    b"LOG 2 0 00000000",
+    b"LOG 2 1 0000000",
+    b"LOG 2 1 00000000\r",
+    b"LOG 2",
+    b"LOG R %1POWR 1",
+    b"LOG \xFF",
+];

@@ -344,7 +344,7 @@ mistakes! {
     StatedNotCounted: "a stated line is not counted",
     CountGoesOn: "the count of lines goes on in the next file",
     FilesFrom0: "files are numbered from 0",
-    FilesWrap: "after file 4,294,967,295 comes file 0",
+    FilesStay: "after file 4,294,967,295 that number comes again",
     LinesWrap: "after 4,294,967,295 lines the count is 0",
     HeaderMayBeMissing: "a log may begin without a header",
     RefusedIsCounted: "what no line can say is counted as a line",

@@ -60,7 +60,7 @@ fn ended(line: &[u8]) -> Option<&[u8]> {
 /// A history that is played.
 pub struct History<'a> {
     steps: &'a Steps,
-    log: Log,
+    pub log: Log,
     /// The lines so far.
     number: u64,
     /// The first line that did not belong, and why.

@@ -54,7 +54,11 @@ pub fn record(log: &Log, device: &Device, said: &Said, out: &mut [u8]) -> (Writt
 fn entry(log: &Log, projector: Option<&Projector>, said: &Said) -> Option<Entry> {
     Some(Entry::Call(match said {
         Said::File { time } => {
-            let file = if made(Mistake::FilesFrom0) { log.file } else { log.file.checked_add(1)? };
+            let file = match log.file.checked_add(1) {
+                _ if made(Mistake::FilesFrom0) => log.file,
+                None if made(Mistake::FilesStay) => log.file,
+                next => next?,
+            };
             return Some(Entry::Header { file, sum: log.sum, time: time.clone() });
         }
         Said::Stated => {

@@ -42,7 +42,6 @@ impl Log {
 
     /// Past that entry and its line, LF included; none where the count of files or lines is at its end.
     pub fn past(&self, entry: &Entry, line: &[u8]) -> Option<Log> {
-        let next = |count: u32, wraps| if made(wraps) { Some(count.wrapping_add(1)) } else { count.checked_add(1) };
         let is_header = matches!(entry, Entry::Header { .. });
         let before = match () {
             _ if made(Mistake::SumOfTheFile) && is_header => 0,
@@ -53,10 +52,18 @@ impl Log {
         let sum = if made(Mistake::SumWithoutLineEnds) { sum } else { crc32_on(sum, &[LF]) };
         if is_header {
             let lines = if made(Mistake::CountGoesOn) { self.lines } else { u32::from(made(Mistake::HeaderCounted)) };
-            return Some(Log { file: next(self.file, Mistake::FilesWrap)?, lines, sum });
+            let file = match self.file.checked_add(1) {
+                None if made(Mistake::FilesStay) => self.file,
+                next => next?,
+            };
+            return Some(Log { file, lines, sum });
         }
         let is_counted = !(matches!(entry, Entry::Stated { .. }) && made(Mistake::StatedNotCounted));
-        let lines = if is_counted { next(self.lines, Mistake::LinesWrap)? } else { self.lines };
+        let lines = match self.lines.checked_add(1) {
+            _ if !is_counted => self.lines,
+            None if made(Mistake::LinesWrap) => 0,
+            next => next?,
+        };
         Some(Log { lines, sum, ..*self })
     }
 }

@@ -33,6 +33,11 @@ pub fn all() -> impl Iterator<Item = &'static (&'static str, Wrong)> {
     reading::READING.iter().chain(playing::PLAYING).chain(histories::HISTORIES)
 }
 
+/// Those over histories.
+pub fn over_histories() -> &'static [(&'static str, Wrong)] {
+    histories::HISTORIES
+}
+
 impl Wrong {
     /// What the mistaken replay prints.
     pub fn replayed(&self, log: &[u8]) -> Vec<u8> {
