@@ -62,17 +62,24 @@ pub fn burnt(form: Option<&[u8]>, log: impl BufRead, out: impl Write) -> io::Res
 /// "prints for each lamp its stretches .. as soon as a stretch has ended, and at the end for each lamp its seconds at
 /// the start, burnt, and now"; "a form that does not load gives its number in one line, and nothing else".
 fn burnt_by(steps: &Steps, form: Option<&[u8]>, log: impl BufRead, mut out: impl Write) -> io::Result<()> {
-    let (watch, words) = match (steps.device)(form) {
+    let followed = match (steps.device)(form) {
         Ok(projector) => follow(Watch::new(steps, projector), form, log, |stretches| tell(stretches, &mut out))?,
         Err(number) => return refuse(number, out),
     };
-    for (place, lamp) in watch.sums().enumerate() {
+    for (place, lamp) in followed.watch.sums().enumerate() {
         writeln!(out, "lamp {} start {} burnt {} now {}", place + 1, lamp.start, lamp.burnt, lamp.now)?;
     }
-    if let Some(words) = words {
+    if let Some(words) = followed.stray {
         writeln!(out, "{words}")?;
     }
     out.flush()
+}
+
+/// A log that was read to its end.
+struct Followed<'a> {
+    watch: Watch<'a>,
+    stray: Option<String>,
+    served: bool,
 }
 
 /// Tells each stretch as soon as it has ended, and after the log those of lamps that burn there. Beside the lamps what is
@@ -82,23 +89,25 @@ fn follow<'a>(
     form: Option<&[u8]>,
     log: impl BufRead,
     mut tell: impl FnMut(&[(usize, Stretch)]) -> io::Result<()>,
-) -> io::Result<(Watch<'a>, Option<String>)> {
+) -> io::Result<Followed<'a>> {
     let (is_history, log) = kind(&watch.steps.history, log)?;
     let mut history = History::begun(&watch.steps.history, form);
+    let mut served = true;
     each_line(log, |line| {
         let text = text_of(line);
         if is_history {
             history.play(&mut watch, line);
+            served = history.stray.is_none();
         } else if let Some((lamp, enabled)) = (watch.steps.mark)(text) {
             // "a mark call that is refused, changes nothing"
-            let _ = (watch.steps.set_mark)(&mut watch.projector, lamp, enabled);
-        } else if let Some(event) = event(text) {
-            watch.play(event);
+            served &= (watch.steps.set_mark)(&mut watch.projector, lamp, enabled).is_ok();
+        } else {
+            served &= event(text).is_some_and(|event| watch.play(event));
         }
         tell(&watch.ended())
     })?;
     tell(&watch.last())?;
-    Ok((watch, history.words()))
+    Ok(Followed { watch, stray: history.words(), served })
 }
 
 /// "`lamp 1 from 0 to 2400`", in the order of the lamps, and at once.
@@ -123,6 +132,8 @@ pub struct Told {
     pub seconds: u128,
     /// What is said of a line that does not belong to its history.
     pub stray: Option<String>,
+    /// Whether every line was of a form, and every call served.
+    pub served: bool,
 }
 
 /// What is told of a log in memory, or the number of a form that does not load.
@@ -132,8 +143,17 @@ pub fn told(form: Option<&[u8]>, log: &[u8]) -> Result<Told, u32> {
         stretches.extend(ended);
         Ok(())
     });
-    let (watch, stray) = watch.expect("memory is read");
-    Ok(Told { stretches, lamps: watch.sums().collect(), seconds: watch.second, stray })
+    let Followed { watch, stray, served } = watch.expect("memory is read");
+    Ok(Told { stretches, lamps: watch.sums().collect(), seconds: watch.second, stray, served })
+}
+
+/// How `burnt` ends, by the words that `replay::status` has.
+pub fn status(form: Option<&[u8]>, log: &[u8]) -> i32 {
+    match told(form, log) {
+        Ok(told) if told.served => 0,
+        Ok(_) => 3,
+        Err(_) => 1,
+    }
 }
 
 fn in_memory(steps: &Steps, form: Option<&[u8]>, log: &[u8]) -> Vec<u8> {

@@ -1,8 +1,8 @@
 //! What kinds of form, of line and of stretch a log has.
 
 use super::Case;
-use crate::logs::recorded;
 use crate::burnt::mark;
+use crate::logs::recorded;
 use crate::reference::{Connection, Power, Projector};
 use crate::replay::history::is_history;
 use crate::replay::{Event, Outcome, PLACE, device, event, lines, play, text_of};

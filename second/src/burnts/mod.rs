@@ -14,15 +14,15 @@ pub use every::FormAndLog;
 pub use met::Met;
 pub use report::Difference;
 
-use crate::burnt::burnt_on;
 use crate::burnt::mistakes::{BURNT, REPLAY, Wrong};
+use crate::burnt::{self, burnt_on};
 use crate::compare::random::Random;
 use crate::compare::recorded::making::any_seconds;
 use crate::compare::shrink::{self, Smaller, simpler_forms};
 use crate::logs::workers::on_all;
 use crate::logs::{Fed, Program, TRIES, every_history, recorded};
 use crate::replay::history::is_history;
-use crate::replay::{device, lines, replayed_on, sample};
+use crate::replay::{self, device, lines, replayed_on, sample};
 pub use started::Started;
 
 /// The logs that have everything of a kind come first; then histories, on the sample set-up and on a form in turn.
@@ -43,6 +43,14 @@ impl Played {
         match self {
             Played::Burnt => burnt_on(case.form(), &case.fed.log),
             Played::Replay => replayed_on(case.form(), &case.fed.log),
+        }
+    }
+
+    /// How it ends by these rules.
+    pub fn status(self, case: &Case) -> i32 {
+        match self {
+            Played::Burnt => burnt::status(case.form(), &case.fed.log),
+            Played::Replay => replay::status(&self.printed(case)),
         }
     }
 
@@ -142,7 +150,7 @@ impl Smaller for Case {
 
 /// The logs of a seed, so many random ones, on all processors: what they met, or the first that differs, cut down.
 pub fn compare(program: &Program, played: Played, seed: u64, count: usize) -> Result<Met, Box<Difference>> {
-    let started = Started::new(program);
+    let started = Started::new(program, played);
     let none = || Met::new(played);
     let met = on_all(fixed() + count, none, |number, met| {
         let case = Case::nth(seed, number);

@@ -65,8 +65,7 @@ pub fn record(lent: &Device, log: &Log, said: &Said, lent_memory: &[u8]) -> Answ
 
 pub fn play(lent: &Device, log: &Log, line: &[u8], lent_memory: &[u8]) -> Answer {
     let (mut device, mut log, mut memory) = (Box::new(*lent), *log, lent_memory.to_vec());
-    let written = unsafe {
-        pj_log_play(&mut log, &mut *device, line.as_ptr(), line.len(), memory.as_mut_ptr(), memory.len())
-    };
+    let written =
+        unsafe { pj_log_play(&mut log, &mut *device, line.as_ptr(), line.len(), memory.as_mut_ptr(), memory.len()) };
     Answer::Played(device, log, written, memory)
 }

@@ -81,7 +81,9 @@ pub fn keep<S: Side + ?Sized>(side: &mut S, device: &Device, form: Option<&[u8]>
         _ => unreachable!("it stores"),
     };
     let form = form.unwrap_or(&stored);
-    let Answer::Changed(loaded) = side.call(device, &Act::Load { bytes: form.to_vec() }) else { unreachable!("it loads") };
+    let Answer::Changed(loaded) = side.call(device, &Act::Load { bytes: form.to_vec() }) else {
+        unreachable!("it loads")
+    };
     let log = begun(side, &loaded.device, form);
     let again = Again { number: 0, lines: 0, log, device: loaded.device, replies: Vec::new() };
     let kept = Kept { text: Vec::new(), number: 0, log, device: loaded.device, replies: Vec::new(), again };

@@ -42,7 +42,11 @@ fn logs(form: Option<&[u8]>) -> Vec<Vec<u8>> {
     for place in [1, 3, whole.len() / 2, whole.len() - 2] {
         let (projector, log) = there(form, &whole[..place]);
         let others = others(&projector, &log);
-        all.extend(others.into_iter().map(|text| [&whole[..place].concat(), &text, &b"\n"[..], &whole[place..].concat()].concat()));
+        all.extend(
+            others
+                .into_iter()
+                .map(|text| [&whole[..place].concat(), &text, &b"\n"[..], &whole[place..].concat()].concat()),
+        );
     }
     let first_kind = b"O 00000000\nR %1POWR 1\nT 60\nR %1LAMP ?\n";
     for first in NEARLY.iter().chain(HARDLY) {

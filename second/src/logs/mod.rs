@@ -16,7 +16,7 @@ pub use report::{Difference, Met};
 
 use crate::compare::random::Random;
 use crate::compare::shrink::{self, Smaller};
-use crate::replay::{LONGEST, lines, replayed};
+use crate::replay::{LONGEST, lines, replayed, status};
 use workers::on_all;
 
 /// How many smaller logs are tried at most, once one differs.
@@ -88,16 +88,23 @@ pub fn compare(program: &Program, seed: u64, count: usize) -> Result<Met, Box<Di
     let met = on_all(fixed() + count, Met::default, |number, met| {
         let fed = Fed::nth(seed, number);
         let expected = replayed(&fed.log);
-        if program.printed(&fed.log, &fed.reads) != expected {
+        if program.printed(&fed.log, &fed.reads, status(&expected)) != expected {
             return Err((number, fed));
         }
         met.count(&fed.log, &expected);
         Ok(())
     });
     met.map(|all| all.into_iter().fold(Met::default(), Met::and)).map_err(|(number, fed)| {
-        let differs = |fed: &Fed| program.printed(&fed.log, &fed.reads) != replayed(&fed.log);
-        let fed = shrink::smallest(fed, TRIES, differs);
-        let (expected, given) = (replayed(&fed.log), program.printed(&fed.log, &fed.reads));
+        let both = |fed: &Fed| {
+            let expected = replayed(&fed.log);
+            let given = program.printed(&fed.log, &fed.reads, status(&expected));
+            (expected, given)
+        };
+        let fed = shrink::smallest(fed, TRIES, |fed| {
+            let (expected, given) = both(fed);
+            expected != given
+        });
+        let (expected, given) = both(&fed);
         Box::new(Difference { number, fed, expected, given })
     })
 }
@@ -177,7 +184,7 @@ mod tests {
     fn reads_have_their_sizes() {
         let copy = |count: &str| {
             let words = ["dd", "bs=1000", "status=none", count];
-            let out = Program(words.map(str::to_string).to_vec()).printed(b"abcdefghij", &[1, 3]);
+            let out = Program(words.map(str::to_string).to_vec()).printed(b"abcdefghij", &[1, 3], 0);
             out.into_iter().take_while(|&byte| byte != b'(').collect::<Vec<u8>>()
         };
         assert_eq!(copy("count=1"), b"a");

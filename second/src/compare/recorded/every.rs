@@ -53,7 +53,9 @@ fn recorded(random: &mut Random) -> Vec<Act> {
     for byte in 0..=255 {
         all.push(receive(vec![byte]));
         all.extend([[byte, b'\r'], [b'a', byte], [b'\r', byte]].map(|bytes| receive(bytes.to_vec())));
-        all.extend([[byte, b'a', b'\r'], [b'a', byte, b'\r'], [b'a', b'\r', byte]].map(|bytes| receive(bytes.to_vec())));
+        all.extend(
+            [[byte, b'a', b'\r'], [b'a', byte, b'\r'], [b'a', b'\r', byte]].map(|bytes| receive(bytes.to_vec())),
+        );
         all.push(record(Said::File { time: vec![byte] }));
         all.extend([[byte, b'1'], [b'1', byte]].map(|time| record(Said::File { time: time.to_vec() })));
         for place in 0..6 {

@@ -24,6 +24,8 @@ impl<B: Side> Run<'_, B> {
             let parts = making::parts(random, device, 40, &mut making::any_seconds);
             self.compare(Case::one(device, Act::Keep { form, parts }))?;
         }
+        let form = any_form(&mut self.random_3);
+        self.compare_call(Device::BLANK, Act::LogBegun { form })?;
         for _ in 0..24 {
             let random = &mut self.random_3;
             let device = if random.one_in(8) { records::damaged(random) } else { records::legal(random) };
@@ -40,6 +42,12 @@ impl<B: Side> Run<'_, B> {
         let cases = every::cases(&mut self.random_3);
         cases.into_iter().try_for_each(|case| self.compare(case))
     }
+}
+
+/// Any bytes; the sum is taken over whatever is lent.
+fn any_form(random: &mut Random) -> Vec<u8> {
+    let length = random.pick(&[0, 1, 100, 4504, 5000]);
+    random.bytes_from(0, length)
 }
 
 /// Memory for a line: mostly enough, at times one byte short, at times with what its own line takes.

@@ -7,7 +7,8 @@ use crate::face::{Act, Log, Part, Said};
 pub fn simpler(act: &Act) -> Vec<Act> {
     match act {
         Act::Record { log, said, lent } => {
-            let record = |log: Log, said: &Said, lent: &[u8]| Act::Record { log, said: said.clone(), lent: lent.to_vec() };
+            let record =
+                |log: Log, said: &Said, lent: &[u8]| Act::Record { log, said: said.clone(), lent: lent.to_vec() };
             let logs = simpler_logs(*log).into_iter().map(|log| record(log, said, lent));
             let saids = simpler_saids(said).into_iter().map(|said| record(*log, &said, lent));
             let zeros = [vec![0; lent.len()]].into_iter().filter(|zeros| zeros != lent);

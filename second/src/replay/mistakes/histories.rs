@@ -9,7 +9,10 @@ use crate::replay::text_of;
 pub const HISTORIES: &[(&str, Wrong)] = &[
     // "if its first line begins with the four bytes `LOG `"
     ("no log is a history", PlaysHistory(Steps { is_history: |_| false, ..RIGHT })),
-    ("a log whose first line is LOG alone is a history", PlaysHistory(Steps { is_history: is_of_three_bytes, ..RIGHT })),
+    (
+        "a log whose first line is LOG alone is a history",
+        PlaysHistory(Steps { is_history: is_of_three_bytes, ..RIGHT }),
+    ),
     ("a log whose first line begins with log is a history", PlaysHistory(Steps { is_history: in_any_case, ..RIGHT })),
     (
         "a log whose first line is a damaged header is none",
@@ -21,10 +24,7 @@ pub const HISTORIES: &[(&str, Wrong)] = &[
     ),
     // "What stands behind the last LF of a file was cut, and is no line."
     ("a line that was cut is played", PlaysHistory(Steps { text: |line| Some(text_of(line)), ..RIGHT })),
-    (
-        "a line that was cut is passed over",
-        PlaysHistory(Steps { passes_over: |why| why == Why::Unended, ..RIGHT }),
-    ),
+    ("a line that was cut is passed over", PlaysHistory(Steps { passes_over: |why| why == Why::Unended, ..RIGHT })),
     // "The history does not belong to that record if a call is refused, .. or if a line says nothing."
     (
         "a refused call is passed over",
@@ -40,10 +40,7 @@ pub const HISTORIES: &[(&str, Wrong)] = &[
     ),
     ("an opening may get another place than its line says", Call(Mistake::OtherPlaceTaken)),
     // "the header of file 1 has the sum of the form"
-    (
-        "the sum of file 1 is that of no form",
-        PlaysHistory(Steps { begun: |_| recorded::Log::begun(b""), ..RIGHT }),
-    ),
+    ("the sum of file 1 is that of no form", PlaysHistory(Steps { begun: |_| recorded::Log::begun(b""), ..RIGHT })),
     ("a gap in a chain is passed over", Call(Mistake::GapPassedOver)),
     ("a header's sum is not compared", Call(Mistake::HeaderNotCompared)),
     ("the sum is taken over the file alone", Call(Mistake::SumOfTheFile)),
