@@ -421,6 +421,83 @@ static void cutting_day(bool planned) {
     }
 }
 
+/* The recorded log. */
+
+static pj_log get_log(void) {
+    pj_log log;
+    GET(log.file);
+    GET(log.lines);
+    GET(log.sum);
+    return log;
+}
+
+static void put_log(pj_log log) {
+    PUT(log.file);
+    PUT(log.lines);
+    PUT(log.sum);
+}
+
+static void put_written(pj_written w) {
+    PUT(w.number);
+    PUT(w.length);
+}
+
+static void begin_log(void) {
+    slice form = get_slice();
+    put_log(pj_log_begun(form.at, form.n));
+}
+
+enum said { SAID_FILE, SAID_OPENED, SAID_RECEIVED, SAID_PASSED, SAID_CLOSED, SAID_FAULT, SAID_ERRORS, SAID_MARK, SAID_STATED };
+
+/* What is said first, then the memory for the line. */
+static void record_line(pj_device d) {
+    pj_log log = get_log();
+    uint8_t which;
+    GET(which);
+    size_t place = 0;
+    uint32_t number = 0;
+    bool mark = false;
+    slice bytes = {NULL, 0};
+    switch (which) {
+    case SAID_FILE:
+    case SAID_ERRORS: bytes = get_slice(); break;
+    case SAID_OPENED: GET(place); GET(number); break;
+    case SAID_RECEIVED: GET(place); bytes = get_slice(); break;
+    case SAID_PASSED: GET(number); break;
+    case SAID_CLOSED: GET(place); break;
+    case SAID_FAULT: GET(mark); break;
+    case SAID_MARK: GET(place); GET(mark); break;
+    }
+    slice out = get_slice();
+    pj_written w = {0, 0};
+    switch (which) {
+    case SAID_FILE: w = pj_log_file(&log, bytes.at, bytes.n, out.at, out.n); break;
+    case SAID_OPENED: w = pj_log_opened(&log, place, number, out.at, out.n); break;
+    case SAID_RECEIVED: w = pj_log_received(&log, place, bytes.at, bytes.n, out.at, out.n); break;
+    case SAID_PASSED: w = pj_log_passed(&log, number, out.at, out.n); break;
+    case SAID_CLOSED: w = pj_log_closed(&log, place, out.at, out.n); break;
+    case SAID_FAULT: w = pj_log_fault(&log, mark, out.at, out.n); break;
+    case SAID_ERRORS: w = pj_log_errors(&log, bytes.at, bytes.n, out.at, out.n); break;
+    case SAID_MARK: w = pj_log_mark(&log, place, mark, out.at, out.n); break;
+    case SAID_STATED: w = pj_log_stated(&log, &d, out.at, out.n); break;
+    default: exit(EXIT_FAILURE);
+    }
+    put_log(log);
+    put_written(w);
+    put_slice(out);
+    put_device(d);
+}
+
+static void play_line(pj_device d) {
+    pj_log log = get_log();
+    slice line = get_slice(), out = get_slice();
+    pj_written w = pj_log_play(&log, &d, line.at, line.n, out.at, out.n);
+    put_device(d);
+    put_log(log);
+    put_written(w);
+    put_slice(out);
+}
+
 static void make_call(void) {
     bool in_place;
     GET(in_place);
@@ -455,6 +532,9 @@ static void make_call(void) {
     case 24: set_mark(d, in_place); break;
     case 25: set_up(SET_UP_2, d, in_place); break;
     case 26: set_up(WHICH_SETTING_2, d, false); break;
+    case 27: begin_log(); break;
+    case 28: record_line(d); break;
+    case 29: play_line(d); break;
     default: exit(EXIT_FAILURE);
     }
 }

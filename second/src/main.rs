@@ -9,15 +9,18 @@ use second::pages;
 use second::reference::md5::{hex, md5};
 use second::{burnt, replay, wrong};
 use std::fs;
-use std::io::{self, Read, Write};
+use std::io::{self, BufRead, BufReader, Read, Write};
 use std::process::ExitCode;
 use std::time::{SystemTime, UNIX_EPOCH};
 
 const USAGE: &str = "\
 second compare [SEED]   compare with libboard.a; without a seed, a fresh one
 second wrong [SEED]     make each deliberate mistake; the comparison has to find it
-second replay [FORM]    play a log from standard input (RULES, Floor log), on the device of a stored form in that file
-second burnt [FORM]     tell which lamp burnt when
+second replay [FORM [LOG..]]
+                        play a log from standard input (RULES, Floor log), on the device of a stored form in that file; or
+                        the log that stands in these files, in their order, where `-` is standard input
+second burnt [FORM [LOG..]]
+                        tell which lamp burnt when
 second logs SEED COUNT PROGRAM..
                         so many random logs, and some fixed ones, played by the program alike; `fresh` is a seed too
 second log SEED NUMBER  that log of a seed
@@ -41,12 +44,12 @@ fn main() -> ExitCode {
         ["compare", seed] => with_seed(seed, compare),
         ["wrong"] => verdict(wrong::all_found(1, &mut Board::start())),
         ["wrong", seed] => with_seed(seed, |seed| verdict(wrong::all_found(seed, &mut Board::start()))),
-        ["replay", ref form @ ..] if form.len() < 2 => {
-            with_form(form.first(), |form| replay::replay(form, io::stdin().lock(), io::BufWriter::new(io::stdout())))
-        }
-        ["burnt", ref form @ ..] if form.len() < 2 => {
-            with_form(form.first(), |form| burnt::burnt(form, io::stdin().lock(), io::BufWriter::new(io::stdout())))
-        }
+        ["replay", ref words @ ..] => with_form(words.first(), |form| {
+            replay::replay(form, log_in(words.get(1..).unwrap_or_default())?, io::BufWriter::new(io::stdout()))
+        }),
+        ["burnt", ref words @ ..] => with_form(words.first(), |form| {
+            burnt::burnt(form, log_in(words.get(1..).unwrap_or_default())?, io::BufWriter::new(io::stdout()))
+        }),
         ["logs", seed, count, _, ..] => {
             with_seed(seed, |seed| with_count(count, |count| logs(seed, count, &words[3..])))
         }
@@ -98,7 +101,7 @@ fn with_count(word: &str, run: impl FnOnce(usize) -> ExitCode) -> ExitCode {
 fn part_of(nth: fn(u64, usize) -> Case, part: &str, seed: &str, number: &str) -> ExitCode {
     with_seed(seed, |seed| {
         with_count(number, |number| {
-            let Case { form, fed } = nth(seed, number);
+            let Case { form, fed, .. } = nth(seed, number);
             done(io::stdout().write_all(&if part == "log" { fed.log } else { form.unwrap_or_default() }))
         })
     })
@@ -107,6 +110,17 @@ fn part_of(nth: fn(u64, usize) -> Case, part: &str, seed: &str, number: &str) ->
 /// With what stands in that file, if one is named.
 fn with_form(file: Option<&&str>, run: impl FnOnce(Option<&[u8]>) -> io::Result<()>) -> ExitCode {
     done(file.map(fs::read).transpose().and_then(|form| run(form.as_deref())))
+}
+
+/// The log that stands in these files; without one, standard input.
+fn log_in(files: &[&str]) -> io::Result<Box<dyn BufRead>> {
+    let stdin = || -> Box<dyn BufRead> { Box::new(io::stdin().lock()) };
+    let mut log: Box<dyn BufRead> = if files.is_empty() { stdin() } else { Box::new(io::empty()) };
+    for &file in files {
+        let next = if file == "-" { stdin() } else { Box::new(BufReader::new(fs::File::open(file)?)) };
+        log = Box::new(log.chain(next));
+    }
+    Ok(log)
 }
 
 fn fresh_seed() -> u64 {

@@ -112,6 +112,18 @@ mod tests {
             ("pj_panel_lost", "served !1 !3"),
             ("pj_compare_lamps", "!3 none back"),
             ("pj_plan_day", "!3 planned unplanned"),
+            ("pj_log_begun", "served"),
+            ("pj_log_file", "L !2 !3"),
+            ("pj_log_opened", "O !2 !3"),
+            ("pj_log_received", "R B !2 !3"),
+            ("pj_log_passed", "T !2 !3"),
+            ("pj_log_closed", "X !2 !3"),
+            ("pj_log_fault", "F !2 !3"),
+            ("pj_log_errors", "E !2 !3"),
+            ("pj_log_mark", "M !2 !3"),
+            ("pj_log_stated", "S !1 !2 !3"),
+            ("pj_log_play", "none !1 !2 !3 !4 OK ERR3 LAMP"),
+            ("logs kept and played", "served"),
         ] {
             for kind in kinds.split(' ') {
                 assert!(run.met.times(call, kind) >= 100, "{call} {kind}: {}", run.met.times(call, kind));
@@ -127,6 +139,8 @@ mod tests {
         (0..=12).for_each(|place| assert!(told(place) >= 50, "setting {place} of Class 2: {}", told(place)));
         ["PJLINK 0", "PJLINK 1"].iter().for_each(|greeting| assert!(run.met.times("pj_open", greeting) >= 100));
         assert!(run.met.times("pj_receive", "PJLINK E") >= 100);
+        ["!6", "!7"].iter().for_each(|refused| assert!(run.met.times("pj_log_play", refused) >= 10, "{refused}"));
+        ["PJLINK 0", "PJLINK 1", "PJLINK E"].iter().for_each(|line| assert!(run.met.times("pj_log_play", line) >= 100));
         assert!(run.met.times("pj_panel_command", "not led") >= 100);
         for kind in ["PJLINK 0", "PJLINK 1", "before the greeting", "malformed or foreign", "not counted any more"] {
             assert!(run.met.times("pj_panel_line", kind) >= 100, "{kind}");

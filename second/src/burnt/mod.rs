@@ -4,8 +4,10 @@
 pub mod mistakes;
 mod watch;
 
+use crate::reference::recorded::{Call, Why, chain};
 use crate::reference::{Power, Projector};
-use crate::replay::{device, each_text, event, refuse};
+use crate::replay::history::{self, History};
+use crate::replay::{device, each_line, event, kind, refuse, text_of};
 use std::io::{self, BufRead, Write};
 use watch::{Lamp, Watch};
 pub use watch::{Stretch, Sum};
@@ -20,11 +22,24 @@ pub struct Steps {
     set_mark: fn(&mut Projector, usize, bool) -> Result<(), u32>,
     /// Whether a lamp with this mark burns in this power.
     burns: fn(Power, bool) -> bool,
+    /// How a history is played, its calls are made, and how many seconds its `T` lines pass.
+    history: history::Steps,
+    make: fn(&mut Projector, &Call) -> Result<Vec<u8>, Why>,
+    passed: fn(u32) -> u32,
     /// What is told at the log's end of a lamp that burns there or not, in this second.
     last: fn(&Lamp, bool, u128) -> Option<Stretch>,
 }
 
-pub const RIGHT: Steps = Steps { device, mark, set_mark: Projector::set_mark, burns, last: |lamp, _, _| lamp.stretch };
+pub const RIGHT: Steps = Steps {
+    device,
+    mark,
+    set_mark: Projector::set_mark,
+    burns,
+    history: history::RIGHT,
+    make: chain::make,
+    passed: |seconds| seconds,
+    last: |lamp, _, _| lamp.stretch,
+};
 
 /// "`M`, a space, a lamp's number from 1, a space, 0 or 1, the mark call .." (RULES, Floor log). No device has more
 /// than eight lamps, so that a lamp's number is one digit.
@@ -47,33 +62,52 @@ pub fn burnt(form: Option<&[u8]>, log: impl BufRead, out: impl Write) -> io::Res
 /// "prints for each lamp its stretches .. as soon as a stretch has ended, and at the end for each lamp its seconds at
 /// the start, burnt, and now"; "a form that does not load gives its number in one line, and nothing else".
 fn burnt_by(steps: &Steps, form: Option<&[u8]>, log: impl BufRead, mut out: impl Write) -> io::Result<()> {
-    let watch = match (steps.device)(form) {
-        Ok(projector) => follow(Watch::new(steps, projector), log, |stretches| tell(stretches, &mut out))?,
+    let followed = match (steps.device)(form) {
+        Ok(projector) => follow(Watch::new(steps, projector), form, log, |stretches| tell(stretches, &mut out))?,
         Err(number) => return refuse(number, out),
     };
-    for (place, lamp) in watch.sums().enumerate() {
+    for (place, lamp) in followed.watch.sums().enumerate() {
         writeln!(out, "lamp {} start {} burnt {} now {}", place + 1, lamp.start, lamp.burnt, lamp.now)?;
+    }
+    if let Some(words) = followed.stray {
+        writeln!(out, "{words}")?;
     }
     out.flush()
 }
 
-/// Tells each stretch as soon as it has ended, and after the log those of lamps that burn there.
+/// A log that was read to its end.
+struct Followed<'a> {
+    watch: Watch<'a>,
+    stray: Option<String>,
+    served: bool,
+}
+
+/// Tells each stretch as soon as it has ended, and after the log those of lamps that burn there. Beside the lamps what is
+/// printed of a line that does not belong to its history: "stretches and totals of the lines that belong".
 fn follow<'a>(
     mut watch: Watch<'a>,
+    form: Option<&[u8]>,
     log: impl BufRead,
     mut tell: impl FnMut(&[(usize, Stretch)]) -> io::Result<()>,
-) -> io::Result<Watch<'a>> {
-    each_text(log, |text| {
-        if let Some((lamp, enabled)) = (watch.steps.mark)(text) {
+) -> io::Result<Followed<'a>> {
+    let (is_history, log) = kind(&watch.steps.history, log)?;
+    let mut history = History::begun(&watch.steps.history, form);
+    let mut served = true;
+    each_line(log, |line| {
+        let text = text_of(line);
+        if is_history {
+            history.play(&mut watch, line);
+            served = history.stray.is_none();
+        } else if let Some((lamp, enabled)) = (watch.steps.mark)(text) {
             // "a mark call that is refused, changes nothing"
-            let _ = (watch.steps.set_mark)(&mut watch.projector, lamp, enabled);
-        } else if let Some(event) = event(text) {
-            watch.play(event);
+            served &= (watch.steps.set_mark)(&mut watch.projector, lamp, enabled).is_ok();
+        } else {
+            served &= event(text).is_some_and(|event| watch.play(event));
         }
         tell(&watch.ended())
     })?;
     tell(&watch.last())?;
-    Ok(watch)
+    Ok(Followed { watch, stray: history.words(), served })
 }
 
 /// "`lamp 1 from 0 to 2400`", in the order of the lamps, and at once.
@@ -96,17 +130,30 @@ pub struct Told {
     pub lamps: Vec<Sum>,
     /// The seconds of the log.
     pub seconds: u128,
+    /// What is said of a line that does not belong to its history.
+    pub stray: Option<String>,
+    /// Whether every line was of a form, and every call served.
+    pub served: bool,
 }
 
 /// What is told of a log in memory, or the number of a form that does not load.
 pub fn told(form: Option<&[u8]>, log: &[u8]) -> Result<Told, u32> {
     let mut stretches = Vec::new();
-    let watch = follow(Watch::new(&RIGHT, (RIGHT.device)(form)?), log, |ended| {
+    let watch = follow(Watch::new(&RIGHT, (RIGHT.device)(form)?), form, log, |ended| {
         stretches.extend(ended);
         Ok(())
     });
-    let watch = watch.expect("memory is read");
-    Ok(Told { stretches, lamps: watch.sums().collect(), seconds: watch.second })
+    let Followed { watch, stray, served } = watch.expect("memory is read");
+    Ok(Told { stretches, lamps: watch.sums().collect(), seconds: watch.second, stray, served })
+}
+
+/// How `burnt` ends, by the words that `replay::status` has.
+pub fn status(form: Option<&[u8]>, log: &[u8]) -> i32 {
+    match told(form, log) {
+        Ok(told) if told.served => 0,
+        Ok(_) => 3,
+        Err(_) => 1,
+    }
 }
 
 fn in_memory(steps: &Steps, form: Option<&[u8]>, log: &[u8]) -> Vec<u8> {

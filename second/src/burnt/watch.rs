@@ -2,8 +2,10 @@
 //! power-on with its mark set", put together to stretches.
 
 use super::Steps;
+use crate::reference::recorded::{Call, Why};
 use crate::reference::{Power, Projector};
-use crate::replay::{Event, play};
+use crate::replay::history::Player;
+use crate::replay::{Event, Outcome, play};
 
 /// From one second since the log began up to another, which is not in it. It has at least one second.
 #[derive(Clone, Copy, PartialEq, Eq, Debug)]
@@ -46,17 +48,33 @@ pub struct Watch<'a> {
     lamps: Vec<Lamp>,
 }
 
+impl Player for Watch<'_> {
+    fn projector(&self) -> &Projector {
+        &self.projector
+    }
+
+    fn make(&mut self, call: &Call) -> Result<Vec<u8>, Why> {
+        match call {
+            Call::Passed(seconds) => self.pass((self.steps.passed)(*seconds)),
+            _ => return (self.steps.make)(&mut self.projector, call),
+        }
+        Ok(Vec::new())
+    }
+}
+
 impl Watch<'_> {
     pub fn new(steps: &Steps, projector: Projector) -> Watch<'_> {
         let lamps = projector.lamps.iter().map(|&start| Lamp { start, burnt: 0, stretch: None }).collect();
         Watch { steps, projector, second: 0, lamps }
     }
 
-    pub fn play(&mut self, event: Event) {
+    /// Whether it is served.
+    pub fn play(&mut self, event: Event) -> bool {
         match event {
             Event::Pass(seconds) => self.pass(seconds),
-            _ => drop(play(&mut self.projector, event)),
+            _ => return matches!(play(&mut self.projector, event), Outcome::Reply(_)),
         }
+        true
     }
 
     /// Part by part, so that the power is the same in all seconds of a part.

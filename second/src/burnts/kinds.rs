@@ -2,10 +2,13 @@
 
 use super::Case;
 use crate::burnt::mark;
+use crate::logs::recorded;
 use crate::reference::{Connection, Power, Projector};
+use crate::replay::history::is_history;
 use crate::replay::{Event, Outcome, PLACE, device, event, lines, play, text_of};
 
-pub const KINDS: [&str; 21] = [
+pub const KINDS: [&str; 22] = [
+    "several files",
     "form of version 1",
     "form of version 2",
     "form of version 3",
@@ -29,13 +32,22 @@ pub const KINDS: [&str; 21] = [
     "a lamp at its limit",
 ];
 
+const VERSIONS: [&str; 3] = ["form of version 1", "form of version 2", "form of version 3"];
+
 pub fn kinds(case: &Case, out: &[u8]) -> Vec<&'static str> {
     let mut projector = match device(case.form()) {
         Ok(projector) => projector,
         Err(number) => return vec![["form, ! 20", "form, ! 21", "form, ! 22", "form, ! 23"][number as usize - 20]],
     };
-    let version = case.form().map(|form| KINDS[usize::from(form[0]) - 1]);
+    let version = case.form().map(|form| VERSIONS[usize::from(form[0]) - 1]);
     let mut all: Vec<&str> = version.into_iter().collect();
+    if !case.files.is_empty() {
+        all.push("several files");
+    }
+    if is_history(&case.fed.log) {
+        all.push(recorded::kind(out));
+        return all;
+    }
     all.extend(lines(&case.fed.log).filter_map(|line| kind(&mut projector, text_of(line))));
     match projector.power {
         Power::WarmUp(left) if left == projector.set_up.warm => all.push("ends with no second of a stretch"),

@@ -2,6 +2,7 @@
 
 use super::kinds::{KINDS, kinds};
 use super::{Case, Played};
+use crate::logs::recorded;
 use crate::replay::lines;
 use crate::tally::Tally;
 use std::fmt;
@@ -50,6 +51,7 @@ impl fmt::Display for Met {
             Played::Burnt => "told alike by burnt",
             Played::Replay => "played back alike by replay, on forms too",
         };
-        self.tally.tell(f, ("met", &KINDS), alike, &self.mistakes())
+        let kinds = [&KINDS[..], &recorded::KINDS].concat();
+        self.tally.tell(f, ("met", &kinds), alike, &self.mistakes())
     }
 }

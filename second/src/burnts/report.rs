@@ -22,6 +22,9 @@ impl fmt::Display for Case {
             Some(form) => writeln!(f, "  on the form {}", shown(form))?,
             None => writeln!(f, "  on the sample set-up")?,
         }
+        if !self.files.is_empty() {
+            writeln!(f, "  in files that begin at {:?}", self.files)?;
+        }
         lines(&self.fed.log).try_for_each(|line| writeln!(f, "  {}", shown(line)))
     }
 }

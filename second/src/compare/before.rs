@@ -160,6 +160,9 @@ fn put_answer(answer: &Answer, out: &mut Vec<u8>) {
             plan.put(out);
             rigs.put(out);
         }
+        Answer::Begun(..) | Answer::Recorded(..) | Answer::Played(..) | Answer::Kept(..) => {
+            unreachable!("no such call")
+        }
         Answer::Touched(_) => unreachable!("not of the second program"),
     }
 }

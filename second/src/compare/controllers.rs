@@ -36,7 +36,7 @@ fn open(random: &mut Random) -> Act {
 }
 
 /// Of what is still to come at a place: all, or the first bytes of it.
-fn next_part(random: &mut Random, device: &Device, unsent: &mut [Vec<u8>; PLACES]) -> Act {
+pub fn next_part(random: &mut Random, device: &Device, unsent: &mut [Vec<u8>; PLACES]) -> Act {
     let place = random.below(PLACES);
     if unsent[place].is_empty() {
         unsent[place] = lines::line(random, device, place);

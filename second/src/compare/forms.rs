@@ -26,6 +26,14 @@ pub fn marked(lent: &Lent, marks: &[u8]) -> Vec<u8> {
     unmistaken(|| written(&Stored { lent: lent.clone(), marks: Some(marks.to_vec()), class: None }))
 }
 
+/// What a record stores.
+pub fn stored_of(device: &Device) -> Vec<u8> {
+    let mut form = vec![0; form::LONGEST];
+    let length = unmistaken(|| swap::store(device, &mut form)).length;
+    form.truncate(length);
+    form
+}
+
 /// Of version 1, which has no marks.
 pub fn old(lent: &Lent) -> Vec<u8> {
     unmistaken(|| written(&Stored { lent: lent.clone(), marks: None, class: None }))

@@ -1,7 +1,8 @@
 //! The comparison: the same calls on the same inputs in both programs, every number, count, record field and lent byte.
 //!
 //! The cases from before Class 2 are made as they were, by the rules and the random numbers of then (`Rules::Before`),
-//! and compared by those of now; `before` holds that they are the same. Class 2 has its own, beside them.
+//! and compared by those of now; `before` holds that they are the same. Class 2 has its own, beside them, and so have
+//! recorded logs.
 
 #[cfg(test)]
 mod before;
@@ -26,6 +27,7 @@ pub mod panel_shrink;
 pub mod panels;
 pub mod passwords;
 pub mod random;
+pub mod recorded;
 pub mod records;
 pub mod replies;
 pub mod report;
@@ -78,6 +80,8 @@ pub struct Run<'a, B: Side> {
     random: Random,
     /// Of the cases in Class 2, so that they take nothing from the others.
     random_2: Random,
+    /// Of the cases on recorded logs, likewise.
+    random_3: Random,
     /// What a case is compared by.
     rules: Rules,
     board: &'a mut B,
@@ -91,20 +95,23 @@ pub struct Run<'a, B: Side> {
 
 impl<'a, B: Side> Run<'a, B> {
     pub fn new(seed: u64, board: &'a mut B) -> Run<'a, B> {
-        let (random, random_2) = (Random::new(seed), Random::new(!seed));
+        let (random, random_2, random_3) = (Random::new(seed), Random::new(!seed), Random::new(seed.reverse_bits()));
         let (rules, met) = (Rules::Now, Tally::default());
-        Run { random, random_2, rules, board, agreed: 0, in_place: 0, agreed_before: 0, met }
+        Run { random, random_2, random_3, rules, board, agreed: 0, in_place: 0, agreed_before: 0, met }
     }
 
     /// Everything, until enough comparisons agreed; or the smallest difference found.
     pub fn all(&mut self) -> Result<usize, Box<Difference>> {
         self.before(Run::first_rounds)?;
         (0..FIRST_ROUNDS).try_for_each(|_| self.round_2())?;
+        (0..FIRST_ROUNDS).try_for_each(|_| self.round_3())?;
         self.before(Run::every)?;
         self.every_2()?;
+        self.every_3()?;
         while self.agreed_before < ENOUGH {
             self.before(Run::round)?;
             self.round_2()?;
+            self.round_3()?;
         }
         Ok(self.agreed)
     }

@@ -2,7 +2,7 @@
 
 use super::{Case, Made};
 use crate::face::fields::{Fields, quoted};
-use crate::face::{Act, Answer, Device, Lent2, Panel, PanelAct, PanelCall};
+use crate::face::{Act, Answer, Device, Lent2, Log, Panel, PanelAct, PanelCall, Part, Said};
 use std::fmt;
 
 pub struct Difference {
@@ -115,6 +115,40 @@ fn call(act: &Act) -> String {
         }
         Act::CheckDay { day, rigs } => format!("pj_check_day({day:?}, rigs {rigs:?})"),
         Act::PlanDay { day, lent } => format!("pj_plan_day({day:?}, {})", memory(lent)),
+        Act::LogBegun { form } => format!("pj_log_begun({})", quoted(form)),
+        Act::Record { log, said, lent } => format!("{}{}, {})", said_call(said), log_of(log), memory(lent)),
+        Act::Play { log, line, lent } => format!("pj_log_play({}, {}, {})", log_of(log), quoted(line), memory(lent)),
+        Act::Keep { form, parts } => {
+            let form = form.as_ref().map_or("its stored form".to_string(), |form| format!("the form {}", quoted(form)));
+            let parts: Vec<String> = parts.iter().map(part).collect();
+            format!("a log kept from {form} on, and played again: {}", parts.join("; "))
+        }
+    }
+}
+
+fn log_of(log: &Log) -> String {
+    format!("file {} lines {} sum {:08x}", log.file, log.lines, log.sum)
+}
+
+fn said_call(said: &Said) -> String {
+    match said {
+        Said::File { time } => format!("pj_log_file({}, ", quoted(time)),
+        Said::Opened { place, random } => format!("pj_log_opened({place}, {random:#010x}, "),
+        Said::Received { place, bytes } => format!("pj_log_received({place}, {}, ", quoted(bytes)),
+        Said::Passed { seconds } => format!("pj_log_passed({seconds}, "),
+        Said::Closed { place } => format!("pj_log_closed({place}, "),
+        Said::Fault { mark } => format!("pj_log_fault({mark}, "),
+        Said::Errors { digits } => format!("pj_log_errors({digits:?}, "),
+        Said::Mark { lamp, enabled } => format!("pj_log_mark({lamp}, {enabled}, "),
+        Said::Stated => "pj_log_stated(".to_string(),
+    }
+}
+
+fn part(part: &Part) -> String {
+    match part {
+        Part::Call(act) => call(act),
+        Part::File(time) => format!("a file begun at {}", quoted(time)),
+        Part::State => "stated".to_string(),
     }
 }
 

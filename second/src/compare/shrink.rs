@@ -1,6 +1,6 @@
 //! From a case on which the two programs differ to the smallest that still shows it.
 
-use super::{Case, class_2_shrink, days, panel_shrink, tables};
+use super::{Case, class_2_shrink, days, panel_shrink, recorded, tables};
 use crate::face::wire::Wire;
 use crate::face::{Act, Command, Connection, Device, Lent, Name, PLACES};
 use crate::reference::form::{self, Stored};
@@ -129,7 +129,7 @@ fn plainer_records(device: &Device) -> impl Iterator<Item = Device> {
 }
 
 /// The call with shorter slices and smaller numbers.
-fn simpler(act: &Act) -> Vec<Act> {
+pub fn simpler(act: &Act) -> Vec<Act> {
     match act {
         Act::SetUp(lent) => simpler_set_ups(lent).into_iter().map(Act::SetUp).collect(),
         Act::SetUp2(lent) => {
@@ -210,12 +210,14 @@ fn simpler(act: &Act) -> Vec<Act> {
         Act::PlanDay { day, lent } => {
             days::simpler(day, lent).into_iter().map(|(day, lent)| Act::PlanDay { day, lent }).collect()
         }
+        Act::LogBegun { form } => simpler_bytes(form).map(|form| Act::LogBegun { form }).collect(),
+        Act::Record { .. } | Act::Play { .. } | Act::Keep { .. } => recorded::simpler(act),
         Act::SetFault { .. } | Act::Legal => Vec::new(),
     }
 }
 
 /// Place 0, the place before, 4 for those that there are not.
-fn lower_places(place: usize) -> impl Iterator<Item = usize> {
+pub fn lower_places(place: usize) -> impl Iterator<Item = usize> {
     [0, PLACES, place.wrapping_sub(1)].into_iter().filter(move |&lower| lower < place)
 }
 
@@ -288,7 +290,7 @@ pub fn lower_at(numbers: &[u32]) -> impl Iterator<Item = Vec<u32>> {
 }
 
 /// 0, 1, then nearer and nearer.
-fn lower(number: u32) -> impl Iterator<Item = u32> {
+pub fn lower(number: u32) -> impl Iterator<Item = u32> {
     let steps = [number, number.wrapping_sub(1)].into_iter().chain((1..32).map(move |times| number >> times));
     steps.filter(move |&step| 0 < step && step <= number).map(move |step| number - step)
 }

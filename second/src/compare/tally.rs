@@ -2,7 +2,7 @@
 //! saw refusals would say nothing.
 
 use super::Made;
-use crate::face::{Act, Answer, PLACES, Panel, PanelAct, PanelCall};
+use crate::face::{Act, Answer, PLACES, Panel, PanelAct, PanelCall, Said};
 use std::collections::BTreeMap;
 use std::fmt;
 
@@ -75,6 +75,20 @@ pub fn call(act: &Act) -> &'static str {
         Act::CompareLamps { .. } => "pj_compare_lamps",
         Act::CheckDay { .. } => "pj_check_day",
         Act::PlanDay { .. } => "pj_plan_day",
+        Act::LogBegun { .. } => "pj_log_begun",
+        Act::Record { said, .. } => match said {
+            Said::File { .. } => "pj_log_file",
+            Said::Opened { .. } => "pj_log_opened",
+            Said::Received { .. } => "pj_log_received",
+            Said::Passed { .. } => "pj_log_passed",
+            Said::Closed { .. } => "pj_log_closed",
+            Said::Fault { .. } => "pj_log_fault",
+            Said::Errors { .. } => "pj_log_errors",
+            Said::Mark { .. } => "pj_log_mark",
+            Said::Stated => "pj_log_stated",
+        },
+        Act::Play { .. } => "pj_log_play",
+        Act::Keep { .. } => "logs kept and played",
     }
 }
 
@@ -128,8 +142,17 @@ fn kind(act: &Act, answer: &Answer) -> String {
         Answer::Compared(compared, _) => refusal_or(compared.number, if compared.backwards { "back" } else { "none" }),
         Answer::Verdict(verdict) => refusal_or(verdict.number, &format!("rule {}", verdict.rule)),
         Answer::Plan(plan, _) => refusal_or(plan.number, if plan.planned { "planned" } else { "unplanned" }),
+        Answer::Begun(_) => "served".to_string(),
+        Answer::Recorded(_, written, out) => refusal_or(written.number, first_of(out)),
+        Answer::Played(_, _, written, out) => refusal_or(written.number, &reply(&out[..written.length])),
+        Answer::Kept(kept) => refusal_or(kept.again.number, "served"),
         Answer::Touched(_) => "touched".to_string(),
     }
+}
+
+/// The letter of a recorded line.
+fn first_of(line: &[u8]) -> &str {
+    line.get(..1).and_then(|first| str::from_utf8(first).ok()).unwrap_or_default()
 }
 
 /// A line of at least so many bytes is led by a digest.

@@ -52,9 +52,15 @@ impl Side for Board {
         true
     }
 
+    /// After the answer of a call that records a line stands the record that lies there then, which it may only read.
     fn call(&mut self, device: &Device, act: &Act) -> Answer {
         self.make(false, device, act);
-        wire::get_answer(act, &mut self.room.as_slice())
+        let mut room = self.room.as_slice();
+        let answer = wire::get_answer(act, &mut room);
+        match act {
+            Act::Record { .. } => or_touched(answer, device, Device::get(&mut room)),
+            _ => answer,
+        }
     }
 
     /// After the answer of a call that only reads the record stands the record that lies there then.
@@ -64,12 +70,14 @@ impl Side for Board {
         let answer = wire::get_answer(act, &mut room);
         match answer.device() {
             Some(_) => answer,
-            None => {
-                let left = Device::get(&mut room);
-                if left == *device { answer } else { Answer::Touched(Box::new(left)) }
-            }
+            None => or_touched(answer, device, Device::get(&mut room)),
         }
     }
+}
+
+/// The answer of a call that left the record as it was.
+fn or_touched(answer: Answer, lent: &Device, left: Device) -> Answer {
+    if left == *lent { answer } else { Answer::Touched(Box::new(left)) }
 }
 
 impl Drop for Board {

@@ -1,8 +1,8 @@
 //! A call of the face with what it is lent, and all that it gives: the same two for both programs.
 
 use super::{
-    Changed, Command, Compared, Day, Device, Digest, Greeting, Opened, PanelCall, PanelChanged, PanelSent, Plan,
-    Reading, Received, Verdict, Written,
+    Changed, Command, Compared, Day, Device, Digest, Greeting, Kept, Log, Opened, PanelCall, PanelChanged, PanelSent,
+    Part, Plan, Reading, Received, Said, Verdict, Written,
 };
 
 /// A call, all but the record that some of them are lent. `lent` is the reply memory with what it holds beforehand.
@@ -92,6 +92,25 @@ pub enum Act {
         day: Day,
         lent: Vec<u8>,
     },
+    LogBegun {
+        form: Vec<u8>,
+    },
+    Record {
+        log: Log,
+        said: Said,
+        lent: Vec<u8>,
+    },
+    Play {
+        log: Log,
+        line: Vec<u8>,
+        lent: Vec<u8>,
+    },
+    /// Not one call: a host that records what it does, from the record of this stored form on, or from the one that it is
+    /// lent, and then plays its log again.
+    Keep {
+        form: Option<Vec<u8>>,
+        parts: Vec<Part>,
+    },
 }
 
 /// What a set-up is lent, and the call that tells which of it is out of range.
@@ -140,6 +159,10 @@ pub enum Answer {
     Compared(Compared, Vec<i64>),
     Verdict(Verdict),
     Plan(Plan, Vec<u8>),
+    Begun(Log),
+    Recorded(Log, Written, Vec<u8>),
+    Played(Box<Device>, Log, Written, Vec<u8>),
+    Kept(Box<Kept>),
     /// Of no call by the rules: one that only reads the record that it is lent left this one there.
     Touched(Box<Device>),
 }
@@ -158,6 +181,7 @@ impl Act {
             Act::WhichSetting(_) | Act::WhichSetting2(_) | Act::Digest { .. } => false,
             Act::Write { .. } | Act::ReadGreeting { .. } | Act::ReadReply { .. } => false,
             Act::Panel(_) | Act::CompareLamps { .. } | Act::CheckDay { .. } | Act::PlanDay { .. } => false,
+            Act::LogBegun { .. } | Act::Record { .. } | Act::Play { .. } | Act::Keep { .. } => false,
         }
     }
 
@@ -175,7 +199,8 @@ impl Answer {
             Answer::Opened(opened, _) => Some(&opened.device),
             Answer::Received(received, _) => Some(&received.device),
             Answer::HandedOn(changed, _) => Some(&changed.device),
-            Answer::Interleaved(device, _) => Some(device),
+            Answer::Interleaved(device, _) | Answer::Played(device, ..) => Some(device),
+            Answer::Kept(kept) => Some(&kept.device),
             _ => None,
         }
     }

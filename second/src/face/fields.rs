@@ -2,8 +2,8 @@
 
 use super::wire::Wire;
 use super::{
-    Answer, Changed, Command, Compared, Connection, Device, Digest, Entry, Greeting, Line, Name, Opened, Own, PLACES,
-    Panel, PanelChanged, PanelSent, Plan, Reading, Received, Settings, Text, Verdict, Written,
+    Answer, Changed, Command, Compared, Connection, Device, Digest, Entry, Greeting, Line, Log, Name, Opened, Own,
+    PLACES, Panel, PanelChanged, PanelSent, Plan, Reading, Received, Settings, Text, Verdict, Written,
 };
 
 /// A value's fields, as (path, value) in their order.
@@ -69,6 +69,7 @@ records! {
     Compared { number, backwards, place }
     Verdict { number, rule, first, second }
     Plan { number, planned, job }
+    Log { file, lines, sum }
 }
 
 fn joined(path: &str, field: &str) -> String {
@@ -187,6 +188,31 @@ impl Fields for Answer {
             Answer::Plan(plan, rigs) => {
                 plan.list(path, into);
                 into.push(("lent places".into(), format!("{rigs:?}")));
+            }
+            Answer::Begun(log) => log.list("log", into),
+            Answer::Recorded(log, written, memory) => {
+                written.list(path, into);
+                log.list("log", into);
+                lent(memory, into);
+            }
+            Answer::Played(device, log, written, memory) => {
+                written.list(path, into);
+                log.list("log", into);
+                device.list("device", into);
+                lent(memory, into);
+            }
+            Answer::Kept(kept) => {
+                kept.number.list("number", into);
+                into.push(("the log".into(), quoted(&kept.text)));
+                kept.log.list("log", into);
+                kept.device.list("device", into);
+                into.push(("reply bytes".into(), quoted(&kept.replies)));
+                let again = &kept.again;
+                again.number.list("number, played again", into);
+                again.lines.list("lines, played again", into);
+                again.log.list("log, played again", into);
+                again.device.list("device, played again", into);
+                into.push(("reply bytes, played again".into(), quoted(&again.replies)));
             }
             Answer::Touched(device) => device.list("the record that was only to be read", into),
         }

@@ -1,9 +1,10 @@
 //! One of the two programs, and how streams are handed on to it.
 
+use super::recorded::keep;
 use super::{Act, Answer, Changed, Device, PLACES};
 
 pub trait Side {
-    /// Any call but `HandOn` and `Interleave`, by value.
+    /// Any call but `HandOn`, `Interleave` and `Keep`, by value.
     fn call(&mut self, device: &Device, act: &Act) -> Answer;
 
     /// The same in place, on a record that holds this one. It is for the acts that `has_in_place`, and the answer has
@@ -19,6 +20,7 @@ pub trait Side {
             Act::HandOn { place, bytes, .. } => self.hand_on(device, *place, bytes, &[]),
             Act::Interleave { parts } if self.cuts() => self.interleave(device, parts),
             Act::Interleave { parts } => self.interleave(device, &whole_lines(parts)),
+            Act::Keep { form, parts } => keep(self, device, form.as_deref(), parts),
             _ => self.call(device, act),
         }
     }

@@ -3,7 +3,7 @@
 use super::{
     Act, Answer, Changed, Command, Compared, Device, Digest, Greeting, Opened, Reading, Received, Side, Written,
 };
-use super::{days, in_place, setting_up, swap, workroom};
+use super::{days, in_place, logs, setting_up, swap, workroom};
 
 #[link(name = "board", kind = "static")]
 unsafe extern "C" {
@@ -148,7 +148,7 @@ impl Side for Board {
                 let mut out = lent.clone();
                 Answer::Written(write(*command, *secured, *random, password, &mut out), out)
             }
-            Act::HandOn { .. } | Act::Interleave { .. } => unreachable!("not one call"),
+            Act::HandOn { .. } | Act::Interleave { .. } | Act::Keep { .. } => unreachable!("not one call"),
             Act::ReadGreeting { line } => Answer::Greeting(read_greeting(line)),
             Act::ReadReply { command, line } => Answer::Reading(read_reply(*command, line)),
             Act::Panel(call) => workroom::answer(call),
@@ -161,6 +161,9 @@ impl Side for Board {
                 let mut out = lent.clone();
                 Answer::Plan(days::plan_day(day, &mut out), out)
             }
+            Act::LogBegun { form } => logs::begun(form),
+            Act::Record { log, said, lent } => logs::record(&device, log, said, lent),
+            Act::Play { log, line, lent } => logs::play(&device, log, line, lent),
         }
     }
 }

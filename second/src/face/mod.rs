@@ -7,12 +7,14 @@ mod call;
 pub mod fields;
 mod hand_on;
 mod panel;
+mod recorded;
 mod service;
 pub mod wire;
 
 pub use call::{Act, Answer, Lent, Lent2};
 pub use hand_on::{InPlace, Side};
 pub use panel::{Entry, Panel, PanelAct, PanelCall, PanelChanged, PanelSent};
+pub use recorded::{Again, Kept, Log, Part, Said};
 pub use service::{Compared, Day, Plan, Verdict};
 
 #[cfg(board = "apart")]
@@ -28,6 +30,8 @@ pub mod in_place;
 pub mod linked;
 #[cfg(board = "linked")]
 pub use linked::Board;
+#[cfg(board = "linked")]
+pub mod logs;
 #[cfg(board = "linked")]
 pub mod setting_up;
 #[cfg(board = "linked")]

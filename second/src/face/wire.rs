@@ -1,7 +1,7 @@
 //! How calls and answers go to a process and back: every field in its order, numbers with their lowest byte first, a
 //! `size_t` as eight bytes, a slice after its length. `host/host.c` is the other end.
 
-use super::{Act, Answer, Day, Lent, Lent2, PanelAct, PanelCall};
+use super::{Act, Answer, Day, Device, Lent, Lent2, PanelAct, PanelCall, Said};
 
 pub trait Wire {
     fn put(&self, out: &mut Vec<u8>);
@@ -117,7 +117,7 @@ pub fn put_act(act: &Act, out: &mut Vec<u8>) {
             bytes.put(out);
             lent.put(out);
         }
-        Act::HandOn { .. } | Act::Interleave { .. } => unreachable!("not one call"),
+        Act::HandOn { .. } | Act::Interleave { .. } | Act::Keep { .. } => unreachable!("not one call"),
         Act::Pass { seconds } => {
             4u8.put(out);
             seconds.put(out);
@@ -186,6 +186,58 @@ pub fn put_act(act: &Act, out: &mut Vec<u8>) {
             put_day(day, out);
             lent.put(out);
         }
+        Act::LogBegun { form } => {
+            27u8.put(out);
+            form.put(out);
+        }
+        Act::Record { log, said, lent } => {
+            28u8.put(out);
+            log.put(out);
+            put_said(said, out);
+            lent.put(out);
+        }
+        Act::Play { log, line, lent } => {
+            29u8.put(out);
+            log.put(out);
+            line.put(out);
+            lent.put(out);
+        }
+    }
+}
+
+/// What a line is to say after its own number.
+fn put_said(said: &Said, out: &mut Vec<u8>) {
+    let number: u8 = match said {
+        Said::File { .. } => 0,
+        Said::Opened { .. } => 1,
+        Said::Received { .. } => 2,
+        Said::Passed { .. } => 3,
+        Said::Closed { .. } => 4,
+        Said::Fault { .. } => 5,
+        Said::Errors { .. } => 6,
+        Said::Mark { .. } => 7,
+        Said::Stated => 8,
+    };
+    number.put(out);
+    match said {
+        Said::File { time } => time.put(out),
+        Said::Opened { place, random } => {
+            place.put(out);
+            random.put(out);
+        }
+        Said::Received { place, bytes } => {
+            place.put(out);
+            bytes.put(out);
+        }
+        Said::Passed { seconds } => seconds.put(out),
+        Said::Closed { place } => place.put(out),
+        Said::Fault { mark } => mark.put(out),
+        Said::Errors { digits } => digits.put(out),
+        Said::Mark { lamp, enabled } => {
+            lamp.put(out);
+            enabled.put(out);
+        }
+        Said::Stated => (),
     }
 }
 
@@ -257,7 +309,7 @@ pub fn get_answer(act: &Act, from: &mut &[u8]) -> Answer {
         Act::WhichSetting(_) | Act::WhichSetting2(_) => Answer::Setting(Wire::get(from)),
         Act::Open { .. } => Answer::Opened(Wire::get(from), Wire::get(from)),
         Act::Receive { .. } => Answer::Received(Wire::get(from), Wire::get(from)),
-        Act::HandOn { .. } | Act::Interleave { .. } => unreachable!("not one call"),
+        Act::HandOn { .. } | Act::Interleave { .. } | Act::Keep { .. } => unreachable!("not one call"),
         Act::Legal => Answer::Legal(Wire::get(from)),
         Act::Digest { .. } => Answer::Digest(Wire::get(from)),
         Act::Store { .. } | Act::Write { .. } => Answer::Written(Wire::get(from), Wire::get(from)),
@@ -270,5 +322,11 @@ pub fn get_answer(act: &Act, from: &mut &[u8]) -> Answer {
         Act::CompareLamps { .. } => Answer::Compared(Wire::get(from), Wire::get(from)),
         Act::CheckDay { .. } => Answer::Verdict(Wire::get(from)),
         Act::PlanDay { .. } => Answer::Plan(Wire::get(from), Wire::get(from)),
+        Act::LogBegun { .. } => Answer::Begun(Wire::get(from)),
+        Act::Record { .. } => Answer::Recorded(Wire::get(from), Wire::get(from), Wire::get(from)),
+        Act::Play { .. } => {
+            let device = Box::new(Device::get(from));
+            Answer::Played(device, Wire::get(from), Wire::get(from), Wire::get(from))
+        }
     }
 }

@@ -1,8 +1,9 @@
 //! Random logs. The lines follow the second program's own state, so that what arrives fits what is going on.
 
-use super::damage;
+use super::{damage, recorded};
 use crate::compare::lines;
 use crate::compare::random::Random;
+use crate::compare::recorded::making::any_seconds;
 use crate::reference::set_up::LAMP_LIMIT;
 use crate::reference::text::{CR, LF, eight_hex_digits};
 use crate::reference::{Power, Projector};
@@ -22,8 +23,11 @@ impl Temper {
     }
 }
 
+/// Of the first kind, or a history, in one case of four.
 pub fn log(random: &mut Random) -> Vec<u8> {
     match random.below(32) {
+        24..=30 => recorded::log(random, None, &mut any_seconds),
+        31 => after_a_first_line(random),
         0 => Vec::new(),
         1 => vec![LF; random.length_to(300)],
         2 => noise(random, b"ORTX 00019af%?\r\n\n\0\xFF"),
@@ -32,6 +36,16 @@ pub fn log(random: &mut Random) -> Vec<u8> {
             random.bytes_from(0, length)
         }
         _ => day(random, sample(), line, play_text),
+    }
+}
+
+/// Lines of the first kind after one that makes a history of them, or hardly not.
+fn after_a_first_line(random: &mut Random) -> Vec<u8> {
+    let first = if random.one_in(3) { random.pick(recorded::HARDLY) } else { random.pick(recorded::NEARLY) };
+    let day = day(random, sample(), line, play_text);
+    match random.below(8) {
+        0 => first.to_vec(),
+        _ => [first, b"\n", &day].concat(),
     }
 }
 

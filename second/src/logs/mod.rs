@@ -4,8 +4,10 @@
 
 pub mod damage;
 pub mod every;
+pub mod every_history;
 pub mod making;
 mod program;
+pub mod recorded;
 pub mod report;
 pub mod workers;
 
@@ -14,7 +16,7 @@ pub use report::{Difference, Met};
 
 use crate::compare::random::Random;
 use crate::compare::shrink::{self, Smaller};
-use crate::replay::{LONGEST, lines, replayed};
+use crate::replay::{LONGEST, lines, replayed, status};
 use workers::on_all;
 
 /// How many smaller logs are tried at most, once one differs.
@@ -23,8 +25,10 @@ pub const TRIES: usize = 600;
 /// No log is fed in many more reads than these.
 const READS: usize = 2000;
 
-/// The logs that have everything of a kind come first, each in large reads and in small ones.
-const FIXED: usize = 2 * every::LOGS.len();
+/// The logs that have everything of a kind come first, each in large reads and in small ones; then histories.
+fn fixed() -> usize {
+    2 * every::LOGS.len() + every_history::ON_SAMPLE.len()
+}
 
 /// A log, and the sizes of the reads in turn; without sizes, as large as the program asks for.
 #[derive(Clone, PartialEq, Eq, Debug)]
@@ -37,9 +41,11 @@ impl Fed {
     /// One log in two comes in small reads.
     pub fn nth(seed: u64, number: usize) -> Fed {
         let mut random = Random::new(Random::new(seed.wrapping_add(number as u64)).number());
-        let log = match every::LOGS.get(number / 2) {
-            Some(log) => log(),
-            None => making::log(&mut random),
+        let history = number.checked_sub(2 * every::LOGS.len()).and_then(|at| every_history::ON_SAMPLE.get(at));
+        let log = match (every::LOGS.get(number / 2), history) {
+            (Some(log), _) => log(),
+            (None, Some(history)) => history.clone(),
+            (None, None) => making::log(&mut random),
         };
         Fed::new(&mut random, log, number % 2 == 1)
     }
@@ -79,19 +85,26 @@ impl Smaller for Fed {
 /// The logs of a seed, so many random ones, played by a program on all processors: what they met, or the first that
 /// differs, cut down.
 pub fn compare(program: &Program, seed: u64, count: usize) -> Result<Met, Box<Difference>> {
-    let met = on_all(FIXED + count, Met::default, |number, met| {
+    let met = on_all(fixed() + count, Met::default, |number, met| {
         let fed = Fed::nth(seed, number);
         let expected = replayed(&fed.log);
-        if program.printed(&fed.log, &fed.reads) != expected {
+        if program.printed(&fed.log, &fed.reads, status(&expected)) != expected {
             return Err((number, fed));
         }
         met.count(&fed.log, &expected);
         Ok(())
     });
     met.map(|all| all.into_iter().fold(Met::default(), Met::and)).map_err(|(number, fed)| {
-        let differs = |fed: &Fed| program.printed(&fed.log, &fed.reads) != replayed(&fed.log);
-        let fed = shrink::smallest(fed, TRIES, differs);
-        let (expected, given) = (replayed(&fed.log), program.printed(&fed.log, &fed.reads));
+        let both = |fed: &Fed| {
+            let expected = replayed(&fed.log);
+            let given = program.printed(&fed.log, &fed.reads, status(&expected));
+            (expected, given)
+        };
+        let fed = shrink::smallest(fed, TRIES, |fed| {
+            let (expected, given) = both(fed);
+            expected != given
+        });
+        let (expected, given) = both(&fed);
         Box::new(Difference { number, fed, expected, given })
     })
 }
@@ -105,7 +118,7 @@ mod tests {
     /// Every form with every answer that it can have, every kind of line of no form, and not just once.
     #[test]
     fn logs_meet_everything() {
-        let met = (FIXED..FIXED + 200).fold(Met::default(), |mut met, number| {
+        let met = (fixed()..fixed() + 400).fold(Met::default(), |mut met, number| {
             let log = Fed::nth(3, number).log;
             met.count(&log, &replayed(&log));
             met
@@ -115,12 +128,28 @@ mod tests {
         }
     }
 
+    /// The histories that leave nothing to chance show every reason, and each mistake over them.
+    #[test]
+    fn histories_meet_everything() {
+        let met = every_history::ON_SAMPLE.iter().fold(Met::default(), |mut met, log| {
+            met.count(log, &replayed(log));
+            met
+        });
+        for kind in recorded::KINDS {
+            assert!(met.times(kind) >= 3, "{kind}: {}", met.times(kind));
+        }
+        let over_them = mistakes::over_histories();
+        let missed = met.missed();
+        assert!(over_them.iter().all(|(words, _)| !missed.contains(words)), "{missed:?}");
+    }
+
     /// Random logs show each mistake, several of them, but for one that needs more lines than they have.
     #[test]
     fn logs_show_the_mistakes() {
-        let logs: Vec<Vec<u8>> = (FIXED..FIXED + 300).map(|number| Fed::nth(4, number).log).collect();
+        let logs: Vec<Vec<u8>> = (fixed()..fixed() + 400).map(|number| Fed::nth(4, number).log).collect();
         let right: Vec<Vec<u8>> = logs.iter().map(|log| replayed(log)).collect();
-        for (words, wrong) in mistakes::all().filter(|(words, _)| *words != "a line's number has 16 bits") {
+        let over_lines = mistakes::all().filter(|all| !mistakes::over_histories().iter().any(|over| over.0 == all.0));
+        for (words, wrong) in over_lines.filter(|(words, _)| *words != "a line's number has 16 bits") {
             let shown = logs.iter().zip(&right).filter(|(log, right)| wrong.replayed(log) != **right).count();
             assert!(shown >= 4, "{words}: {shown}");
         }
@@ -136,7 +165,7 @@ mod tests {
             Wrong::Prints(|number, told| format!("{number} {told}")),
             Wrong::Ends(str::to_string),
         ];
-        for number in 0..FIXED + 50 {
+        for number in 0..fixed() + 50 {
             let log = Fed::nth(5, number).log;
             assert!(none.iter().all(|wrong| wrong.replayed(&log) == replayed(&log)), "log {number}");
         }
@@ -155,7 +184,7 @@ mod tests {
     fn reads_have_their_sizes() {
         let copy = |count: &str| {
             let words = ["dd", "bs=1000", "status=none", count];
-            let out = Program(words.map(str::to_string).to_vec()).printed(b"abcdefghij", &[1, 3]);
+            let out = Program(words.map(str::to_string).to_vec()).printed(b"abcdefghij", &[1, 3], 0);
             out.into_iter().take_while(|&byte| byte != b'(').collect::<Vec<u8>>()
         };
         assert_eq!(copy("count=1"), b"a");

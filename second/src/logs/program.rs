@@ -19,9 +19,9 @@ impl Program {
     /// What it prints for a log. Without sizes the log comes through a pipe, in reads as large as the program asks for;
     /// with sizes, each read gives one of that size, in turn.
     ///
-    /// A program that fails or leaves bytes unread prints that too.
-    pub fn printed(&self, log: &[u8], reads: &[usize]) -> Vec<u8> {
-        let (mut out, fed) = self.started(log, reads);
+    /// A program that fails or leaves bytes unread prints that too. It may end with this status, or with 0.
+    pub fn printed(&self, log: &[u8], reads: &[usize], due: i32) -> Vec<u8> {
+        let (mut out, fed) = self.started(log, reads, due);
         if let Err(error) = fed {
             out.extend(format!("(not all was read: {error})\n").bytes());
         }
@@ -29,16 +29,17 @@ impl Program {
     }
 
     /// What it prints where it may leave the log unread.
-    pub fn printed_unread(&self, log: &[u8], reads: &[usize]) -> Vec<u8> {
-        self.started(log, reads).0
+    pub fn printed_unread(&self, log: &[u8], reads: &[usize], due: i32) -> Vec<u8> {
+        self.started(log, reads, due).0
     }
 
     /// What it prints, and whether the log was read.
-    fn started(&self, log: &[u8], reads: &[usize]) -> (Vec<u8>, io::Result<()>) {
+    fn started(&self, log: &[u8], reads: &[usize], due: i32) -> (Vec<u8>, io::Result<()>) {
         let started = if reads.is_empty() {
-            io::pipe().and_then(|(input, mut feed)| self.run(input.into(), move || feed.write_all(log)))
+            io::pipe().and_then(|(input, mut feed)| self.run(input.into(), due, move || feed.write_all(log)))
         } else {
-            UnixDatagram::pair().and_then(|(input, feed)| self.run(input.into(), move || in_reads(&feed, log, reads)))
+            UnixDatagram::pair()
+                .and_then(|(input, feed)| self.run(input.into(), due, move || in_reads(&feed, log, reads)))
         };
         started.unwrap_or_else(|error| panic!("{}: {error}", self.0.join(" ")))
     }
@@ -46,6 +47,7 @@ impl Program {
     fn run(
         &self,
         input: OwnedFd,
+        due: i32,
         feed: impl FnOnce() -> io::Result<()> + Send,
     ) -> io::Result<(Vec<u8>, io::Result<()>)> {
         let (program, words) = self.0.split_first().expect("a program has a name");
@@ -57,7 +59,7 @@ impl Program {
             read.and(feeding.join().expect("feeding does not panic"))
         });
         let status = child.wait()?;
-        if !status.success() {
+        if !status.success() && status.code() != Some(due) {
             out.extend(format!("({status})\n").bytes());
             return Ok((out, Ok(())));
         }

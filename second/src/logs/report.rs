@@ -1,6 +1,7 @@
 //! What a run over logs met, and what is said of a difference.
 
-use super::Fed;
+use super::{Fed, recorded};
+use crate::replay::history::is_history;
 use crate::replay::{LONGEST, lines, mistakes, text_of};
 use crate::tally::Tally;
 use std::fmt;
@@ -9,7 +10,7 @@ use std::fmt;
 #[derive(Default)]
 pub struct Met(Tally);
 
-/// What a line is and what it is told.
+/// What a line of the first kind is and what it is told.
 pub const KINDS: [&str; 13] = [
     "O, greeted",
     "O, ! 5",
@@ -49,13 +50,22 @@ impl Met {
     /// One more log that was played alike.
     pub fn count(&mut self, log: &[u8], out: &[u8]) {
         self.0.logs += 1;
+        if is_history(log) {
+            self.0.meet(recorded::kind(out));
+            self.0.lines += lines(log).count();
+        } else {
+            self.count_lines(log, out);
+        }
+        for (place, (_, wrong)) in mistakes::all().enumerate() {
+            self.0.show(place, || wrong.replayed(log) != out);
+        }
+    }
+
+    fn count_lines(&mut self, log: &[u8], out: &[u8]) {
         for (line, out) in lines(log).zip(lines(out)) {
             let told = out.splitn(2, |&byte| byte == b' ').last().unwrap_or_default();
             self.0.meet(kind(line, told.trim_ascii_end()));
             self.0.lines += 1;
-        }
-        for (place, (_, wrong)) in mistakes::all().enumerate() {
-            self.0.show(place, || wrong.replayed(log) != out);
         }
     }
 
@@ -76,7 +86,8 @@ impl Met {
 impl fmt::Display for Met {
     fn fmt(&self, f: &mut fmt::Formatter) -> fmt::Result {
         let all: Vec<&'static str> = mistakes::all().map(|(words, _)| *words).collect();
-        self.0.tell(f, ("lines", &KINDS), "played back alike", &all)
+        let kinds = [&KINDS[..], &recorded::KINDS].concat();
+        self.0.tell(f, ("lines", &kinds), "played back alike", &all)
     }
 }
 

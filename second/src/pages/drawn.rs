@@ -15,6 +15,8 @@ pub struct Drawn {
     /// For each day, for each lamp, its bars from left to right.
     pub days: Vec<Vec<Vec<Bar>>>,
     pub sums: Vec<Sum>,
+    /// RULES, History of a board: what is said of a line that does not belong.
+    pub stray: Option<String>,
 }
 
 /// Of a lamp's stretch what lies in one day.
@@ -61,7 +63,8 @@ pub fn title(lamp: usize, from: u128, to: u128) -> String {
 
 pub fn drawn(told: Told) -> Drawn {
     let days = told.seconds.div_ceil(DAY).max(1);
-    let mut drawn = Drawn { days: vec![vec![Vec::new(); told.lamps.len()]; days as usize], sums: told.lamps };
+    let days = vec![vec![Vec::new(); told.lamps.len()]; days as usize];
+    let mut drawn = Drawn { days, sums: told.lamps, stray: told.stray };
     for (place, stretch) in told.stretches {
         for day in stretch.from / DAY..stretch.to.div_ceil(DAY) {
             let second = |of_the_log: u128| (of_the_log.clamp(day * DAY, (day + 1) * DAY) - day * DAY) as u64;

@@ -2,10 +2,13 @@
 //! midnight or beside it.
 
 use super::drawn::DAY;
-use crate::burnts::{Case, FormAndLog, made};
+use crate::burnts::{Case, FormAndLog, form_of, made};
 use crate::compare::forms;
 use crate::compare::random::Random;
+use crate::compare::recorded::making::any_seconds;
 use crate::face::Lent;
+use crate::logs::recorded;
+use crate::replay::history::is_history;
 use crate::replay::{Event, event, lines, text_of};
 
 /// Everything of a kind, each in large reads and in small ones.
@@ -22,10 +25,42 @@ pub fn nth(seed: u64, number: usize) -> Case {
         Some(every) => every(),
         None => {
             let (form, log) = made(&mut random, number);
-            (form, paced(&mut random, &log))
+            match is_history(&log) {
+                true => history(&mut random, number),
+                false => (form, paced(&mut random, &log)),
+            }
         }
     };
     Case::new(&mut random, (form, log), number)
+}
+
+/// A history of a few days, in whose lines the seconds stand that were passed.
+fn history(random: &mut Random, number: usize) -> FormAndLog {
+    let form = form_of(random, number);
+    let end = DAY * random.pick(&[1, 2, 3, 8, 40]);
+    let mut now = 0;
+    let log = recorded::log(random, form.as_deref(), &mut |random, device| {
+        let any = any_seconds(random, device);
+        let seconds = next_seconds(random, now, any);
+        let seconds = if now + seconds > end { seconds % 600 } else { seconds };
+        let seconds = if now + seconds > end { 0 } else { seconds };
+        now += seconds;
+        seconds as u32
+    });
+    (form, log)
+}
+
+/// To midnight, or beside it, more often than other seconds.
+fn next_seconds(random: &mut Random, now: u128, seconds: u32) -> u128 {
+    let to_midnight = DAY - now % DAY;
+    match random.below(8) {
+        0 => to_midnight,
+        1 => to_midnight - 1,
+        2 => to_midnight + 1,
+        3 => to_midnight + DAY * random.below(3) as u128,
+        4 => random.below(2 * DAY as usize) as u128,
+        _ => u128::from(seconds),
+    }
 }
 
 /// The same lines, with other seconds.
@@ -38,15 +73,7 @@ fn paced(random: &mut Random, log: &[u8]) -> Vec<u8> {
             paced.extend(line);
             continue;
         };
-        let to_midnight = DAY - now % DAY;
-        let seconds = match random.below(8) {
-            0 => to_midnight,
-            1 => to_midnight - 1,
-            2 => to_midnight + 1,
-            3 => to_midnight + DAY * random.below(3) as u128,
-            4 => random.below(2 * DAY as usize) as u128,
-            _ => u128::from(seconds),
-        };
+        let seconds = next_seconds(random, now, seconds);
         let seconds = if now + seconds > end { seconds % 600 } else { seconds };
         if now + seconds <= end {
             now += seconds;

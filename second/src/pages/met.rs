@@ -5,11 +5,14 @@ use super::mistakes::MISTAKES;
 use super::{Drawn, Expected};
 use crate::burnt::Sum;
 use crate::burnts::Case;
+use crate::replay::history::is_history;
 use crate::replay::lines;
 use crate::tally::Tally;
 use std::fmt;
 
-pub const KINDS: [&str; 13] = [
+pub const KINDS: [&str; 15] = [
+    "a history",
+    "a line that does not belong",
     "a form that does not load",
     "no lamp",
     "eight lamps",
@@ -42,7 +45,12 @@ impl Met {
         self.given += given.len();
         given.iter().for_each(|&place| self.tally.show(place, || true));
         match expected {
-            Ok(drawn) => self.count_page(drawn),
+            Ok(drawn) => {
+                self.count_page(drawn);
+                if is_history(&case.fed.log) {
+                    self.tally.meet("a history");
+                }
+            }
             Err(_) => self.tally.meet("a form that does not load"),
         }
     }
@@ -54,6 +62,7 @@ impl Met {
         let any_bar = |is: fn(&Bar) -> bool| bands().flatten().any(is);
         let at_limit = |sum: &Sum| u128::from(sum.start) + sum.burnt > sum.now.into();
         for (kind, is_met) in [
+            ("a line that does not belong", drawn.stray.is_some()),
             ("no lamp", drawn.sums.is_empty()),
             ("eight lamps", drawn.sums.len() == 8),
             ("a lamp at its limit", drawn.sums.iter().any(at_limit)),

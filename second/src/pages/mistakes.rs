@@ -209,6 +209,31 @@ pub const MISTAKES: &[(&str, Wrong)] = &[
         let [one, other] = [sheet.page.table.heads[place], sheet.page.table.heads[place + 1]];
         Some(sheet.with([(one.range(), other.text.to_string()), (other.range(), one.text.to_string())]))
     }),
+    // "on the page a paragraph with these words"
+    ("it is not said that a line does not belong", |sheet, _| {
+        Some(sheet.without(sheet.page.strays.first()?.range.clone()))
+    }),
+    ("it is said twice that a line does not belong", |sheet, _| {
+        let range = sheet.page.strays.first()?.range.clone();
+        Some(sheet.with([(range.end..range.end, sheet.text[range].to_string())]))
+    }),
+    ("another line is said not to belong", |sheet, _| {
+        let text = sheet.page.strays.first()?.text;
+        let (number, why) = text.text.strip_prefix("! line ")?.split_once(':')?;
+        let next = number.parse::<u64>().ok()? + 1;
+        Some(sheet.with([(text.range(), format!("! line {next}:{why}"))]))
+    }),
+    ("another reason is said why a line does not belong", |sheet, _| {
+        let text = sheet.page.strays.first()?.text;
+        let (number, why) = text.text.split_once(": ")?;
+        let other = if why == "another sum" { "no such line" } else { "another sum" };
+        Some(sheet.with([(text.range(), format!("{number}: {other}"))]))
+    }),
+    ("a line is said not to belong where each does", |sheet, random| {
+        let before = any(sheet.rows(), random)?.start;
+        let words = "<p>! line 1: no such line</p>".to_string();
+        sheet.page.strays.is_empty().then(|| sheet.with([(before..before, words)]))
+    }),
     // "one HTML document with no script in it"
     ("a closing tag is left out", |sheet, random| Some(sheet.without(any(sheet.page.closings.clone(), random)?))),
     ("a drawing is not closed", |sheet, random| {

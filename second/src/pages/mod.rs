@@ -16,7 +16,7 @@ pub use met::Met;
 pub use report::Difference;
 
 use crate::burnt::told;
-use crate::burnts::{Case, Started};
+use crate::burnts::{Case, Played, Started};
 use crate::compare::random::Random;
 use crate::compare::shrink;
 use crate::logs::workers::on_all;
@@ -71,7 +71,7 @@ fn given(drawn: &Expected, printed: &[u8], random: &mut Random) -> Result<Vec<us
 /// The logs of a seed, so many random ones, on all processors: what they met, or the first whose page shows something
 /// else, cut down.
 pub fn compare(program: &Program, seed: u64, count: usize) -> Result<Met, Box<Difference>> {
-    let started = Started::new(program);
+    let started = Started::new(program, Played::Burnt);
     let fault_of =
         |case: &Case, number| fault(&expected(case.form(), &case.fed.log), &started.printed(case, number)).err();
     let met = on_all(FIXED + count, Met::default, |number, met| {

@@ -12,10 +12,19 @@ pub struct Page<'a> {
     pub hours: Vec<Label<'a>>,
     pub rows: Vec<Row<'a>>,
     pub table: Table<'a>,
+    /// Paragraphs that begin with `! `.
+    pub strays: Vec<Stray<'a>>,
     /// What its styles say of classes.
     styles: &'a str,
     /// Every closing tag.
     pub closings: Vec<Range<usize>>,
+}
+
+/// What is said of a line that does not belong.
+#[derive(Debug)]
+pub struct Stray<'a> {
+    pub range: Range<usize>,
+    pub text: Part<'a>,
 }
 
 /// A text in a drawing.
@@ -88,7 +97,11 @@ pub fn read(text: &str) -> Result<Page<'_>, String> {
         None => "",
     };
     let closings = all.iter().filter_map(|element| element.closing.clone()).collect();
-    let mut page = Page { hours: Vec::new(), rows: Vec::new(), table: table(&all)?, styles, closings };
+    let paragraphs = all.iter().filter(|element| element.name == "p");
+    let strays = paragraphs.filter_map(|element| Some((element.range.clone(), element.text().ok()?)));
+    let strays = strays.filter(|(_, text)| text.text.starts_with("! "));
+    let strays = strays.map(|(range, text)| Stray { range, text }).collect();
+    let mut page = Page { hours: Vec::new(), rows: Vec::new(), table: table(&all)?, strays, styles, closings };
     let mut width = None;
     for drawing in all.iter().filter(|element| element.name == "svg") {
         let seen = seen(drawing)?;

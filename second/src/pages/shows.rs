@@ -24,6 +24,7 @@ pub fn shows(page: &Page, drawn: &Drawn) -> Result<(), String> {
         }
     }
     colours(page)?;
+    stray(page, drawn)?;
     totals(page, drawn)
 }
 
@@ -67,6 +68,12 @@ fn colours(page: &Page) -> Result<(), String> {
 fn is_light_grey(fill: &str) -> bool {
     let red = &fill[1..3];
     fill[1..] == red.repeat(3) && red >= "c0"
+}
+
+/// "on the page a paragraph with these words".
+fn stray(page: &Page, drawn: &Drawn) -> Result<(), String> {
+    alike("paragraphs of a line that does not belong", page.strays.len(), drawn.stray.iter().len())?;
+    page.strays.iter().zip(&drawn.stray).try_for_each(|(shown, words)| says(shown.text, words))
 }
 
 fn totals(page: &Page, drawn: &Drawn) -> Result<(), String> {

@@ -30,7 +30,11 @@ fn page(drawn: &Drawn) -> String {
         page += &format!("<tr><td>{}</td><td>{}</td>", place + 1, sum.start);
         page += &format!("<td>{}</td><td>{}</td></tr>", sum.burnt, sum.now);
     }
-    page + "</table></body></html>"
+    page += "</table>";
+    if let Some(words) = &drawn.stray {
+        page += &format!("<p>{words}</p>");
+    }
+    page + "</body></html>"
 }
 
 /// Every kind of page, and the short ones not just once; each shows what it has to, and each mistake in it is seen.

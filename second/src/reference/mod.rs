@@ -2,7 +2,8 @@
 //! docs/RULES.md that has it as it stands.
 //!
 //! `calls` has the calls that a host makes, with the numbers they give, `places` those of a controller's place; `swap`
-//! (RULES, Stored form), `marks` (Lamps), `service` (Service), `days` (Cutting day) and `panel` (Panel) have others;
+//! (RULES, Stored form), `marks` (Lamps), `recorded` (History of a board), `service` (Service), `days` (Cutting day) and
+//! `panel` (Panel) have others;
 //! the other files have what they mean, `utf8` what is said of names, `form` the stored bytes, `class` and `class_2`
 //! Class 2. `rules` holds the deliberate mistakes that `second wrong` switches on, one at a time; none is on otherwise;
 //! those in the calls in place alone are made in `in_place`.
@@ -29,6 +30,7 @@ pub mod md5;
 pub mod panel;
 pub mod places;
 pub mod record;
+pub mod recorded;
 pub mod replies;
 pub mod rules;
 pub mod service;

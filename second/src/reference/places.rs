@@ -20,7 +20,7 @@ impl Projector {
     }
 
     /// "any other takes the lowest closed place".
-    fn place_to_open(&self) -> Option<usize> {
+    pub fn place_to_open(&self) -> Option<usize> {
         let is_free = |place: &usize| self.is_closed(*place);
         match () {
             _ if made(Mistake::HighestPlaceFirst) => (0..PLACES).rev().find(is_free),

@@ -1,6 +1,6 @@
 //! The second program as one of the two that are compared.
 
-use super::{calls, days, in_place, marks, panel, service, swap};
+use super::{calls, days, in_place, marks, panel, recorded, service, swap};
 use crate::face::{Act, Answer, Device, PanelAct, PanelCall, Side};
 
 pub struct Second;
@@ -45,7 +45,7 @@ impl Side for Second {
                 let mut out = lent.clone();
                 Answer::Written(calls::write(*command, *secured, *random, password, &mut out), out)
             }
-            Act::HandOn { .. } | Act::Interleave { .. } => unreachable!("not one call"),
+            Act::HandOn { .. } | Act::Interleave { .. } | Act::Keep { .. } => unreachable!("not one call"),
             Act::ReadGreeting { line } => Answer::Greeting(calls::read_greeting(line)),
             Act::ReadReply { command, line } => Answer::Reading(calls::read_reply(*command, line)),
             Act::Panel(call) => on_panel(call),
@@ -57,6 +57,17 @@ impl Side for Second {
             Act::PlanDay { day, lent } => {
                 let mut out = lent.clone();
                 Answer::Plan(days::plan_day(day, &mut out), out)
+            }
+            Act::LogBegun { form } => Answer::Begun(recorded::calls::begun(form)),
+            Act::Record { log, said, lent } => {
+                let mut out = lent.clone();
+                let (written, log) = recorded::calls::record(log, device, said, &mut out);
+                Answer::Recorded(log, written, out)
+            }
+            Act::Play { log, line, lent } => {
+                let mut out = lent.clone();
+                let (written, log, device) = recorded::calls::play(log, device, line, &mut out);
+                Answer::Played(Box::new(device), log, written, out)
             }
         }
     }

@@ -1,7 +1,8 @@
-//! RULES, Floor log: a log from the floor, played on the sample set-up, or on the device of a stored form. `mistakes`
-//! has the deliberate ones.
+//! RULES, Floor log: a log from the floor, played on the sample set-up, or on the device of a stored form; of the first
+//! kind here, of the second in `history`. `mistakes` has the deliberate ones.
 
 mod device;
+pub mod history;
 pub mod mistakes;
 
 pub use device::{device, sample};
@@ -9,7 +10,8 @@ pub use device::{device, sample};
 use crate::reference::Projector;
 use crate::reference::places::NOT_CLOSED;
 use crate::reference::text::{CR, LF, hex_number};
-use std::io::{self, BufRead, Write};
+use history::History;
+use std::io::{self, BufRead, Cursor, Read, Write};
 
 /// RULES, Places: ".. log drives place 0 only, and a second `O` there still prints `! 5`, by the program's own test."
 pub const PLACE: usize = 0;
@@ -92,25 +94,43 @@ fn told(outcome: Option<Outcome>) -> Vec<u8> {
 }
 
 pub fn replay(form: Option<&[u8]>, log: impl BufRead, out: impl Write) -> io::Result<()> {
-    replay_by(play, form, log, out)
+    replay_by(play, &history::RIGHT, form, log, out)
 }
 
 /// After the last line, power as POWR answers it and the lamp seconds, each after a space. "a form that does not load
 /// gives its number in one line, and nothing else".
-fn replay_by(play: Play, form: Option<&[u8]>, log: impl BufRead, mut out: impl Write) -> io::Result<()> {
+fn replay_by(
+    play: Play,
+    steps: &history::Steps,
+    form: Option<&[u8]>,
+    log: impl BufRead,
+    mut out: impl Write,
+) -> io::Result<()> {
     let mut projector = match device(form) {
         Ok(projector) => projector,
         Err(number) => return refuse(number, out),
     };
-    let mut number = 0u64;
-    each_text(log, |text| {
-        number += 1;
+    let mut tell = |number: u64, outcome| {
         write!(out, "{number} ")?;
-        out.write_all(&told(event(text).map(|event| play(&mut projector, event))))?;
+        out.write_all(&told(outcome))?;
         out.write_all(b"\n")
+    };
+    let (is_history, log) = kind(steps, log)?;
+    let mut history = History::begun(steps, form);
+    let mut number = 0;
+    each_line(log, |line| {
+        if is_history {
+            let played = history.play(&mut projector, line);
+            return played.map_or(Ok(()), |(number, reply)| tell(number, Some(Outcome::Reply(reply))));
+        }
+        number += 1;
+        tell(number, event(text_of(line)).map(|event| play(&mut projector, event)))
     })?;
     let lamps: String = projector.lamps.iter().map(|seconds| format!(" {seconds}")).collect();
     writeln!(out, "power {} lamps{lamps}", char::from(projector.power_digit()))?;
+    if let Some(words) = history.words() {
+        writeln!(out, "{words}")?;
+    }
     out.flush()
 }
 
@@ -119,11 +139,18 @@ pub fn refuse(number: u32, mut out: impl Write) -> io::Result<()> {
     out.flush()
 }
 
-/// "Lines end with LF, the last perhaps without": the text of each in turn.
-pub fn each_text(mut log: impl BufRead, mut each: impl FnMut(&[u8]) -> io::Result<()>) -> io::Result<()> {
+/// Whether a log is a history, and the log from its start on.
+pub fn kind(steps: &history::Steps, mut log: impl BufRead) -> io::Result<(bool, impl BufRead)> {
+    let mut first = Vec::new();
+    log.read_until(LF, &mut first)?;
+    Ok(((steps.is_history)(&first), Cursor::new(first).chain(log)))
+}
+
+/// "Lines end with LF, the last perhaps without": each in turn, with the LF that it has.
+pub fn each_line(mut log: impl BufRead, mut each: impl FnMut(&[u8]) -> io::Result<()>) -> io::Result<()> {
     let mut line = Vec::new();
     while log.read_until(LF, &mut line)? > 0 {
-        each(text_of(&line))?;
+        each(&line)?;
         line.clear();
     }
     Ok(())
@@ -145,12 +172,29 @@ pub fn replayed(log: &[u8]) -> Vec<u8> {
 }
 
 pub fn replayed_on(form: Option<&[u8]>, log: &[u8]) -> Vec<u8> {
-    in_memory(play, form, log)
+    in_memory(play, &history::RIGHT, form, log)
 }
 
-fn in_memory(play: Play, form: Option<&[u8]>, log: &[u8]) -> Vec<u8> {
+/// How `replay` ends that printed this: "1 where .. a form .. failed", "3 where lines were not understood or a call was
+/// refused", or a line does not belong to its history.
+pub fn status(out: &[u8]) -> i32 {
+    let told = |line: &[u8]| line.splitn(2, |&byte| byte == b' ').nth(1).is_some_and(|told| told.starts_with(b"! "));
+    match lines(out).last() {
+        Some(last) if last.starts_with(b"! line ") => 3,
+        Some(last) if last.starts_with(b"! ") => 1,
+        _ if lines(out).any(|line| told(line) || line.ends_with(b" ?\n") && line[0].is_ascii_digit()) => 3,
+        _ => 0,
+    }
+}
+
+/// The same by other steps.
+pub fn replayed_by(steps: &history::Steps, form: Option<&[u8]>, log: &[u8]) -> Vec<u8> {
+    in_memory(play, steps, form, log)
+}
+
+fn in_memory(play: Play, steps: &history::Steps, form: Option<&[u8]>, log: &[u8]) -> Vec<u8> {
     let mut out = Vec::new();
-    replay_by(play, form, log, &mut out).expect("memory takes what is written");
+    replay_by(play, steps, form, log, &mut out).expect("memory takes what is written");
     out
 }
 

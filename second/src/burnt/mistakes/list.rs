@@ -3,9 +3,10 @@
 use super::Wrong::{self, Call, Log, Plays, Prints, Takes, Tells};
 use crate::burnt::{RIGHT, Steps, Stretch, burns, mark};
 use crate::reference::Power;
+use crate::reference::recorded::{self, chain::make};
 use crate::reference::rules::Mistake;
 use crate::reference::text::LF;
-use crate::replay::{Event, device, event, lines, replayed_on, sample, text_of};
+use crate::replay::{Event, device, event, history, lines, replayed_by, replayed_on, sample, text_of};
 use std::mem::replace;
 
 pub const BURNT: &[(&str, Wrong)] = &[
@@ -144,7 +145,61 @@ pub const BURNT: &[(&str, Wrong)] = &[
         }),
     ),
     ("a lamp's seconds pass the limit", Call(Mistake::LampNotStopped)),
+    // RULES, History of a board
+    ("no log is a history", Takes(Steps { history: history::Steps { is_history: |_| false, ..WHOLE }, ..RIGHT })),
+    (
+        "a history's line that was cut is played",
+        Takes(Steps { history: history::Steps { text: |line| Some(text_of(line)), ..WHOLE }, ..RIGHT }),
+    ),
+    (
+        "what follows a line that does not belong is played",
+        Takes(Steps { history: history::Steps { passes_over: |_| true, ..WHOLE }, ..RIGHT }),
+    ),
+    (
+        "a history's sum is that of the sample set-up's form",
+        Takes(Steps { history: history::Steps { begun: |_| history::begun(None), ..WHOLE }, ..RIGHT }),
+    ),
+    ("a gap in a chain is passed over", Call(Mistake::GapPassedOver)),
+    ("of a chain the first file is played alone", Log(first_file)),
+    ("a stated line is not compared", Call(Mistake::StatedNotCompared)),
+    ("a history's line of the fault mark changes nothing", Call(Mistake::FaultLineIgnored)),
+    ("a history numbers lamps from 0", Call(Mistake::LampsRecordedFrom0)),
+    (
+        "a history's calls at place 0 are made alone",
+        Takes(Steps {
+            make: |projector, call| match call {
+                recorded::Call::Received { place: 1.., .. } => Ok(Vec::new()),
+                _ => make(projector, call),
+            },
+            ..RIGHT
+        }),
+    ),
+    ("a history's seconds are not added", Takes(Steps { passed: |_| 0, ..RIGHT })),
+    ("a history's seconds have 16 bits", Takes(Steps { passed: |seconds| seconds & 0xFFFF, ..RIGHT })),
+    (
+        "that a line does not belong is not told",
+        Prints(|out| out.lines().filter(|line| !line.starts_with("! line")).map(|line| format!("{line}\n")).collect()),
+    ),
+    (
+        "nothing else is told where a line does not belong",
+        Prints(|out| match out.lines().last() {
+            Some(words) if words.starts_with("! line") => format!("{words}\n"),
+            _ => out.to_string(),
+        }),
+    ),
 ];
+
+const WHOLE: history::Steps = history::RIGHT;
+
+/// A history up to its second header; a log of the first kind as it is.
+fn first_file(log: &[u8]) -> Vec<u8> {
+    let mut headers = 0;
+    let first = lines(log).take_while(|line| {
+        headers += usize::from(history::is_history(line));
+        headers < 2 || !history::is_history(log)
+    });
+    first.flatten().copied().collect()
+}
 
 /// `replay` takes the same argument, and without it plays on the sample set-up (RULES, Floor log).
 pub const REPLAY: &[(&str, Wrong)] = &[
@@ -160,4 +215,9 @@ pub const REPLAY: &[(&str, Wrong)] = &[
             replayed_on(form, &lines(log).flat_map(read).collect::<Vec<u8>>())
         }),
     ),
+    (
+        "a history's sum is that of the sample set-up's form",
+        Plays(|form, log| replayed_by(&history::Steps { begun: |_| history::begun(None), ..WHOLE }, form, log)),
+    ),
+    ("of a chain the first file is played alone", Plays(|form, log| replayed_on(form, &first_file(log)))),
 ];

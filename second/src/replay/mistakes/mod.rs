@@ -1,11 +1,13 @@
-//! The deliberate mistakes over RULES, Floor log: each is a replay that someone might really ship. Most read a log as
+//! The deliberate mistakes over RULES, Floor log and History of a board: each is a replay that someone might really ship. Most read a log as
 //! if it were another; some play an event in another way, or print something else. `second logs` expects that its logs
 //! show each.
 
+mod histories;
 mod playing;
 mod reading;
 
-use super::{Play, in_memory, replayed};
+use super::history::{self, RIGHT};
+use super::{Play, in_memory, play, replayed};
 use crate::reference::rules::{Mistake, make};
 use reading::each_line;
 
@@ -16,6 +18,8 @@ pub enum Wrong {
     Line(fn(&[u8]) -> Option<Vec<u8>>),
     /// An event is played so.
     Plays(Play),
+    /// A history is played so.
+    PlaysHistory(history::Steps),
     /// A line is printed so, given its number and what is told.
     Prints(fn(u64, &str) -> String),
     /// The output ends so, given what it should be.
@@ -26,7 +30,12 @@ pub enum Wrong {
 
 /// All of them, each with what it gets wrong.
 pub fn all() -> impl Iterator<Item = &'static (&'static str, Wrong)> {
-    reading::READING.iter().chain(playing::PLAYING)
+    reading::READING.iter().chain(playing::PLAYING).chain(histories::HISTORIES)
+}
+
+/// Those over histories.
+pub fn over_histories() -> &'static [(&'static str, Wrong)] {
+    histories::HISTORIES
 }
 
 impl Wrong {
@@ -35,14 +44,14 @@ impl Wrong {
         match *self {
             Wrong::Log(read) => replayed(&read(log)),
             Wrong::Line(read) => replayed(&each_line(log, |line| read(line).unwrap_or(line.to_vec()))),
-            Wrong::Plays(play) => in_memory(play, None, log),
+            Wrong::Plays(play) => in_memory(play, &RIGHT, None, log),
+            Wrong::PlaysHistory(steps) => in_memory(play, &steps, None, log),
             Wrong::Prints(print) => {
-                let out = ascii(replayed(log));
-                let (told, last) = out.trim_end().rsplit_once('\n').unwrap_or(("", &out));
-                let printed = told.lines().filter_map(|line| line.split_once(' '));
-                let printed =
-                    printed.map(|(number, told)| print(number.parse().expect("a line's number"), told) + "\n");
-                (printed.collect::<String>() + last.trim_end() + "\n").into_bytes()
+                let printed = |line: &str| match line.split_once(' ').map(|(number, told)| (number.parse(), told)) {
+                    Some((Ok(number), told)) => print(number, told) + "\n",
+                    _ => line.to_string() + "\n",
+                };
+                ascii(replayed(log)).split_terminator('\n').map(printed).collect::<String>().into_bytes()
             }
             Wrong::Ends(end) => end(&ascii(replayed(log))).into_bytes(),
             Wrong::Call(mistake) => {
