@@ -79,7 +79,6 @@ impl Recorder {
 
     /// For a reader of a history, which keeps the same numbers as its recorder: goes on past a line that was read. The
     /// line is given without its LF, and says the entry.
-    #[tactic(auto, using(crate::proofs::Fits::sum_past_lf))]
     pub fn read_past(&mut self, entry: &Entry<'_>, line: &[u8])
         requires room { cannot_follow self.old (entry_seen entry.now) ≡ false }
         ensures { self.new ≡ read_past self.old (entry_seen entry.now) line.now }

@@ -20,11 +20,11 @@ use Rattle.recorded.proofs.Played.{played_back, replies_back}
 use Rattle.recorded.proofs.Histories.{history_back}
 use Rattle.recorded.proofs.Fronts.{calls_front, recorded_front}
 
-all_said-map : (es : List LogEntry) → all_said (map Some es) ≡ Some es
+pub all_said-map : (es : List LogEntry) → all_said (map Some es) ≡ Some es
 all_said-map [] = refl
 all_said-map (e ∷ es) = ap (option_map (λ (l : List LogEntry). e ∷ l)) (all_said-map es)
 
-plays_as : (d : Device) (cs : List Call) (log : List ℕ) → log_calls log ≡ Some (recorded d cs) → PlaysAs d cs log
+pub plays_as : (d : Device) (cs : List Call) (log : List ℕ) → log_calls log ≡ Some (recorded d cs) → PlaysAs d cs log
 plays_as d cs log e = record {
   calls = e;
   device = ap (λ (o : Option (List LogCall)). o >>= λ ls. played d ls) e ∙ played_back d cs;

@@ -67,16 +67,18 @@ pub fn what_is_written_plays_back(form: &[u8])
 /// What a host records is believed to its end. It makes any calls, on any record, and records each served one; it
 /// begins files and states what the record shows when it likes; and the recorder has refused none of the calls. Then
 /// each line that it wrote belongs, and a reader who began where the host began has its three numbers, its record and
-/// its replies. Cut at any byte, so does a front of the steps.
+/// its replies; and the log plays back as the calls were. Cut at any byte, so does a front of the steps.
 pub fn what_a_host_records_is_believed()
     ensures whole { (r : Recorder) (d : Device) (ss : List (HostStep × ℕ)) → r.lines < 2 ^ 32 → r.sum < 2 ^ 32
         → AreTypedSteps ss → AreKept r d ss
-        → followed r d (lines_ended [] (host_log r d ss)) ≡ Some (host_left r d ss) }
+        → (followed r d (lines_ended [] (host_log r d ss)) ≡ Some (host_left r d ss))
+        × PlaysAs d (step_calls ss) (host_log r d ss) }
     ensures cut { (r : Recorder) (d : Device) (ss : List (HostStep × ℕ)) → r.lines < 2 ^ 32 → r.sum < 2 ^ 32
         → AreTypedSteps ss → AreKept r d ss
         → (n : ℕ)
         → (k : ℕ) × (k ≤ length ss)
-        × (followed r d (lines_ended [] (take n (host_log r d ss))) ≡ Some (host_left r d (take k ss))) }
+        × (followed r d (lines_ended [] (take n (host_log r d ss))) ≡ Some (host_left r d (take k ss)))
+        × PlaysAs d (step_calls (take k ss)) (take n (host_log r d ss)) }
 {}
 
 /// What a reader accepts of a chain, from a form on, is a history of that form that holds for the record: each line
