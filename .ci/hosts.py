@@ -1,4 +1,4 @@
-# The examples with sockets as the gate tries them: built, started on a free port of the loopback address, and talked to.
+# The examples with sockets as the gate tries them: built, started on a free port of 127.0.0.1, and talked to.
 import hashlib
 import os
 import re

@@ -283,7 +283,7 @@ static void take_reserve(void) {
         complain("reserve", strerror(errno));
 }
 
-/* Whether this is the name of a file of a generation, which is told, and so is the file's number, 0 where it has none. */
+/* Whether this is the name of a form or a log. Its generation is told, and a log's number in the chain; 0 of a form. */
 static bool is_ours(const char *name, unsigned *generation, unsigned *file) {
     char again[NAME_ROOM];
     *file = 0;

@@ -33,8 +33,8 @@ enum {
 
 /* Takes up what the folder has, or begins there with the device as it was set up, and leaves in *device what is
    recorded from here on. Places that were open are closed. Ends the program where the folder is not there or another
-   host keeps its log there, where a form does not match its MD5, where a log is damaged, has a gap or does not belong to
-   its form, and where a first form can't be written. */
+   host keeps its log there, where a form does not match its MD5, where a log is damaged, has a gap or does not belong
+   to its form, and where a first form can't be written. */
 void keep_begin(const char *folder, pj_device *device);
 
 /* A call that was served, after it was made and before its reply is sent. Without keep_begin, or where recording has

@@ -140,8 +140,8 @@ static size_t passed_over(size_t place, const uint8_t *bytes, size_t length) {
     return end == NULL ? length : (size_t)(end - bytes);
 }
 
-/* What has come at a place, in whatever cuts: handed on until all is taken, no more at once than the longest line and its
-   CR, which a line of a log can say (PJ_LOG_BYTES). Gives whether there may be more. */
+/* What has come at a place, in whatever cuts: handed on until all is taken, no more at once than the longest line and
+   its CR, which a line of a log can say (PJ_LOG_BYTES). Gives whether there may be more. */
 static bool serve(size_t place) {
     uint8_t bytes[4096], reply[PJ_REPLY_ROOM];
     ssize_t got = recv(peers[place].socket, bytes, sizeof bytes, MSG_DONTWAIT);
