@@ -122,7 +122,7 @@ mod tests {
             ("pj_log_errors", "E !2 !3"),
             ("pj_log_mark", "M !2 !3"),
             ("pj_log_stated", "S !1 !2 !3"),
-            ("pj_log_play", "none !1 !2 !3 !4 OK ERR3 LAMP"),
+            ("pj_log_play", "none !1 !2 !3 !4 OK ERR3"),
             ("logs kept and played", "served"),
         ] {
             for kind in kinds.split(' ') {
@@ -139,7 +139,7 @@ mod tests {
         (0..=12).for_each(|place| assert!(told(place) >= 50, "setting {place} of Class 2: {}", told(place)));
         ["PJLINK 0", "PJLINK 1"].iter().for_each(|greeting| assert!(run.met.times("pj_open", greeting) >= 100));
         assert!(run.met.times("pj_receive", "PJLINK E") >= 100);
-        ["!6", "!7"].iter().for_each(|refused| assert!(run.met.times("pj_log_play", refused) >= 10, "{refused}"));
+        ["!6", "!7", "LAMP"].iter().for_each(|kind| assert!(run.met.times("pj_log_play", kind) >= 5, "{kind}"));
         ["PJLINK 0", "PJLINK 1", "PJLINK E"].iter().for_each(|line| assert!(run.met.times("pj_log_play", line) >= 100));
         assert!(run.met.times("pj_panel_command", "not led") >= 100);
         for kind in ["PJLINK 0", "PJLINK 1", "before the greeting", "malformed or foreign", "not counted any more"] {

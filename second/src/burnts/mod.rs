@@ -100,7 +100,7 @@ impl Case {
 
 fn history_at(at: usize) -> FormAndLog {
     match every_history::ON_SAMPLE.get(at) {
-        Some(log) if at % 2 == 0 => (None, log.clone()),
+        Some(log) if at.is_multiple_of(2) => (None, log.clone()),
         _ => (Some(every_history::form()), every_history::ON_FORM[at].clone()),
     }
 }

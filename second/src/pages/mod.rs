@@ -79,16 +79,16 @@ pub fn compare(program: &Program, seed: u64, count: usize) -> Result<Met, Box<Di
         let expected = expected(case.form(), &case.fed.log);
         let printed = started.printed(&case, number);
         if let Err(words) = fault(&expected, &printed) {
-            return Err(Difference { number, case, words });
+            return Err(Box::new(Difference { number, case, words }));
         }
         match given(&expected, &printed, &mut Random::new(seed.wrapping_add(number as u64))) {
             Ok(given) => met.count(&case, &expected, &given),
-            Err(words) => return Err(Difference { number, case, words: format!("NOT SEEN: {words}") }),
+            Err(words) => return Err(Box::new(Difference { number, case, words: format!("NOT SEEN: {words}") })),
         }
         Ok(())
     });
     met.map(|all| all.into_iter().fold(Met::default(), Met::and)).map_err(|difference| {
-        let Difference { number, case, words } = difference;
+        let Difference { number, case, words } = *difference;
         let case = shrink::smallest(case, TRIES, |case| fault_of(case, number).is_some());
         let words = fault_of(&case, number).unwrap_or(words);
         Box::new(Difference { number, case, words })

@@ -21,7 +21,7 @@ pub fn text(entry: &Entry) -> Option<Vec<u8>> {
     match entry {
         Entry::Header { file: 0, .. } => None,
         Entry::Header { file, sum, time } => {
-            let time = if time.is_empty() { Vec::new() } else { [b" ", &time_of(time)?[..]].concat() };
+            let time = if time.is_empty() { Vec::new() } else { [b" ", time_of(time)?].concat() };
             Some([format!("LOG 2 {file} {}", hex(*sum)).as_bytes(), &time].concat())
         }
         Entry::Stated { lines, sum, shown } => {
