@@ -14,7 +14,7 @@ use Rattle.std.specs.Prelude.{⊤, ℕ, ◌≡◌, Bool, true, false, ◌&&◌, 
 use Rattle.std.specs.Prelude.{if◌then◌else◌, ◌==◌, nat_le, Option, Some, None, is_some, Result, Ok, Err, option_map, map}
 use Rattle.std.specs.Str.{bytes_eq}
 use Rattle.std.specs.Borrow.{Bor}
-use Rattle.std.specs.List.{before_first, after_first, list_any}
+use Rattle.std.specs.List.{before_first, after_first}
 use Prim.Native.Char.{code}
 use Rattle.text.specs.Words.{◌is◌}
 use Rattle.words.specs.Bytes.{◌at◌}
@@ -51,6 +51,7 @@ pub record Reading : Type 0 where
   pub form : Option (List ℕ)
   pub output : Option (List ℕ)
   pub free : List (List ℕ)
+  pub has_dash : Bool
 
 pub data Stopped : Type 0 where
   help : Stopped
@@ -61,7 +62,7 @@ pub data Stopped : Type 0 where
   no_form : Stopped
 
 abbrev pub begun : Reading
-begun = record { next = Any; page = false; form = None; output = None; free = [] }
+begun = record { next = Any; page = false; form = None; output = None; free = []; has_dash = false }
 
 abbrev pub with_form : Reading → List ℕ → Result Reading Stopped
 with_form r name =
@@ -73,8 +74,9 @@ with_output r name =
 
 abbrev pub with_free : Reading → List ℕ → Result Reading Stopped
 with_free r w =
-    if bytes_eq w dash && list_any (λ f. bytes_eq f dash) r.free then Err (twice w)
-    else Ok (record r { free = r.free ++ (w ∷ []) })
+    let is_dash = bytes_eq w dash in
+    if is_dash && r.has_dash then Err (twice w)
+    else Ok (record r { free = r.free ++ (w ∷ []); has_dash = r.has_dash || is_dash })
 
 abbrev pub by_use : Use → Bool → Reading → List ℕ → List ℕ → Result Reading Stopped
 by_use use_case.Help true r w value = Err help
@@ -147,7 +149,7 @@ text_seen t = option_map (λ b. b.now) t
 
 abbrev pub seen_in : ReadingCase → Reading
 seen_in r = record { next = r.next; page = r.page; form = text_seen r.form; output = text_seen r.output;
-    free = map (λ (b : Bor (List ℕ)). b.now) r.free.items }
+    free = map (λ (b : Bor (List ℕ)). b.now) r.free.items; has_dash = r.dash }
 
 abbrev pub StopsBy : {A : Type 0} → Stop → Result A Stopped → Type 0
 StopsBy Help r = r ≡ Err help

@@ -1,8 +1,7 @@
 // The words of a command line.
 ghost use Rattle.std.specs.Prelude.{◌≡◌, map};
-ghost use Rattle.std.specs.Str.{bytes_eq};
-ghost use Rattle.std.specs.List.{before_first, after_first, list_any};
-ghost use Rattle.command.specs.Asked.{use_of, is_equals, is_dashed, dash, asked_by, Asks};
+ghost use Rattle.std.specs.List.{before_first, after_first};
+ghost use Rattle.command.specs.Asked.{use_of, is_equals, is_dashed, asked_by, Asks};
 
 use std::alloc::{AllocError, Global};
 use std::convert::AsStr;
@@ -78,6 +77,8 @@ struct Reading<'a> {
     form: Option<&'a str>,
     output: Option<&'a str>,
     free: Vec<&'a str>,
+    // whether `-` is among these
+    dash: bool,
 }
 
 fn use_of(has_page: bool, name: &str) -> Use
@@ -132,6 +133,7 @@ impl<'a> Reading<'a> {
             form: None,
             output: None,
             free: Vec::new(alloc),
+            dash: false,
         }
     }
 
@@ -157,18 +159,14 @@ impl<'a> Reading<'a> {
         Ok(self)
     }
 
-    fn has_dash(&self) -> bool
-        ensures { result ≡ list_any (λ f. bytes_eq f dash) (seen_in self.now).free }
-    {
-        self.free.iter().any(|word| *word == "-")
-    }
-
     fn with_free(mut self, word: &'a str) -> Result<Reading<'a>, Stop<'a>>
         ensures { GoesOn result (with_free (seen_in self.entry) word.now) }
     {
-        if word == "-" && self.has_dash() {
+        let is_dash = word == "-";
+        if is_dash && self.dash {
             return Err(Stop::Twice(word));
         }
+        self.dash = self.dash || is_dash;
         self.free.push(word).map_err(|_| Stop::NoMemory)?;
         Ok(self)
     }
@@ -256,7 +254,7 @@ impl<'a> Reading<'a> {
 
 /// What the words of a command line ask for, the program's name not among them; `has_page` where the program knows
 /// `--page`. The first word that ends it decides.
-#[tactic(auto, unfolding(crate::specs::Asked::asked_by))]
+#[tactic(auto, unfolding(crate::specs::Asked::asked_by, crate::specs::Asked::read_on))]
 pub fn command_of<'a, S: AsStr>(
     alloc: Global,
     words: &'a [S],
