@@ -148,8 +148,14 @@ abbrev pub text_seen : Option (Bor (List ℕ)) → Option (List ℕ)
 text_seen t = option_map (λ b. b.now) t
 
 abbrev pub seen_in : ReadingCase → Reading
-seen_in r = record { next = r.next; page = r.page; form = text_seen r.form; output = text_seen r.output;
-    free = map (λ (b : Bor (List ℕ)). b.now) r.free.items; has_dash = r.dash }
+seen_in r = record {
+  next = r.next;
+  page = r.page;
+  form = text_seen r.form;
+  output = text_seen r.output;
+  free = map (λ (b : Bor (List ℕ)). b.now) r.free.items;
+  has_dash = r.dash;
+}
 
 abbrev pub StopsBy : {A : Type 0} → Stop → Result A Stopped → Type 0
 StopsBy Help r = r ≡ Err help
@@ -165,8 +171,12 @@ GoesOn (Ok r) s = s ≡ Ok (seen_in r)
 GoesOn (Err why) s = StopsBy why s
 
 abbrev pub asked_seen : Command → Asked
-asked_seen c = record { page = c.page; form = text_seen c.form; output = text_seen c.output;
-    logs = map (λ (b : Bor (List ℕ)). b.now) c.logs.items }
+asked_seen c = record {
+  page = c.page;
+  form = text_seen c.form;
+  output = text_seen c.output;
+  logs = map (λ (b : Bor (List ℕ)). b.now) c.logs.items;
+}
 
 abbrev pub Asks : Result Command Stop → Result Asked Stopped → Type 0
 Asks (Ok c) s = s ≡ Ok (asked_seen c)
