@@ -59,7 +59,7 @@ pub data Stopped : Type 0 where
   unknown : List ℕ → Stopped
   alone : List ℕ → Stopped
   twice : List ℕ → Stopped
-  no_form : Stopped
+  no_form : List ℕ → Stopped
 
 abbrev pub begun : Reading
 begun = record { next = Any; page = false; form = None; output = None; free = []; has_dash = false }
@@ -125,7 +125,7 @@ pub record Asked : Type 0 where
 abbrev pub by_first : Reading → List (List ℕ) → Result Asked Stopped
 by_first r [] = Ok (record { page = r.page; form = None; output = r.output; logs = [] })
 by_first r (w ∷ ws) =
-    if bytes_eq w dash then Err no_form
+    if bytes_eq w dash then Err (no_form w)
     else Ok (record { page = r.page; form = Some w; output = r.output; logs = ws })
 
 abbrev pub by_files : Option (List ℕ) → Reading → Result Asked Stopped
@@ -163,7 +163,7 @@ StopsBy Version r = r ≡ Err version
 StopsBy (Unknown w) r = r ≡ Err (unknown w.now)
 StopsBy (Alone w) r = r ≡ Err (alone w.now)
 StopsBy (Twice w) r = r ≡ Err (twice w.now)
-StopsBy NoForm r = r ≡ Err no_form
+StopsBy (NoForm w) r = r ≡ Err (no_form w.now)
 StopsBy NoMemory r = ⊤
 
 abbrev pub GoesOn : Result ReadingCase Stop → Result Reading Stopped → Type 0

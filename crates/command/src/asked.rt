@@ -19,8 +19,8 @@ pub enum Stop<'a> {
     Alone(&'a str),
     /// It has this word twice.
     Twice(&'a str),
-    /// It has `-`, for standard input, where the form's file is wanted.
-    NoForm,
+    /// It has this word, for standard input, where the form's file is wanted.
+    NoForm(&'a str),
     /// There is no memory for the words.
     NoMemory,
 }
@@ -237,7 +237,7 @@ impl<'a> Reading<'a> {
                 } else {
                     let first = logs.remove(0);
                     if first == "-" {
-                        return Err(Stop::NoForm);
+                        return Err(Stop::NoForm(first));
                     }
                     Some(first)
                 }
