@@ -4,6 +4,7 @@
 pub const VERSION: &str = "11 (rattle-kit-13f logic dac8208d650f15bf)\n";
 
 /// What a program says of itself. Each text ends with LF.
+#[derive(Clone, Copy)]
 pub struct About {
     /// Its name.
     pub name: &'static str,

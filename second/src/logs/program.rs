@@ -19,26 +19,28 @@ impl Program {
     /// What it prints for a log. Without sizes the log comes through a pipe, in reads as large as the program asks for;
     /// with sizes, each read gives one of that size, in turn.
     ///
-    /// A program that fails or leaves bytes unread prints that too.
+    /// A program that ends with another status than 0 or leaves bytes unread prints that too.
     pub fn printed(&self, log: &[u8], reads: &[usize]) -> Vec<u8> {
-        let (mut out, fed) = self.started(log, reads);
+        let (mut out, fed) = self.started(log, reads, 0);
         if let Err(error) = fed {
             out.extend(format!("(not all was read: {error})\n").bytes());
         }
         out
     }
 
-    /// What it prints where it may leave the log unread.
+    /// What it prints where its form does not load: it may leave the log unread, and the status is 1.
     pub fn printed_unread(&self, log: &[u8], reads: &[usize]) -> Vec<u8> {
-        self.started(log, reads).0
+        self.started(log, reads, 1).0
     }
 
-    /// What it prints, and whether the log was read.
-    fn started(&self, log: &[u8], reads: &[usize]) -> (Vec<u8>, io::Result<()>) {
+    /// What it prints, with the status where that is not the one wanted, and whether the log was read.
+    fn started(&self, log: &[u8], reads: &[usize], wanted: i32) -> (Vec<u8>, io::Result<()>) {
         let started = if reads.is_empty() {
-            io::pipe().and_then(|(input, mut feed)| self.run(input.into(), move || feed.write_all(log)))
+            io::pipe().and_then(|(input, mut feed)| self.run(input.into(), wanted, move || feed.write_all(log)))
         } else {
-            UnixDatagram::pair().and_then(|(input, feed)| self.run(input.into(), move || in_reads(&feed, log, reads)))
+            UnixDatagram::pair().and_then(|(input, feed)| {
+                self.run(input.into(), wanted, move || in_reads(&feed, log, reads))
+            })
         };
         started.unwrap_or_else(|error| panic!("{}: {error}", self.0.join(" ")))
     }
@@ -46,6 +48,7 @@ impl Program {
     fn run(
         &self,
         input: OwnedFd,
+        wanted: i32,
         feed: impl FnOnce() -> io::Result<()> + Send,
     ) -> io::Result<(Vec<u8>, io::Result<()>)> {
         let (program, words) = self.0.split_first().expect("a program has a name");
@@ -57,8 +60,10 @@ impl Program {
             read.and(feeding.join().expect("feeding does not panic"))
         });
         let status = child.wait()?;
-        if !status.success() {
+        if status.code() != Some(wanted) {
             out.extend(format!("({status})\n").bytes());
+        }
+        if !status.success() {
             return Ok((out, Ok(())));
         }
         Ok((out, fed))
