@@ -1,5 +1,5 @@
-// Which lamp burnt when (RULES, Floor log and The programs): of a log the stretches of its lamps as they end, and at the
-// end each lamp's seconds; or, with `--page`, one HTML document that shows them.
+// Which lamp burnt when (RULES, Floor log and The programs): of a log the stretches of its lamps as they end, and at
+// the end each lamp's seconds; or, with `--page`, one HTML document that shows them.
 #![tactic(auto)]
 
 mod telling;

@@ -6,16 +6,16 @@
 --   after_word p r w   what the words r and w behind them ask for
 --   read_on p r ws     and the words ws behind them;    begun   before any
 --   ended r            what they ask for where they end
---   Asked              that: whether a page, by which form, into which file, of which logs
+--   AskedFor           that: whether a page, by which form, into which file, of which logs
 --   asked_by p ws      what the words of a command line ask for, the program's name not among them
 --   GoesOn, Asks       the same of what the code has, which may be out of memory too
 -- Assumes nothing.
 use Rattle.std.specs.Prelude.{⊤, ℕ, ◌≡◌, Bool, true, false, ◌&&◌, ◌||◌, List, [], ◌∷◌, ◌++◌, length, codes}
-use Rattle.std.specs.Prelude.{if◌then◌else◌, ◌==◌, nat_le, Option, Some, None, is_some, Result, Ok, Err, option_map, map}
+use Rattle.std.specs.Prelude.{if◌then◌else◌, ◌==◌, nat_le, Option, Some, None, is_some, option_map}
+use Rattle.std.specs.Prelude.{Result, Ok, Err, map}
 use Rattle.std.specs.Str.{bytes_eq}
 use Rattle.std.specs.Borrow.{Bor}
 use Rattle.std.specs.List.{before_first, after_first}
-use Prim.Native.Char.{code}
 use Rattle.text.specs.Words.{◌is◌}
 use Rattle.words.specs.Bytes.{◌at◌}
 use Rattle.command.specs.declared.asked.Use.{Use}
@@ -116,32 +116,32 @@ unfoldable pub read_on : Bool → Reading → List (List ℕ) → Result Reading
 read_on has_page r [] = Ok r
 read_on has_page r (w ∷ ws) = and_then (after_word has_page r w) (λ s. read_on has_page s ws)
 
-pub record Asked : Type 0 where
+pub record AskedFor : Type 0 where
   pub page : Bool
   pub form : Option (List ℕ)
   pub output : Option (List ℕ)
   pub logs : List (List ℕ)
 
-abbrev pub by_first : Reading → List (List ℕ) → Result Asked Stopped
+abbrev pub by_first : Reading → List (List ℕ) → Result AskedFor Stopped
 by_first r [] = Ok (record { page = r.page; form = None; output = r.output; logs = [] })
 by_first r (w ∷ ws) =
     if bytes_eq w dash then Err (no_form w)
     else Ok (record { page = r.page; form = Some w; output = r.output; logs = ws })
 
-abbrev pub by_files : Option (List ℕ) → Reading → Result Asked Stopped
+abbrev pub by_files : Option (List ℕ) → Reading → Result AskedFor Stopped
 by_files (Some name) r = Ok (record { page = r.page; form = Some name; output = r.output; logs = r.free })
 by_files None r = by_first r r.free
 
-abbrev pub by_end : Next → Reading → Result Asked Stopped
+abbrev pub by_end : Next → Reading → Result AskedFor Stopped
 by_end FormName r = Err (alone (codes "--form"))
 by_end OutputName r = Err (alone (codes "--output"))
 by_end Any r = by_files r.form r
 by_end Free r = by_files r.form r
 
-unfoldable pub ended : Reading → Result Asked Stopped
+unfoldable pub ended : Reading → Result AskedFor Stopped
 ended r = by_end r.next r
 
-unfoldable pub asked_by : Bool → List (List ℕ) → Result Asked Stopped
+unfoldable pub asked_by : Bool → List (List ℕ) → Result AskedFor Stopped
 asked_by has_page ws = and_then (read_on has_page begun ws) ended
 
 abbrev pub text_seen : Option (Bor (List ℕ)) → Option (List ℕ)
@@ -170,7 +170,7 @@ abbrev pub GoesOn : Result ReadingCase Stop → Result Reading Stopped → Type 
 GoesOn (Ok r) s = s ≡ Ok (seen_in r)
 GoesOn (Err why) s = StopsBy why s
 
-abbrev pub asked_seen : Command → Asked
+abbrev pub asked_seen : Command → AskedFor
 asked_seen c = record {
   page = c.page;
   form = text_seen c.form;
@@ -178,6 +178,6 @@ asked_seen c = record {
   logs = map (λ (b : Bor (List ℕ)). b.now) c.logs.items;
 }
 
-abbrev pub Asks : Result Command Stop → Result Asked Stopped → Type 0
+abbrev pub Asks : Result Command Stop → Result AskedFor Stopped → Type 0
 Asks (Ok c) s = s ≡ Ok (asked_seen c)
 Asks (Err why) s = StopsBy why s

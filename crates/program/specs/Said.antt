@@ -3,10 +3,19 @@
 --   unwritten_text n cause   that the file n cannot be written
 --   refused_text n c     that the form in the file n does not load, with the number c
 --   endless_text n       that the log n is longer than can be counted
+--   UnbegunSaid ..       what is said of a form in the file n that begins nothing: that it cannot be read, for some cause
+--                        (UnreadSaid), or with which number it does not load
 --   stop_text s usage    why a command line asks for nothing, and how the program is called
 -- Assumes nothing.
 use Rattle.std.specs.Prelude.{ℕ, List, [], ◌∷◌, ◌++◌, codes}
+use Rattle.std.specs.declared.option.Option.{Option}
+use Rattle.std.specs.declared.result.Result.{Result}
+use Rattle.std.specs.declared.io.Error.{Error}
+use Rattle.textio.specs.Fronts.{WritesText}
 use Rattle.textio.specs.Forms.{form_filled}
+use Rattle.stored.specs.Told.{load_error_number}
+use Rattle.formfile.specs.declared.NotBegun.{NotBegun}
+use Rattle.formfile.specs.declared.NotBegun.TheVariants.{Unread, Refused}
 use Rattle.reasons.specs.Reasons.{number_text}
 use Rattle.command.specs.declared.asked.Stop.{Stop}
 use Rattle.command.specs.declared.asked.Stop.TheVariants.{Help, Version, Unknown, Alone, Twice, NoForm, NoMemory}
@@ -34,3 +43,13 @@ stop_text (Alone w) usage = with_usage w.now (codes ": a file's name is missing 
 stop_text (Twice w) usage = with_usage w.now (codes ": given twice") usage
 stop_text (NoForm w) usage = with_usage w.now (codes ": a form is a file") usage
 stop_text NoMemory usage = []
+
+pub record UnreadSaid (fails : Error → Type 0) (old new : Option (List ℕ)) (said : Result (Unit {0}) Error) (n : List ℕ)
+    : Type 0 where
+  pub cause : List ℕ
+  pub words : WritesText fails old new said (unread_text n cause)
+
+abbrev pub UnbegunSaid : (Error → Type 0) → Option (List ℕ) → Option (List ℕ) → Result (Unit {0}) Error → List ℕ
+    → NotBegun → Type 0
+UnbegunSaid fails old new said n (Unread e) = UnreadSaid fails old new said n
+UnbegunSaid fails old new said n (Refused e) = WritesText fails old new said (refused_text n (load_error_number e))

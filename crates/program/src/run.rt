@@ -1,5 +1,6 @@
 // A command line answered.
 ghost use Rattle.std.specs.Prelude.{◌≡◌};
+ghost use Rattle.program.specs.Said.{UnbegunSaid};
 ghost use Rattle.program.specs.declared.status.Status.TheVariants as Status;
 
 use crate::about::About;
@@ -153,32 +154,33 @@ fn tell_saved<P: Telling, O: Outside, E: ByteSink>(
     }
 }
 
-// What is told of a form that begins nothing: its words on standard error, and on standard output its line, but for a
-// page and where the output goes into a file.
+// What is told of a form that begins nothing: its words on standard error, and how that went; and, if it is asked for,
+// its line in the place of an output.
 fn unbegun<W: ByteSink, E: ByteSink>(
     why: NotBegun,
-    command: &Command<'_>,
+    name: &str,
+    lined: bool,
     to: &mut W,
     errors: &mut E,
-) -> Status
-    ensures { result ≡ Status.Failed }
+) -> (Status, io::Result<()>)
+    ensures status { result.0 ≡ Status.Failed }
+    ensures said { UnbegunSaid E.fails_with (E.contents errors.old) (E.contents errors.new) result.1 name.now why }
 {
-    let name = command.form.unwrap_or("-");
-    let bare = !command.page && command.output.is_none();
     match why {
         NotBegun::Unread(error) => {
-            let status = unread(name, &error, errors);
-            if bare {
+            let said = said::say_unread(errors, name, said::cause(&error));
+            if lined {
                 let _told = cut::end_output(Err(Failure::Read(error)), to).is_ok();
             }
-            status
+            (Status::Failed, said)
         }
         NotBegun::Refused(error) => {
-            let _said = said::say_refused(errors, name, error.number()).is_ok();
-            if bare {
-                let _told = cut::tell_number(to, error.number()).is_ok();
+            let number = error.number();
+            let said = said::say_refused(errors, name, number);
+            if lined {
+                let _told = cut::tell_number(to, number).is_ok();
             }
-            Status::Failed
+            (Status::Failed, said)
         }
     }
 }
@@ -200,7 +202,14 @@ fn tell<P: Telling, O: Outside, W: ByteSink, E: ByteSink>(
 ) -> Status {
     let begun = match begin_by(outside, alloc, command.form) {
         Ok(begun) => begun,
-        Err(why) => return unbegun(why, command, to, errors),
+        Err(why) => {
+            // no page stands for a form that begins nothing, and no file
+            let lined = !command.page && command.output.is_none();
+            let name = command.form.unwrap_or("-");
+            let (status, said) = unbegun(why, name, lined, to, errors);
+            let _said = said.is_ok();
+            return status;
+        }
     };
     let log = Joined::new(outside, command.logs.as_slice());
     match command.output {

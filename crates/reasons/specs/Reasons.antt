@@ -1,5 +1,6 @@
 -- The numbers that calls give, in words (RULES, The numbers a call gives).
---   number_text n    what the number n says: of 0 that the call is served, of 13 to 19 and above 23 that no call gives it
+--   number_text n    what the number n says: of 0 that the call is served, of 13 to 19 and above 23 that no call gives
+--                    it
 -- Assumes nothing.
 use Rattle.std.specs.Prelude.{ℕ, List, codes, if◌then◌else◌, ◌==◌}
 

@@ -1,5 +1,5 @@
-// The floor log played back (RULES, Floor log and The programs): what its lines are answered, and at the end the line of
-// power and lamps, from the sample set-up or from that of a stored form.
+// The floor log played back (RULES, Floor log and The programs): what its lines are answered, and at the end the line
+// of power and lamps, from the sample set-up or from that of a stored form.
 #![tactic(auto)]
 
 use formfile::Begun;

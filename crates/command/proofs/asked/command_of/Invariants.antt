@@ -1,4 +1,4 @@
-use Rattle.std.proofs.Common.{◌≡◌, ℕ, length, map}
+use Rattle.std.proofs.Common.{◌≡◌, length, map}
 use Rattle.command.specs.Asked.{seen_in, begun, read_on}
 use Rattle.command.proofs.asked.command_of.Given as loop
 
