@@ -58,24 +58,16 @@ pub fn all() -> Vec<Work> {
     add("pj_log_received, one byte", || receiving(b"%".to_vec()));
     add("pj_log_received, whole query %1LAMP ?", || receiving(b"%1LAMP ?\r".to_vec()));
     add("pj_log_received, 2,046 bytes", || receiving(vec![0; 2046]));
-    add("pj_log_passed, n = 1", || {
-        recording(|log, out| unsafe { pj_log_passed(log, 1, out.as_mut_ptr(), out.len()) })
-    });
+    add("pj_log_passed, n = 1", || recording(|log, out| unsafe { pj_log_passed(log, 1, out.as_mut_ptr(), out.len()) }));
     add("pj_log_passed, n = 4,294,967,295", || {
         recording(|log, out| unsafe { pj_log_passed(log, u32::MAX, out.as_mut_ptr(), out.len()) })
     });
-    add("pj_log_closed", || {
-        recording(|log, out| unsafe { pj_log_closed(log, PLACE, out.as_mut_ptr(), out.len()) })
-    });
-    add("pj_log_fault", || {
-        recording(|log, out| unsafe { pj_log_fault(log, true, out.as_mut_ptr(), out.len()) })
-    });
+    add("pj_log_closed", || recording(|log, out| unsafe { pj_log_closed(log, PLACE, out.as_mut_ptr(), out.len()) }));
+    add("pj_log_fault", || recording(|log, out| unsafe { pj_log_fault(log, true, out.as_mut_ptr(), out.len()) }));
     add("pj_log_errors", || {
         recording(|log, out| unsafe { pj_log_errors(log, DIGITS.as_ptr(), 6, out.as_mut_ptr(), out.len()) })
     });
-    add("pj_log_mark", || {
-        recording(|log, out| unsafe { pj_log_mark(log, 1, false, out.as_mut_ptr(), out.len()) })
-    });
+    add("pj_log_mark", || recording(|log, out| unsafe { pj_log_mark(log, 1, false, out.as_mut_ptr(), out.len()) }));
     add("pj_log_stated, 8 lamps", stating);
     add("pj_log_play, R 0 %1LAMP ?, 8 lamps", playing);
     all

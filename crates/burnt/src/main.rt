@@ -1,48 +1,65 @@
-// Which lamp burnt when (RULES, Floor log): a log on standard input, on standard output the stretches of its lamps as
-// they end, and at the end each lamp's seconds; or, with `--page`, one HTML document that shows them. The device is the
-// sample set-up, or that of the stored form in the file that the next argument names.
+// Which lamp burnt when (RULES, Floor log and The programs): of a log the stretches of its lamps as they end, and at
+// the end each lamp's seconds; or, with `--page`, one HTML document that shows them.
 #![tactic(auto)]
 
 mod telling;
 #[cfg(test)]
 mod tests;
 
-use floorlog::cut;
-use record::types::Device;
-use std::{env, io};
+use formfile::Begun;
+use program::about::About;
+use program::outside::System;
+use program::run;
+use program::telling::{Ending, Telling};
+use std::process::ExitCode;
 use textio::lines::Failure;
-use textio::reader::Reader;
-use textio::streams::Stream;
-use textio::writer;
-use textio::writer::Writer;
+use textio::reader::{ByteSource, Reader};
+use textio::writer::ByteSink;
 
-// Whether the first argument asks for the page.
-fn is_page(rt: &HostRuntime) -> bool {
-    match env::args(rt) {
-        Ok(mut all) => match all.nth(1) {
-            Some(word) => word.as_str() == "--page",
-            None => false,
-        },
-        Err(_) => false,
+const USAGE: &str = "usage: burnt [--page] [-o FILE] [--form FORM] [FORM] [LOG..]\n";
+
+const HELP: &str = "
+Tells which lamp burnt when: writes each stretch of a lamp as it ends, in
+seconds since the log began, and at the end each lamp's seconds.
+
+      --page             write one HTML document that shows them
+  FORM                   the stored form that the log begins with; without
+                         one it begins with the sample set-up
+  LOG..                  the files of the log, in their order; - is standard
+                         input, which is read where none is named
+      --form FORM        the form; all other words are then files of the log
+  -o, --output FILE      write into FILE, which is replaced only when all
+                         is written
+      --                 what follows is no option
+  -h, --help             write this
+  -V, --version          write the version
+
+Status: 0 where all was read and written, 1 where a file failed or a form
+does not load, 2 where the words above are not kept to, 3 where a line of
+the log does not belong to it.
+";
+
+struct Burnt;
+
+impl Telling for Burnt {
+    fn tell<R: ByteSource, W: ByteSink>(
+        &self,
+        begun: Begun,
+        page: bool,
+        from: &mut Reader<R>,
+        to: &mut W,
+    ) -> Result<Ending, Failure> {
+        telling::tell_log(begun.device, page, from, to)?;
+        Ok(Ending::Whole)
     }
 }
 
-fn show(rt: &HostRuntime, device: Device, drawn: bool) -> io::Result<()> {
-    let mut from = Reader::new(Stream(rt.stdin()));
-    let mut to = Writer::new(Stream(rt.stdout()));
-    let told = telling::tell_log(device, drawn, &mut from, &mut to);
-    cut::end_output(told, &mut to)
-}
-
-fn main(rt: HostRuntime) {
-    let drawn = is_page(&rt);
-    let told = match formfile::begun_by(&rt, if drawn { 2 } else { 1 }) {
-        Ok(device) => show(&rt, device, drawn),
-        Err(why) => formfile::tell(why, &mut Stream(rt.stdout())),
+fn main(rt: HostRuntime) -> ExitCode {
+    let about = About {
+        name: "burnt",
+        usage: USAGE,
+        help: HELP,
+        has_page: true,
     };
-    if let Err(error) = told {
-        // more output would hide what is missing
-        let line = cut::last_line(&Failure::Write(error));
-        let _told = writer::put(&mut Stream(rt.stderr()), line);
-    }
+    ExitCode::from(run::on_system(&rt, &Burnt, &about).code())
 }

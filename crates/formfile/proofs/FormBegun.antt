@@ -10,6 +10,9 @@ use Rattle.stored.specs.Told.{loading_told}
 use Rattle.stored.proofs.Results.{accepted_legal}
 use Rattle.stored.proofs.Fields.{Bytes}
 use Rattle.stored.proofs.FormWithin.{loaded_from-take}
+use Rattle.crc32.specs.Crc.{crc32_of}
+use Rattle.stored.specs.declared.error.LoadError.{LoadError}
+use Rattle.formfile.specs.declared.Begun.{Begun}
 use Rattle.formfile.specs.Begun.{form_room, IsBegunBy, IsReadBy}
 use Rattle.formfile.specs.declared.NotBegun.{NotBegun}
 use Rattle.formfile.specs.declared.NotBegun.TheVariants.{Unread, Refused}
@@ -19,24 +22,25 @@ loaded_is_legal bytes d e =
     ap (λ (g : Given Device). is_legal g.device) e
     ∙ accepted_legal bytes (sym (ap (λ (g : Given Device). g.number) e))
 
-begun_alike : (s t : List ℕ) (r : Result Device NotBegun) → loaded_from s ≡ loaded_from t → IsBegunBy s r
-    → IsBegunBy t r
-begun_alike s t (Ok d) e h = sym e ∙ h
-begun_alike s t (Err (Unread x)) e h = h
-begun_alike s t (Err (Refused x)) e h = sym e ∙ h
-
 -- as many bytes as no form has say what all of it says
-pub begun_by_front : (s form : List ℕ) (r : Result Device NotBegun) → Bytes s → IsBegunBy s r → s ≡ take form_room form
-    → IsBegunBy form r
-begun_by_front s form r b h e = begun_alike s form r (ap loaded_from e ∙ loaded_from-take form (subst Bytes e b)) h
+fronts_alike : (s form : List ℕ) → Bytes s → s ≡ take form_room form → loaded_from form ≡ loaded_from s
+fronts_alike s form bytes h = sym (ap loaded_from h ∙ loaded_from-take form (subst Bytes h bytes))
 
-read_by : (form : List ℕ) (r : Result Device NotBegun) → IsBegunBy form r → IsReadBy form r
-read_by form (Ok d) h = h
+pub begun_by_front : (s form : List ℕ) (d : Device) (sum : ℕ) → Bytes s → loading_told (Ok d) ≡ loaded_from s
+    → sum ≡ crc32_of s → s ≡ take form_room form → IsBegunBy form (Ok (record { device = d; sum = sum }))
+begun_by_front s form d sum bytes e m h = (fronts_alike s form bytes h ∙ sym e, m ∙ ap crc32_of h)
+
+pub refused_by_front : (s form : List ℕ) (why : LoadError) → Bytes s → loading_told (Err why) ≡ loaded_from s
+    → s ≡ take form_room form → IsBegunBy form (Err (Refused why))
+refused_by_front s form why bytes e h = fronts_alike s form bytes h ∙ sym e
+
+read_by : (form : List ℕ) (r : Result Begun NotBegun) → IsBegunBy form r → IsReadBy form r
+read_by form (Ok b) h = h
 read_by form (Err (Unread e)) h = tt
 read_by form (Err (Refused e)) h = h
 
 -- what was read of a form after nothing, up to the limit
-pub begun_by_known : (given known : Option (List ℕ)) (limit : ℕ) (none s : List ℕ) (r : Result Device NotBegun)
+pub begun_by_known : (given known : Option (List ℕ)) (limit : ℕ) (none s : List ℕ) (r : Result Begun NotBegun)
     → given ≡ known → limit ≡ form_room → none ≡ [] → IfSome (option_map (take limit) given) (λ xs. s ≡ none ++ xs)
     → ((form : List ℕ) → s ≡ take form_room form → IsBegunBy form r) → IfSome known (λ form. IsReadBy form r)
 begun_by_known given known limit none s r same most empty read by =

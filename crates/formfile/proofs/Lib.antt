@@ -1,1 +1,2 @@
 pub mod FormBegun
+pub mod FormSum

@@ -1,38 +1,34 @@
 -- What a log can begin with, whatever an argument names and whatever a file holds (RULES, Floor log and Stored form).
 --   IsBegun r         a legal record, or why there is none
 --   form_room         so many bytes are read at most, one more than any form has
---   IsBegunBy form r  r is what loading gives of these bytes
+--   IsBegunBy form r  r is what loading gives of these bytes, and the sum of what is read of them (RULES, History of a
+--                     board: "the first file's header has that of the stored form")
 --   IsReadBy form r   the same, or they could not be read
---   unbegun_text why  what is told where there is none: that it cannot be read, or with which number it does not load
 -- Assumes nothing.
-use Rattle.std.specs.Prelude.{ℕ, List, ◌≡◌, true, Result, Ok, Err, codes}
+use Rattle.std.specs.Prelude.{ℕ, List, ◌≡◌, take, true, Result, Ok, Err}
+use Rattle.crc32.specs.Crc.{crc32_of}
 use Rattle.record.specs.Record.{blank}
 use Rattle.record.specs.Given.{acceptance_of, refusal_with}
 use Rattle.record.specs.Legal.{is_legal}
-use Rattle.record.specs.declared.types.Device.{Device}
 use Rattle.stored.specs.Loading.{loaded_from}
 use Rattle.stored.specs.Told.{load_error_number}
-use Rattle.floorlog.specs.Cuts.{number_line}
+use Rattle.formfile.specs.declared.Begun.{Begun}
 use Rattle.formfile.specs.declared.NotBegun.{NotBegun}
 use Rattle.formfile.specs.declared.NotBegun.TheVariants.{Unread, Refused}
 
-abbrev pub IsBegun : Result Device NotBegun → Type 0
-IsBegun (Ok d) = is_legal d ≡ true
+abbrev pub IsBegun : Result Begun NotBegun → Type 0
+IsBegun (Ok b) = is_legal b.device ≡ true
 IsBegun (Err why) = Unit {0}
 
 abbrev pub form_room : ℕ
 form_room = 68867
 
-abbrev pub IsBegunBy : List ℕ → Result Device NotBegun → Type 0
-IsBegunBy form (Ok d) = loaded_from form ≡ acceptance_of d
+abbrev pub IsBegunBy : List ℕ → Result Begun NotBegun → Type 0
+IsBegunBy form (Ok b) = (loaded_from form ≡ acceptance_of b.device) × (b.sum ≡ crc32_of (take form_room form))
 IsBegunBy form (Err (Unread e)) = ⊥
 IsBegunBy form (Err (Refused e)) = loaded_from form ≡ refusal_with (load_error_number e) blank
 
-abbrev pub IsReadBy : List ℕ → Result Device NotBegun → Type 0
-IsReadBy form (Ok d) = IsBegunBy form (Ok d)
+abbrev pub IsReadBy : List ℕ → Result Begun NotBegun → Type 0
+IsReadBy form (Ok b) = IsBegunBy form (Ok b)
 IsReadBy form (Err (Unread e)) = Unit {0}
 IsReadBy form (Err (Refused e)) = IsBegunBy form (Err (Refused e))
-
-abbrev pub unbegun_text : NotBegun → List ℕ
-unbegun_text (Unread e) = codes "! read failed\n"
-unbegun_text (Refused e) = number_line (load_error_number e)

@@ -1,31 +1,43 @@
-// The device that a log begins with: the sample set-up, or the one of a stored form (RULES, Stored form) in a file that
-// an argument names.
+// The device that a log begins with, and the sum that its history begins with (RULES, History of a board): the sample
+// set-up, or those of a stored form (RULES, Stored form) in a file.
 #![tactic(auto)]
 
-ghost use Rattle.std.specs.Prelude.{[], ◌≡◌, ℕ, List, take, OnOk, IfSome};
-ghost use Rattle.textio.specs.Fronts.{WritesText};
-ghost use Rattle.formfile.specs.Begun.{IsBegun, form_room, IsBegunBy, IsReadBy, unbegun_text};
+ghost use Rattle.std.specs.Prelude.{◌≡◌, ℕ, List, take, IfSome, true};
+ghost use Rattle.record.specs.Legal.{is_legal};
+ghost use Rattle.record.specs.declared.types.Device.{Device};
+ghost use Rattle.crc32.specs.Crc.{crc32_of};
+ghost use Rattle.stored.specs.Form.{stored_form};
+ghost use Rattle.floorlog.specs.Playing.{sample_device};
+ghost use Rattle.formfile.specs.Begun.{IsBegun, form_room, IsBegunBy, IsReadBy};
 
-use floorlog::cut;
+use crc32::crc32;
 use record::types::Device;
 use std::alloc::Global;
 use std::fs::File;
-use std::io::{Error, Read, Write};
-use std::{env, io};
+use std::io::{Error, Read};
 use stored::error::LoadError;
-use stored::loading;
-use text::numbered::Numbered;
-use textio::lines::Failure;
-use textio::writer::ByteSink;
+use stored::{loading, storing};
 
 // A byte more than the longest form that its counts, a byte each, can ask for, legal or not: a file that fills this has
 // bytes left over.
 const ROOM: u64 = 68867;
 
+// No form of a record is longer.
+const FORM_MOST: usize = 4504;
+
+/// What a log begins with.
+#[derive(Drop)]
+pub struct Begun {
+    /// The record.
+    pub device: Device,
+    /// The CRC-32 of its form.
+    pub sum: u32,
+}
+
 /// Why there is no device to begin with.
 #[derive(Drop)]
 pub enum NotBegun {
-    /// The file could not be read to its end.
+    /// The form could not be read to its end.
     Unread(Error),
     /// The form does not load.
     Refused(LoadError),
@@ -41,17 +53,46 @@ impl From<Error> for NotBegun {
     }
 }
 
+// The sum of the form that is stored of a legal record.
+fn form_sum(device: &Device) -> u32
+    requires { is_legal device.now ≡ true }
+    ensures { result ≡ crc32_of (stored_form device.now) }
+{
+    let mut form = [0u8; FORM_MOST];
+    match storing::store(device, &mut form) {
+        Ok(length) => crc32(&form[..length]),
+        Err(_) => 0,
+    }
+}
+
+/// The sample set-up, and the sum of the form that is stored of it.
+pub fn sample() -> Begun
+    ensures device { result.device ≡ sample_device }
+    ensures legal { is_legal result.device ≡ true }
+    ensures sum { result.sum ≡ crc32_of (stored_form sample_device) }
+{
+    let device = floorlog::sample();
+    let sum = form_sum(&device);
+    Begun { device, sum }
+}
+
 // By as many bytes of a form as are read.
 #[tactic(auto, using(crate::proofs::FormBegun::loaded_is_legal))]
-fn loaded(bytes: &[u8]) -> Result<Device, NotBegun>
+fn loaded(bytes: &[u8]) -> Result<Begun, NotBegun>
     ensures begun { IsBegun result }
     ensures by_form { (form : List ℕ) → bytes.now ≡ take form_room form → IsBegunBy form result }
 {
-    loading::load(bytes).map_err(NotBegun::Refused)
+    match loading::load(bytes) {
+        Ok(device) => Ok(Begun {
+            device,
+            sum: crc32(bytes),
+        }),
+        Err(error) => Err(NotBegun::Refused(error)),
+    }
 }
 
-// By what a reader has left.
-fn read_from<R: Read + Drop>(mut from: R, alloc: Global) -> Result<Device, NotBegun>
+/// By what a reader of a form has left. An error of the reader is given, whatever had come before it.
+pub fn read_from<R: Read + Drop>(mut from: R, alloc: Global) -> Result<Begun, NotBegun>
     ensures begun { IsBegun result }
     ensures by_form { IfSome (R.remaining from) (λ form. IsReadBy form result) }
 {
@@ -63,41 +104,12 @@ fn read_from<R: Read + Drop>(mut from: R, alloc: Global) -> Result<Device, NotBe
     loaded(&bytes)
 }
 
-fn of_file(rt: &HostRuntime, path: &str) -> Result<Device, NotBegun>
+/// By the form in the file with that name; without one the sample set-up.
+pub fn begin_by(rt: &HostRuntime, name: Option<&str>) -> Result<Begun, NotBegun>
     ensures { IsBegun result }
 {
-    read_from(File::open(rt, path)?, rt.alloc())
-}
-
-fn by_argument(rt: &HostRuntime, place: usize) -> Result<Device, NotBegun>
-    ensures { IsBegun result }
-{
-    match env::args(rt)?.nth(place) {
-        None => Ok(floorlog::sample()),
-        Some(path) => of_file(rt, path.as_str()),
-    }
-}
-
-/// By the argument with that place, where there is one: a legal record, or why there is none. What cannot be read is
-/// told on standard error.
-pub fn begun_by(rt: &HostRuntime, place: usize) -> Result<Device, NotBegun>
-    ensures { IsBegun result }
-{
-    let begun = by_argument(rt, place);
-    if let Err(NotBegun::Unread(error)) = &begun {
-        let _told = eprintln!(rt; "form: {error}").is_ok();
-    }
-    begun
-}
-
-/// What is told in the place of what a log comes to, and all that waits is handed on: that the form cannot be read, or
-/// the number with which it does not load.
-pub fn tell<W: ByteSink>(why: NotBegun, to: &mut W) -> io::Result<()>
-    ensures text { WritesText W.fails_with (W.contents to.old) (W.contents to.new) result (unbegun_text why) }
-    ensures none_waits { OnOk result (W.waiting to.new ≡ []) }
-{
-    match why {
-        NotBegun::Unread(error) => cut::end_output(Err(Failure::Read(error)), to),
-        NotBegun::Refused(error) => cut::tell_number(to, error.number()),
+    match name {
+        None => Ok(sample()),
+        Some(name) => read_from(File::open(rt, name)?, rt.alloc()),
     }
 }

@@ -1,32 +1,60 @@
-// The floor log played back (RULES, Floor log): a log on standard input, what its lines are answered on standard
-// output, from the sample set-up or from that of the stored form in the file that an argument names. Where a read
-// fails, the last line says so, and there is no line of power and lamps; where a write fails, standard error says so.
+// The floor log played back (RULES, Floor log and The programs): what its lines are answered, and at the end the line
+// of power and lamps, from the sample set-up or from that of a stored form.
 #![tactic(auto)]
 
-use floorlog::cut;
-use record::types::Device;
-use std::io;
+use formfile::Begun;
+use program::about::About;
+use program::outside::System;
+use program::run;
+use program::telling::{Ending, Telling};
+use std::process::ExitCode;
 use textio::lines::Failure;
-use textio::reader::Reader;
-use textio::streams::Stream;
-use textio::writer;
-use textio::writer::Writer;
+use textio::reader::{ByteSource, Reader};
+use textio::writer::ByteSink;
 
-fn play(rt: &HostRuntime, device: Device) -> io::Result<()> {
-    let mut from = Reader::new(Stream(rt.stdin()));
-    let mut to = Writer::new(Stream(rt.stdout()));
-    let played = floorlog::replay(device, &mut from, &mut to);
-    cut::end_output(played.map(|_| ()), &mut to)
+const USAGE: &str = "usage: replay [-o FILE] [--form FORM] [FORM] [LOG..]\n";
+
+const HELP: &str = "
+Plays a log back: writes for each line its number and the reply, and at the
+end the power and each lamp's seconds.
+
+  FORM                   the stored form that the log begins with; without
+                         one it begins with the sample set-up
+  LOG..                  the files of the log, in their order; - is standard
+                         input, which is read where none is named
+      --form FORM        the form; all other words are then files of the log
+  -o, --output FILE      write into FILE, which is replaced only when all
+                         is written
+      --                 what follows is no option
+  -h, --help             write this
+  -V, --version          write the version
+
+Status: 0 where all was read and written, 1 where a file failed or a form
+does not load, 2 where the words above are not kept to, 3 where a line of
+the log does not belong to it.
+";
+
+struct Replay;
+
+impl Telling for Replay {
+    fn tell<R: ByteSource, W: ByteSink>(
+        &self,
+        begun: Begun,
+        _page: bool,
+        from: &mut Reader<R>,
+        to: &mut W,
+    ) -> Result<Ending, Failure> {
+        let _player = floorlog::replay(begun.device, from, to)?;
+        Ok(Ending::Whole)
+    }
 }
 
-fn main(rt: HostRuntime) {
-    let told = match formfile::begun_by(&rt, 1) {
-        Ok(device) => play(&rt, device),
-        Err(why) => formfile::tell(why, &mut Stream(rt.stdout())),
+fn main(rt: HostRuntime) -> ExitCode {
+    let about = About {
+        name: "replay",
+        usage: USAGE,
+        help: HELP,
+        has_page: false,
     };
-    if let Err(error) = told {
-        // more output would hide what is missing
-        let line = cut::last_line(&Failure::Write(error));
-        let _told = writer::put(&mut Stream(rt.stderr()), line);
-    }
+    ExitCode::from(run::on_system(&rt, &Replay, &about).code())
 }

@@ -79,7 +79,6 @@ fn burnt_by(steps: &Steps, form: Option<&[u8]>, log: impl BufRead, mut out: impl
 struct Followed<'a> {
     watch: Watch<'a>,
     stray: Option<String>,
-    served: bool,
 }
 
 /// Tells each stretch as soon as it has ended, and after the log those of lamps that burn there. Beside the lamps what is
@@ -92,22 +91,20 @@ fn follow<'a>(
 ) -> io::Result<Followed<'a>> {
     let (is_history, log) = kind(&watch.steps.history, log)?;
     let mut history = History::begun(&watch.steps.history, form);
-    let mut served = true;
     each_line(log, |line| {
         let text = text_of(line);
         if is_history {
             history.play(&mut watch, line);
-            served = history.stray.is_none();
         } else if let Some((lamp, enabled)) = (watch.steps.mark)(text) {
             // "a mark call that is refused, changes nothing"
-            served &= (watch.steps.set_mark)(&mut watch.projector, lamp, enabled).is_ok();
-        } else {
-            served &= event(text).is_some_and(|event| watch.play(event));
+            let _ = (watch.steps.set_mark)(&mut watch.projector, lamp, enabled);
+        } else if let Some(event) = event(text) {
+            watch.play(event);
         }
         tell(&watch.ended())
     })?;
     tell(&watch.last())?;
-    Ok(Followed { watch, stray: history.words(), served })
+    Ok(Followed { watch, stray: history.words() })
 }
 
 /// "`lamp 1 from 0 to 2400`", in the order of the lamps, and at once.
@@ -132,8 +129,6 @@ pub struct Told {
     pub seconds: u128,
     /// What is said of a line that does not belong to its history.
     pub stray: Option<String>,
-    /// Whether every line was of a form, and every call served.
-    pub served: bool,
 }
 
 /// What is told of a log in memory, or the number of a form that does not load.
@@ -143,14 +138,14 @@ pub fn told(form: Option<&[u8]>, log: &[u8]) -> Result<Told, u32> {
         stretches.extend(ended);
         Ok(())
     });
-    let Followed { watch, stray, served } = watch.expect("memory is read");
-    Ok(Told { stretches, lamps: watch.sums().collect(), seconds: watch.second, stray, served })
+    let Followed { watch, stray } = watch.expect("memory is read");
+    Ok(Told { stretches, lamps: watch.sums().collect(), seconds: watch.second, stray })
 }
 
 /// How `burnt` ends, by the words that `replay::status` has.
 pub fn status(form: Option<&[u8]>, log: &[u8]) -> i32 {
     match told(form, log) {
-        Ok(told) if told.served => 0,
+        Ok(told) if told.stray.is_none() => 0,
         Ok(_) => 3,
         Err(_) => 1,
     }

@@ -5,7 +5,7 @@ use super::Steps;
 use crate::reference::recorded::{Call, Why};
 use crate::reference::{Power, Projector};
 use crate::replay::history::Player;
-use crate::replay::{Event, Outcome, play};
+use crate::replay::{Event, play};
 
 /// From one second since the log began up to another, which is not in it. It has at least one second.
 #[derive(Clone, Copy, PartialEq, Eq, Debug)]
@@ -68,13 +68,11 @@ impl Watch<'_> {
         Watch { steps, projector, second: 0, lamps }
     }
 
-    /// Whether it is served.
-    pub fn play(&mut self, event: Event) -> bool {
+    pub fn play(&mut self, event: Event) {
         match event {
             Event::Pass(seconds) => self.pass(seconds),
-            _ => return matches!(play(&mut self.projector, event), Outcome::Reply(_)),
+            _ => drop(play(&mut self.projector, event)),
         }
-        true
     }
 
     /// Part by part, so that the power is the same in all seconds of a part.

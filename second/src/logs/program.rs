@@ -19,7 +19,7 @@ impl Program {
     /// What it prints for a log. Without sizes the log comes through a pipe, in reads as large as the program asks for;
     /// with sizes, each read gives one of that size, in turn.
     ///
-    /// A program that fails or leaves bytes unread prints that too. It may end with this status, or with 0.
+    /// A program that ends with another status than this or leaves bytes unread prints that too.
     pub fn printed(&self, log: &[u8], reads: &[usize], due: i32) -> Vec<u8> {
         let (mut out, fed) = self.started(log, reads, due);
         if let Err(error) = fed {
@@ -33,7 +33,7 @@ impl Program {
         self.started(log, reads, due).0
     }
 
-    /// What it prints, and whether the log was read.
+    /// What it prints, with the status where that is not the one due, and whether the log was read.
     fn started(&self, log: &[u8], reads: &[usize], due: i32) -> (Vec<u8>, io::Result<()>) {
         let started = if reads.is_empty() {
             io::pipe().and_then(|(input, mut feed)| self.run(input.into(), due, move || feed.write_all(log)))
@@ -59,8 +59,10 @@ impl Program {
             read.and(feeding.join().expect("feeding does not panic"))
         });
         let status = child.wait()?;
-        if !status.success() && status.code() != Some(due) {
+        if status.code() != Some(due) {
             out.extend(format!("({status})\n").bytes());
+        }
+        if !status.success() {
             return Ok((out, Ok(())));
         }
         Ok((out, fed))

@@ -42,8 +42,8 @@ pub fn fault(expected: &Expected, printed: &[u8]) -> Result<(), String> {
             let text = str::from_utf8(printed).map_err(|error| format!("it is no text: {error}"))?;
             shows::shows(&read::read(text)?, drawn)
         }
-        Err(number) if printed == format!("! {number}\n").as_bytes() => Ok(()),
-        Err(number) => Err(format!("the form does not load: ! {number}")),
+        Err(_) if printed.is_empty() => Ok(()),
+        Err(number) => Err(format!("the form does not load ({number}), and something is written")),
     }
 }
 

@@ -175,14 +175,12 @@ pub fn replayed_on(form: Option<&[u8]>, log: &[u8]) -> Vec<u8> {
     in_memory(play, &history::RIGHT, form, log)
 }
 
-/// How `replay` ends that printed this: "1 where .. a form .. failed", "3 where lines were not understood or a call was
-/// refused", or a line does not belong to its history.
+/// How `replay` ends that printed this: 1 where a read or a form failed, 3 where "a line does not belong to the log that
+/// it stands in".
 pub fn status(out: &[u8]) -> i32 {
-    let told = |line: &[u8]| line.splitn(2, |&byte| byte == b' ').nth(1).is_some_and(|told| told.starts_with(b"! "));
     match lines(out).last() {
         Some(last) if last.starts_with(b"! line ") => 3,
         Some(last) if last.starts_with(b"! ") => 1,
-        _ if lines(out).any(|line| told(line) || line.ends_with(b" ?\n") && line[0].is_ascii_digit()) => 3,
         _ => 0,
     }
 }

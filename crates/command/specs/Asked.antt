@@ -1,0 +1,183 @@
+-- The words of a command line (RULES, The programs).
+--   use_of p name      what a name with `-` asks for, of a program that knows `--page` or does not
+--   is_dashed w        the word begins with `-`, and is not that alone
+--   Reading            the words read so far: which word comes next, what they asked for, and those that are files
+--   Stopped            why a command line asks for no log
+--   after_word p r w   what the words r and w behind them ask for
+--   read_on p r ws     and the words ws behind them;    begun   before any
+--   ended r            what they ask for where they end
+--   AskedFor           that: whether a page, by which form, into which file, of which logs
+--   asked_by p ws      what the words of a command line ask for, the program's name not among them
+--   GoesOn, Asks       the same of what the code has, which may be out of memory too
+-- Assumes nothing.
+use Rattle.std.specs.Prelude.{⊤, ℕ, ◌≡◌, Bool, true, false, ◌&&◌, ◌||◌, List, [], ◌∷◌, ◌++◌, length, codes}
+use Rattle.std.specs.Prelude.{if◌then◌else◌, ◌==◌, nat_le, Option, Some, None, is_some, option_map}
+use Rattle.std.specs.Prelude.{Result, Ok, Err, map}
+use Rattle.std.specs.Str.{bytes_eq}
+use Rattle.std.specs.Borrow.{Bor}
+use Rattle.std.specs.List.{before_first, after_first}
+use Rattle.text.specs.Words.{◌is◌}
+use Rattle.words.specs.Bytes.{◌at◌}
+use Rattle.command.specs.declared.asked.Use.{Use}
+use Rattle.command.specs.declared.asked.Use.TheVariants as use_case
+use Rattle.command.specs.declared.asked.Next.{Next}
+use Rattle.command.specs.declared.asked.Next.TheVariants.{Any, FormName, OutputName, Free}
+use Rattle.command.specs.declared.asked.Stop.{Stop}
+use Rattle.command.specs.declared.asked.Stop.TheVariants.{Help, Version, Unknown, Alone, Twice, NoForm, NoMemory}
+use Rattle.command.specs.declared.asked.Reading.{Reading as ReadingCase}
+use Rattle.command.specs.declared.asked.Command.{Command}
+
+abbrev pub use_of : Bool → List ℕ → Use
+use_of has_page w =
+    if bytes_eq w (codes "-h") || bytes_eq w (codes "--help") then use_case.Help
+    else if bytes_eq w (codes "-V") || bytes_eq w (codes "--version") then use_case.Version
+    else if has_page && bytes_eq w (codes "--page") then use_case.Page
+    else if bytes_eq w (codes "--form") then use_case.Form
+    else if bytes_eq w (codes "-o") || bytes_eq w (codes "--output") then use_case.Output
+    else use_case.Unknown
+
+abbrev pub dash : List ℕ
+dash = codes "-"
+
+abbrev pub is_dashed : List ℕ → Bool
+is_dashed w = nat_le 2 (length w) && w at 0 is "-"
+
+abbrev pub is_equals : ℕ → Bool
+is_equals b = b is "="
+
+pub record Reading : Type 0 where
+  pub next : Next
+  pub page : Bool
+  pub form : Option (List ℕ)
+  pub output : Option (List ℕ)
+  pub free : List (List ℕ)
+  pub has_dash : Bool
+
+pub data Stopped : Type 0 where
+  help : Stopped
+  version : Stopped
+  unknown : List ℕ → Stopped
+  alone : List ℕ → Stopped
+  twice : List ℕ → Stopped
+  no_form : List ℕ → Stopped
+
+abbrev pub begun : Reading
+begun = record { next = Any; page = false; form = None; output = None; free = []; has_dash = false }
+
+abbrev pub with_form : Reading → List ℕ → Result Reading Stopped
+with_form r name =
+    if is_some r.form then Err (twice (codes "--form")) else Ok (record r { next = Any; form = Some name })
+
+abbrev pub with_output : Reading → List ℕ → Result Reading Stopped
+with_output r name =
+    if is_some r.output then Err (twice (codes "--output")) else Ok (record r { next = Any; output = Some name })
+
+abbrev pub with_free : Reading → List ℕ → Result Reading Stopped
+with_free r w =
+    let is_dash = bytes_eq w dash in
+    if is_dash && r.has_dash then Err (twice w)
+    else Ok (record r { free = r.free ++ (w ∷ []); has_dash = r.has_dash || is_dash })
+
+abbrev pub by_use : Use → Bool → Reading → List ℕ → List ℕ → Result Reading Stopped
+by_use use_case.Help true r w value = Err help
+by_use use_case.Help false r w value = Err (unknown w)
+by_use use_case.Version true r w value = Err version
+by_use use_case.Version false r w value = Err (unknown w)
+by_use use_case.Page true r w value = Ok (record r { page = true })
+by_use use_case.Page false r w value = Err (unknown w)
+by_use use_case.Form true r w value = Ok (record r { next = FormName })
+by_use use_case.Form false r w value = with_form r value
+by_use use_case.Output true r w value = Ok (record r { next = OutputName })
+by_use use_case.Output false r w value = with_output r value
+by_use use_case.Unknown whole r w value = Err (unknown w)
+
+abbrev pub by_option : Bool → Reading → List ℕ → Result Reading Stopped
+by_option has_page r w =
+    let name = before_first is_equals w in
+    by_use (use_of has_page name) (length name == length w) r w (after_first is_equals w)
+
+abbrev pub by_next : Next → Bool → Reading → List ℕ → Result Reading Stopped
+by_next FormName has_page r w = with_form r w
+by_next OutputName has_page r w = with_output r w
+by_next Free has_page r w = with_free r w
+by_next Any has_page r w =
+    if bytes_eq w (codes "--") then Ok (record r { next = Free })
+    else if is_dashed w then by_option has_page r w
+    else with_free r w
+
+unfoldable pub after_word : Bool → Reading → List ℕ → Result Reading Stopped
+after_word has_page r w = by_next r.next has_page r w
+
+abbrev pub and_then : {A B : Type 0} → Result A Stopped → (A → Result B Stopped) → Result B Stopped
+and_then (Ok a) f = f a
+and_then (Err why) f = Err why
+
+unfoldable pub read_on : Bool → Reading → List (List ℕ) → Result Reading Stopped
+read_on has_page r [] = Ok r
+read_on has_page r (w ∷ ws) = and_then (after_word has_page r w) (λ s. read_on has_page s ws)
+
+pub record AskedFor : Type 0 where
+  pub page : Bool
+  pub form : Option (List ℕ)
+  pub output : Option (List ℕ)
+  pub logs : List (List ℕ)
+
+abbrev pub by_first : Reading → List (List ℕ) → Result AskedFor Stopped
+by_first r [] = Ok (record { page = r.page; form = None; output = r.output; logs = [] })
+by_first r (w ∷ ws) =
+    if bytes_eq w dash then Err (no_form w)
+    else Ok (record { page = r.page; form = Some w; output = r.output; logs = ws })
+
+abbrev pub by_files : Option (List ℕ) → Reading → Result AskedFor Stopped
+by_files (Some name) r = Ok (record { page = r.page; form = Some name; output = r.output; logs = r.free })
+by_files None r = by_first r r.free
+
+abbrev pub by_end : Next → Reading → Result AskedFor Stopped
+by_end FormName r = Err (alone (codes "--form"))
+by_end OutputName r = Err (alone (codes "--output"))
+by_end Any r = by_files r.form r
+by_end Free r = by_files r.form r
+
+unfoldable pub ended : Reading → Result AskedFor Stopped
+ended r = by_end r.next r
+
+unfoldable pub asked_by : Bool → List (List ℕ) → Result AskedFor Stopped
+asked_by has_page ws = and_then (read_on has_page begun ws) ended
+
+abbrev pub text_seen : Option (Bor (List ℕ)) → Option (List ℕ)
+text_seen t = option_map (λ b. b.now) t
+
+abbrev pub seen_in : ReadingCase → Reading
+seen_in r = record {
+  next = r.next;
+  page = r.page;
+  form = text_seen r.form;
+  output = text_seen r.output;
+  free = map (λ (b : Bor (List ℕ)). b.now) r.free.items;
+  has_dash = r.dash;
+}
+
+abbrev pub StopsBy : {A : Type 0} → Stop → Result A Stopped → Type 0
+StopsBy Help r = r ≡ Err help
+StopsBy Version r = r ≡ Err version
+StopsBy (Unknown w) r = r ≡ Err (unknown w.now)
+StopsBy (Alone w) r = r ≡ Err (alone w.now)
+StopsBy (Twice w) r = r ≡ Err (twice w.now)
+StopsBy (NoForm w) r = r ≡ Err (no_form w.now)
+StopsBy NoMemory r = ⊤
+
+abbrev pub GoesOn : Result ReadingCase Stop → Result Reading Stopped → Type 0
+GoesOn (Ok r) s = s ≡ Ok (seen_in r)
+GoesOn (Err why) s = StopsBy why s
+
+abbrev pub asked_seen : Command → AskedFor
+asked_seen c = record {
+  page = c.page;
+  form = text_seen c.form;
+  output = text_seen c.output;
+  logs = map (λ (b : Bor (List ℕ)). b.now) c.logs.items;
+}
+
+abbrev pub Asks : Result Command Stop → Result AskedFor Stopped → Type 0
+Asks (Ok c) s = s ≡ Ok (asked_seen c)
+Asks (Err why) s = StopsBy why s

@@ -1,0 +1,272 @@
+// The words of a command line.
+ghost use Rattle.std.specs.Prelude.{◌≡◌, map};
+ghost use Rattle.std.specs.List.{before_first, after_first};
+ghost use Rattle.command.specs.Asked.{use_of, is_equals, is_dashed, asked_by, Asks};
+
+use std::alloc::{AllocError, Global};
+use std::convert::AsStr;
+
+/// Why a command line asks for no log.
+#[derive(Clone, Copy)]
+pub enum Stop<'a> {
+    /// It asks for the help.
+    Help,
+    /// It asks for the version.
+    Version,
+    /// The program knows no such word.
+    Unknown(&'a str),
+    /// It ends where a file's name is wanted after this word.
+    Alone(&'a str),
+    /// It has this word twice.
+    Twice(&'a str),
+    /// It has this word, for standard input, where the form's file is wanted.
+    NoForm(&'a str),
+    /// There is no memory for the words.
+    NoMemory,
+}
+
+impl From<AllocError> for Stop<'_> {
+    ghost use Rattle.command.specs.declared.asked.Stop.TheVariants.{NoMemory};
+
+    ghost from_gives = { λ _ s. s ≡ NoMemory };
+
+    fn from(_error: AllocError) -> Self {
+        Stop::NoMemory
+    }
+}
+
+// What the word that is read next is.
+#[derive(Clone, Copy)]
+enum Next {
+    Any,
+    FormName,
+    OutputName,
+    // no option comes any more
+    Free,
+}
+
+// What a name that begins with `-` asks for.
+#[derive(Clone, Copy)]
+enum Use {
+    Help,
+    Version,
+    Page,
+    Form,
+    Output,
+    Unknown,
+}
+
+/// What a command line asks for.
+#[derive(Drop)]
+pub struct Command<'a> {
+    /// Whether for a page.
+    pub page: bool,
+    /// The file of the stored form that the log begins with; none for the sample set-up.
+    pub form: Option<&'a str>,
+    /// The file that the output goes into; none for standard output.
+    pub output: Option<&'a str>,
+    /// The files of the log in their order, `-` for standard input; none for standard input alone.
+    pub logs: Vec<&'a str>,
+}
+
+// The words read so far.
+#[derive(Drop)]
+struct Reading<'a> {
+    next: Next,
+    page: bool,
+    form: Option<&'a str>,
+    output: Option<&'a str>,
+    free: Vec<&'a str>,
+    // whether `-` is among these
+    dash: bool,
+}
+
+fn use_of(has_page: bool, name: &str) -> Use
+    ensures { result ≡ use_of has_page name.now }
+{
+    if name == "-h" || name == "--help" {
+        return Use::Help;
+    }
+    if name == "-V" || name == "--version" {
+        return Use::Version;
+    }
+    if has_page && name == "--page" {
+        return Use::Page;
+    }
+    if name == "--form" {
+        return Use::Form;
+    }
+    if name == "-o" || name == "--output" {
+        return Use::Output;
+    }
+    Use::Unknown
+}
+
+// Whether a word is an option: it begins with `-`, and is not that alone.
+fn is_dashed(word: &str) -> bool
+    ensures { result ≡ is_dashed word.now }
+{
+    match word.as_bytes() {
+        [b'-', _, ..] => true,
+        _ => false,
+    }
+}
+
+// What stands before the first `=`, and what after it.
+fn cut(word: &str) -> (&str, &str)
+    ensures before { result.0.now ≡ before_first is_equals word.now }
+    ensures after { result.1.now ≡ after_first is_equals word.now }
+{
+    word.split_once('=').unwrap_or((word, ""))
+}
+
+impl<'a> Reading<'a> {
+    ghost use Rattle.command.specs.Asked.{seen_in, GoesOn, with_form, with_output, with_free, by_option, after_word};
+    ghost use Rattle.command.specs.Asked.{begun, ended, read_on};
+
+    fn new(alloc: Global) -> Reading<'a>
+        ensures { seen_in result ≡ begun }
+    {
+        Reading {
+            next: Next::Any,
+            page: false,
+            form: None,
+            output: None,
+            free: Vec::new(alloc),
+            dash: false,
+        }
+    }
+
+    fn with_form(mut self, name: &'a str) -> Result<Reading<'a>, Stop<'a>>
+        ensures { GoesOn result (with_form (seen_in self.entry) name.now) }
+    {
+        if self.form.is_some() {
+            return Err(Stop::Twice("--form"));
+        }
+        self.form = Some(name);
+        self.next = Next::Any;
+        Ok(self)
+    }
+
+    fn with_output(mut self, name: &'a str) -> Result<Reading<'a>, Stop<'a>>
+        ensures { GoesOn result (with_output (seen_in self.entry) name.now) }
+    {
+        if self.output.is_some() {
+            return Err(Stop::Twice("--output"));
+        }
+        self.output = Some(name);
+        self.next = Next::Any;
+        Ok(self)
+    }
+
+    fn with_free(mut self, word: &'a str) -> Result<Reading<'a>, Stop<'a>>
+        ensures { GoesOn result (with_free (seen_in self.entry) word.now) }
+    {
+        let is_dash = word == "-";
+        if is_dash && self.dash {
+            return Err(Stop::Twice(word));
+        }
+        self.dash = self.dash || is_dash;
+        self.free.push(word).map_err(|_| Stop::NoMemory)?;
+        Ok(self)
+    }
+
+    fn by_option(mut self, has_page: bool, word: &'a str) -> Result<Reading<'a>, Stop<'a>>
+        ensures { GoesOn result (by_option has_page (seen_in self.entry) word.now) }
+    {
+        let (name, value) = cut(word);
+        let is_alone = name.len() == word.len();
+        match (use_of(has_page, name), is_alone) {
+            (Use::Help, true) => Err(Stop::Help),
+            (Use::Version, true) => Err(Stop::Version),
+            (Use::Page, true) => {
+                self.page = true;
+                Ok(self)
+            }
+            (Use::Form, true) => {
+                self.next = Next::FormName;
+                Ok(self)
+            }
+            (Use::Form, false) => self.with_form(value),
+            (Use::Output, true) => {
+                self.next = Next::OutputName;
+                Ok(self)
+            }
+            (Use::Output, false) => self.with_output(value),
+            _ => Err(Stop::Unknown(word)),
+        }
+    }
+
+    #[tactic(auto, unfolding(crate::specs::Asked::after_word))]
+    fn after_word(mut self, has_page: bool, word: &'a str) -> Result<Reading<'a>, Stop<'a>>
+        ensures { GoesOn result (after_word has_page (seen_in self.entry) word.now) }
+    {
+        match self.next {
+            Next::FormName => self.with_form(word),
+            Next::OutputName => self.with_output(word),
+            Next::Free => self.with_free(word),
+            Next::Any => {
+                if word == "--" {
+                    self.next = Next::Free;
+                    return Ok(self);
+                }
+                if is_dashed(word) {
+                    return self.by_option(has_page, word);
+                }
+                self.with_free(word)
+            }
+        }
+    }
+
+    // What they ask for where they end.
+    #[tactic(auto, unfolding(crate::specs::Asked::ended))]
+    fn end(self) -> Result<Command<'a>, Stop<'a>>
+        ensures { Asks result (ended (seen_in self.entry)) }
+    {
+        match self.next {
+            Next::FormName => return Err(Stop::Alone("--form")),
+            Next::OutputName => return Err(Stop::Alone("--output")),
+            _ => {}
+        }
+        let (page, output, mut logs) = (self.page, self.output, self.free);
+        let form = match self.form {
+            Some(name) => Some(name),
+            None => {
+                if logs.is_empty() {
+                    None
+                } else {
+                    let first = logs.remove(0);
+                    if first == "-" {
+                        return Err(Stop::NoForm(first));
+                    }
+                    Some(first)
+                }
+            }
+        };
+        Ok(Command {
+            page,
+            form,
+            output,
+            logs,
+        })
+    }
+}
+
+/// What the words of a command line ask for, the program's name not among them; `has_page` where the program knows
+/// `--page`. The first word that ends it decides.
+#[tactic(auto, unfolding(crate::specs::Asked::asked_by, crate::specs::Asked::read_on))]
+pub fn command_of<'a, S: AsStr>(
+    alloc: Global,
+    words: &'a [S],
+    has_page: bool,
+) -> Result<Command<'a>, Stop<'a>>
+    ensures { Asks result (asked_by has_page (map S.text words.now)) }
+{
+    let mut reading = Reading::new(alloc);
+    let mut left = words;
+    while let [word, later @ ..] = left {
+        reading = reading.after_word(has_page, word.as_str())?;
+        left = later;
+    }
+    reading.end()
+}

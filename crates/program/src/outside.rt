@@ -1,0 +1,196 @@
+// The files that a program reads and writes.
+ghost use Rattle.std.specs.Prelude.{[], None, ⊤};
+
+use crate::joined::Opens;
+use std::fs::File;
+use std::io::{Error, ErrorKind, Read, Stdin};
+use std::{fs, io};
+use textio::streams::Stream;
+use textio::writer::{ByteSink, Writer};
+
+/// What a program reaches beside its two output streams.
+pub trait Outside: Opens {
+    /// What is read of a form.
+    type Form: Read + Drop;
+    /// What is written of an output's file.
+    type Sink: ByteSink;
+
+    /// Opens the file of a form.
+    fn open_form(&self, name: &str) -> io::Result<Self::Form>;
+
+    /// Begins an output's file beside the file with that name, which stays as it is.
+    fn create(&self, name: &str) -> io::Result<Self::Sink>;
+
+    /// Puts what was written in the place of the file that it belongs to.
+    fn keep(&self, sink: Self::Sink) -> io::Result<()>;
+
+    /// Takes away what was written.
+    fn discard(&self, sink: Self::Sink);
+}
+
+/// The files of the system.
+#[derive(Clone, Copy)]
+pub struct System<'a>(pub &'a HostRuntime);
+
+/// Standard input, or a file of a log.
+#[derive(Drop)]
+pub enum Input {
+    /// Standard input.
+    Standard(Stdin),
+    /// A file.
+    File(File),
+}
+
+impl Read for Input {
+    fn read(&mut self, buf: &mut [u8]) -> io::Result<usize> {
+        match self {
+            Input::Standard(stdin) => stdin.read(buf),
+            Input::File(file) => file.read(buf),
+        }
+    }
+}
+
+impl Opens for System<'_> {
+    type Source = Input;
+
+    fn open_log(&self, name: &str) -> io::Result<Input> {
+        if name == "-" {
+            return Ok(Input::Standard(self.0.stdin()));
+        }
+        Ok(Input::File(File::open(self.0, name)?))
+    }
+}
+
+/// An output's file that is being written.
+#[derive(Drop)]
+pub struct Saved {
+    to: Writer<Stream<File>>,
+    // another handle of it
+    file: File,
+    // where it is written
+    written: String,
+    // where it goes; none where it is written straight into what is no plain file
+    place: Option<String>,
+}
+
+impl ByteSink for Saved {
+    ghost contents = { λ _. None };
+
+    ghost waiting = { λ _. [] };
+
+    ghost fails_with = { λ _. ⊤ };
+
+    fn write(&mut self, buf: &[u8]) -> io::Result<usize> {
+        self.to.write(buf)
+    }
+
+    fn flush(&mut self) -> io::Result<()> {
+        self.to.flush()
+    }
+}
+
+// So many names are tried for a file beside another.
+const TRIES: u32 = 1000;
+
+impl System<'_> {
+    // A file that is there is replaced where it lies, and not a link to it; what is no plain file, as a device or a
+    // pipe, is written straight into.
+    fn place_of(&self, name: &str) -> io::Result<Option<String>> {
+        let alloc = self.0.alloc();
+        match fs::metadata(self.0, name) {
+            Ok(found) => {
+                if found.is_dir() {
+                    return Err(Error::from(ErrorKind::IsADirectory));
+                }
+                if !found.is_file() {
+                    return Ok(None);
+                }
+                let place = fs::canonicalize(self.0, name)?;
+                Ok(Some(String::from_str(alloc, place.as_str())?))
+            }
+            Err(_) => Ok(Some(String::from_str(alloc, name)?)),
+        }
+    }
+
+    // A file that was not there, beside that place.
+    fn create_beside(&self, place: &str) -> io::Result<(File, String)> {
+        for number in 0..TRIES {
+            let name = format!(in self.0.alloc(); "{place}.{number}.part")?;
+            match File::create_new(self.0, name.as_str()) {
+                Ok(file) => return Ok((file, name)),
+                Err(error) if error.kind() == ErrorKind::AlreadyExists => {}
+                Err(error) => return Err(error),
+            }
+        }
+        Err(Error::from(ErrorKind::AlreadyExists))
+    }
+
+    fn open_part(&self, name: &str) -> io::Result<(File, String, Option<String>)> {
+        match self.place_of(name)? {
+            Some(place) => {
+                let (file, written) = self.create_beside(place.as_str())?;
+                Ok((file, written, Some(place)))
+            }
+            None => {
+                let written = String::from_str(self.0.alloc(), name)?;
+                let file = File::options().write(true).open(self.0, name)?;
+                Ok((file, written, None))
+            }
+        }
+    }
+
+    // The file at that place keeps its mode; the folder is told of the new name.
+    fn replace(&self, file: &File, written: &str, place: &str) -> io::Result<()> {
+        if let Ok(found) = fs::metadata(self.0, place) {
+            file.set_permissions(found.permissions())?;
+        }
+        file.sync_all()?;
+        fs::rename(self.0, written, place)
+    }
+
+    fn remove(&self, written: &str) {
+        let _removed = fs::remove_file(self.0, written).is_ok();
+    }
+}
+
+impl Outside for System<'_> {
+    type Form = File;
+
+    type Sink = Saved;
+
+    fn open_form(&self, name: &str) -> io::Result<File> {
+        File::open(self.0, name)
+    }
+
+    fn create(&self, name: &str) -> io::Result<Saved> {
+        let (file, written, place) = self.open_part(name)?;
+        let to = Writer::new(Stream(file.try_clone()?));
+        Ok(Saved {
+            to,
+            file,
+            written,
+            place,
+        })
+    }
+
+    fn keep(&self, mut sink: Saved) -> io::Result<()> {
+        let flushed = sink.to.flush();
+        let Some(place) = &sink.place else {
+            return flushed;
+        };
+        let kept = match flushed {
+            Ok(()) => self.replace(&sink.file, sink.written.as_str(), place.as_str()),
+            Err(error) => Err(error),
+        };
+        if kept.is_err() {
+            self.remove(sink.written.as_str());
+        }
+        kept
+    }
+
+    fn discard(&self, sink: Saved) {
+        if sink.place.is_some() {
+            self.remove(sink.written.as_str());
+        }
+    }
+}

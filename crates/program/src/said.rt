@@ -1,0 +1,100 @@
+// The words on standard error. Where a write fails, a front of them is there.
+ghost use Rattle.std.specs.Prelude.{◌++◌};
+ghost use Rattle.textio.specs.Fronts.{WritesText};
+ghost use Rattle.program.specs.Said.{unread_text, unwritten_text, refused_text, endless_text, stop_text};
+
+use command::asked::Stop;
+use reasons::number_text;
+use std::io;
+use std::io::{Error, ErrorKind};
+use textio::forms::fill;
+use textio::writer::{ByteSink, put};
+
+/// Why a read or a write failed: a colon, a space and words, or nothing where the system says no more.
+pub fn cause(error: &Error) -> &'static str {
+    match error.kind() {
+        ErrorKind::NotFound => ": no such file",
+        ErrorKind::PermissionDenied => ": no permission",
+        ErrorKind::IsADirectory => ": it is a folder",
+        ErrorKind::NotADirectory => ": its path goes through a file",
+        ErrorKind::StorageFull => ": no space is left",
+        ErrorKind::QuotaExceeded => ": no more space is granted",
+        ErrorKind::FileTooLarge => ": the file is too large",
+        ErrorKind::ReadOnlyFilesystem => ": the file system takes no writes",
+        ErrorKind::BrokenPipe => ": nobody reads it any more",
+        ErrorKind::WouldBlock => ": no bytes are there yet",
+        ErrorKind::InvalidFilename => ": no name of a file",
+        ErrorKind::FilesystemLoop => ": its links go in a circle",
+        ErrorKind::OutOfMemory => ": out of memory",
+        _ => "",
+    }
+}
+
+// Four texts, one after the other.
+fn put_four<E: ByteSink>(
+    to: &mut E,
+    first: &str,
+    second: &str,
+    third: &str,
+    last: &str,
+) -> io::Result<()>
+    ensures { WritesText E.fails_with (E.contents to.old) (E.contents to.new) result
+        (first.now ++ (second.now ++ (third.now ++ last.now))) }
+{
+    put(to, first.as_bytes())?;
+    put(to, second.as_bytes())?;
+    put(to, third.as_bytes())?;
+    put(to, last.as_bytes())
+}
+
+/// That a file cannot be read.
+pub fn say_unread<E: ByteSink>(to: &mut E, name: &str, cause: &str) -> io::Result<()>
+    ensures { WritesText E.fails_with (E.contents to.old) (E.contents to.new) result
+        (unread_text name.now cause.now) }
+{
+    put_four(to, name, ": cannot be read", cause, "\n")
+}
+
+/// That a file, or standard output, cannot be written.
+pub fn say_unwritten<E: ByteSink>(to: &mut E, name: &str, cause: &str) -> io::Result<()>
+    ensures { WritesText E.fails_with (E.contents to.old) (E.contents to.new) result
+        (unwritten_text name.now cause.now) }
+{
+    put_four(to, name, ": cannot be written", cause, "\n")
+}
+
+/// That a log is longer than can be counted.
+pub fn say_endless<E: ByteSink>(to: &mut E, name: &str) -> io::Result<()>
+    ensures { WritesText E.fails_with (E.contents to.old) (E.contents to.new) result (endless_text name.now) }
+{
+    put_four(
+        to,
+        name,
+        ": more lines, bytes or seconds",
+        " than can be counted",
+        "\n",
+    )
+}
+
+/// That the form in a file does not load, with the number that says why.
+pub fn say_refused<E: ByteSink>(to: &mut E, name: &str, number: u32) -> io::Result<()>
+    ensures { WritesText E.fails_with (E.contents to.old) (E.contents to.new) result
+        (refused_text name.now number) }
+{
+    put_four(to, name, ": ", number_text(number), " (")?;
+    fill(to, "#)\n", &[number as u64])
+}
+
+/// Why a command line asks for nothing, and in a second line how the program is called; nothing of the help, of
+/// the version and where there is no memory.
+pub fn say_stop<E: ByteSink>(to: &mut E, stop: &Stop<'_>, usage: &str) -> io::Result<()>
+    ensures { WritesText E.fails_with (E.contents to.old) (E.contents to.new) result (stop_text stop.now usage.now) }
+{
+    match stop {
+        Stop::Help | Stop::Version | Stop::NoMemory => put(to, b""),
+        Stop::Unknown(word) => put_four(to, word, ": no such option", "\n", usage),
+        Stop::Alone(word) => put_four(to, word, ": a file's name is missing after it", "\n", usage),
+        Stop::Twice(word) => put_four(to, word, ": given twice", "\n", usage),
+        Stop::NoForm(word) => put_four(to, word, ": a form is a file", "\n", usage),
+    }
+}

@@ -1,0 +1,26 @@
+-- The numbers that calls give, in words (RULES, The numbers a call gives).
+--   number_text n    what the number n says: of 0 that the call is served, of 13 to 19 and above 23 that no call gives
+--                    it
+-- Assumes nothing.
+use Rattle.std.specs.Prelude.{ℕ, List, codes, if◌then◌else◌, ◌==◌}
+
+abbrev pub number_text : ℕ → List ℕ
+number_text n =
+    if n == 0 then codes "served"
+    else if n == 1 then codes "not a legal record"
+    else if n == 2 then codes "the lent memory is too small"
+    else if n == 3 then codes "an argument is out of its range"
+    else if n == 4 then codes "the connection at that place is closed"
+    else if n == 5 then codes "place 0 is not closed"
+    else if n == 6 then codes "no place is closed"
+    else if n == 7 then codes "the power is not off"
+    else if n == 8 then codes "a password of 1 to 7 characters"
+    else if n == 9 then codes "no greeting yet, or a command under way"
+    else if n == 10 then codes "no greeting, or no reply of the command's class"
+    else if n == 11 then codes "a reply to another command"
+    else if n == 12 then codes "a reply with a parameter that is not allowed there"
+    else if n == 20 then codes "not a stored form of a version that this program knows"
+    else if n == 21 then codes "a stored form that is cut short"
+    else if n == 22 then codes "bytes are left over after the stored form"
+    else if n == 23 then codes "a stored form with contents that no set-up has"
+    else codes "a number that no call gives"
