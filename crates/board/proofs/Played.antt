@@ -1,7 +1,7 @@
 -- A line whose call is not made leaves the log as it was; and what stands over the front of the lent memory, put back
 -- there, stands over the memory.
 -- Assumes nothing.
-use Rattle.std.proofs.Common.{ℕ, ◌≡◌, ◌≤◌, List, ◌++◌, length, take, drop, sym, ap, ◌∙◌, Result, Err, arith}
+use Rattle.std.proofs.Common.{ℕ, ◌≡◌, ◌≤◌, List, ◌++◌, length, take, drop, sym, ap, ◌∙◌, Err, arith}
 use Rattle.std.proofs.Common.{length-append, length-take-le, append-nil}
 use Rattle.std.proofs.lemmas.List.{drop_all, drop-append-le, take-append-drop, length-drop, append_assoc}
 use Rattle.std.proofs.Math.Seq.{sets}

@@ -1,29 +1,27 @@
 -- Of a session: its own bytes get what receiving gives, and those of another are refused. It begins with its opening,
 -- lasts until its connection is closed, and comes back by no call but an opening with its number.
 -- Assumes nothing.
-use Rattle.std.proofs.Common.{arith, ℕ, ◌+◌, ◌≤◌, ◌<◌, ◌≡◌, refl, sym, ap, subst, ◌∙◌, Bool, true, false, not, ◌&&◌}
-use Rattle.std.proofs.Common.{List, [], ◌∷◌, length, inl, inr, ◌⊎◌, ⊎_elim, ◌==◌, eqb-true, eq-eqb, if◌then◌else◌, ne_eqb}
-use Rattle.std.proofs.lemmas.Bool.{eqb-false}
+use Rattle.std.proofs.Common.{arith, ℕ, ◌≤◌, ◌<◌, ◌≡◌, refl, sym, ap, ◌∙◌, Bool, true, false, ◌&&◌}
+use Rattle.std.proofs.Common.{List, [], ◌∷◌, length, ◌⊎◌, ◌==◌, eqb-true, eq-eqb}
 use Rattle.text.specs.Rows.{first_of}
-use Rattle.text.proofs.Choices.{if_by, if_yes, if_all, both_left, both_right}
-use Rattle.record.specs.Limits.{shut, places_count}
+use Rattle.text.proofs.Choices.{if_yes, both_left, both_right}
+use Rattle.record.specs.Limits.{places_count}
 use Rattle.record.specs.Legal.{is_legal}
 use Rattle.record.specs.Record.{closed}
 use Rattle.record.specs.Places.{connection_at, is_shut, lowest_shut}
 use Rattle.record.specs.declared.types.Connection.{Connection}
 use Rattle.record.specs.declared.types.Device.{Device}
 use Rattle.record.proofs.Spelt.{closed_spelt}
-use Rattle.clock.specs.Second.{times, connection_second}
 use Rattle.clock.proofs.ConnectionsAge.{untimed_stays}
 use Rattle.device.specs.Calls.{Result, refused_by, reply_room, new_connection, received_at, closed_by}
 use Rattle.device.proofs.Cases.{received_by, closed_by_lem, greeted_by_lem}
 use Rattle.device.proofs.Numbers.{received_at-number, closed_number}
-use Rattle.ours.specs.Board.{ours, Lent, lent_by, closed_as}
-use Rattle.demands.specs.Calls.{Call, opens, closes, receives, passes, marks, reports, enables, after, run, Gave}
+use Rattle.ours.specs.Board.{ours}
+use Rattle.demands.specs.Calls.{Call, opens, closes, receives, passes, marks, reports, enables, after, run}
 use Rattle.demands.specs.Beside.{ClosedOr}
 use Rattle.demands.proofs.CallsDo.{call_by, connection_at-served, connection_left, IsServed}
 use Rattle.demands.proofs.CallsKeep.{random_kept}
-use Rattle.board.specs.Sessions.{is_session, session_rows, session_received, session_closing_rows, session_closed}
+use Rattle.board.specs.Sessions.{is_session, session_rows, session_received, session_closed}
 use Rattle.board.specs.Sessions.{is_live, is_none_of, are_none_of}
 
 -- the connection is live, and of that number
@@ -144,4 +142,5 @@ pub shut_is_session : (d : Device) (p r : ℕ) → is_shut (connection_at d p) �
 shut_is_session d p r e = shut_is_none r (connection_at d p) e
 
 pub ruleset naming = (own_bytes, own_closing, session_number, others_bytes, others_number, others_closing)
+
 pub ruleset standing = (opened_is_session, session_lasts, shut_is_session, over_for_good, older_bytes)

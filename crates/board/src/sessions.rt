@@ -120,7 +120,11 @@ fn bit_of(was: bool, device: &Device, place: usize, bit: u32) -> u32
     requires { place < places_count }
     ensures { result ≡ bit_where (was && is_shut (connection_at device.now place)) bit }
 {
-    if was && !is_live(device, place) { bit } else { 0 }
+    if was && !is_live(device, place) {
+        bit
+    } else {
+        0
+    }
 }
 
 /// So many seconds pass: 1. Tells the places whose connection that closed.
