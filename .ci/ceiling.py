@@ -8,8 +8,10 @@ def code(text):
 
 
 def functions(text):
-    """The functions that a header declares: every name before a parenthesis, the words of C and its own macro aside."""
+    """The functions that a header declares: every name before a parenthesis, the words of C and its own macro aside,
+    and what it defines itself (`static inline`), whose text is passed over."""
     text = re.sub(r"^\s*#(?:[^\n]*\\\n)*[^\n]*", " ", code(text), flags=re.M)
+    text = re.sub(r"\bstatic inline\b[^;{]*\{(?:[^{}]|\{[^{}]*\})*\}", " ", text)
     return set(re.findall(r"\b([A-Za-z_]\w*)\s*\(", text)) - {"CEILING_IS", "sizeof", "offsetof"}
 
 
