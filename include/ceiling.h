@@ -63,8 +63,8 @@ enum pj_number {
                                    controller, there is no such lamp or its mark is the last, two tables cannot be
                                    compared, the jobs, rigs or lists of a day are out of theirs, no line of a log can
                                    say it, or a line of a log does not belong where the log stands */
-    PJ_NOT_CONNECTED = 4,       /* receiving or closing at a place whose connection is closed, or is not the session that
-                                   is named */
+    PJ_NOT_CONNECTED = 4,       /* receiving or closing at a place whose connection is closed, or is not the session
+                                   that is named */
     PJ_CONNECTED = 5,           /* of the program replay alone: the log opens a connection that is not closed */
     PJ_NO_PLACE = 6,            /* opening where every place has a connection that is not closed */
     PJ_NOT_OFF = 7,             /* setting or clearing a lamp's mark while the power is not off */
@@ -436,11 +436,11 @@ uint32_t pj_set_errors_in_place(pj_device *d, const uint8_t *digits, size_t coun
 uint32_t pj_set_mark_in_place(pj_device *d, size_t lamp, bool enabled);
 
 /* Sessions: calls for a host with sockets. A connection is named by its place and the random number with which pj_open
-   opened it, and the host keeps both beside the socket. A place is closed by time, or by pj_close, and opened again: bytes
-   that come late, of the socket that stood there before, would be served as the new connection's, past its password. With
-   the number they are refused, and nothing changes. Sessions are told apart by their numbers alone: draw a new one for
-   each connection, without a password too. These calls have no like by value: the record of such a host lies in one
-   place. */
+   opened it, and the host keeps both beside the socket. A place is closed by time, or by pj_close, and opened again:
+   bytes that come late, of the socket that stood there before, would be served as the new connection's, past its
+   password. With the number they are refused, and nothing changes. Sessions are told apart by their numbers alone: draw
+   a new one for each connection, without a password too. These calls have no like by value: the record of such a host
+   lies in one place. */
 
 /* pj_receive, for the connection at that place which was opened with that random number.
    Refuses with PJ_NOT_LEGAL, PJ_NO_ROOM, PJ_OUT_OF_RANGE (a place of PJ_PLACES or more) or PJ_NOT_CONNECTED (the
@@ -804,9 +804,9 @@ pj_plan pj_plan_day(const uint32_t *starts, size_t starts_len, const uint32_t *l
                     const uint32_t *cool, size_t cool_len, const uint32_t *life, size_t life_len,
                     uint8_t *out, size_t out_len);
 
-/* Debug builds. Where NDEBUG is not defined, and the C library has assert, the calls that receive are tested before they
-   are made: NULL, and memory that overlaps, end the program by assert. In any other build nothing is tested, and what
-   such a call does is not said. The archive is the same for both. */
+/* Debug builds. Where NDEBUG is not defined, and the C library has assert, the calls that receive are tested before
+   they are made: NULL, and memory that overlaps, end the program by assert. In any other build nothing is tested, and
+   what such a call does is not said. The archive is the same for both. */
 
 /* Two pieces of memory have a byte in common. */
 CEILING_KEEP
@@ -817,7 +817,8 @@ static inline bool pj_overlap(const void *one, size_t one_len, const void *other
 
 /* What a call that receives is lent is there, and what it writes overlaps nothing: the record d is NULL by value. */
 CEILING_KEEP
-static inline bool pj_well_lent(const pj_device *d, const uint8_t *bytes, size_t len, const uint8_t *out, size_t out_len) {
+static inline bool pj_well_lent(const pj_device *d, const uint8_t *bytes, size_t len,
+                                const uint8_t *out, size_t out_len) {
     return bytes && out && !pj_overlap(bytes, len, out, out_len)
            && !(d && (pj_overlap(d, sizeof *d, bytes, len) || pj_overlap(d, sizeof *d, out, out_len)));
 }

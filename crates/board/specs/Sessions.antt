@@ -2,12 +2,14 @@
 -- that stood at the place before, are told from its own (RULES, The C face). And what passing time closed.
 --   is_live c              the connection is not closed
 --   is_session d p r       the connection at place p of the record d is live, and was opened with the number r
---   session_rows d p r room    when receiving in that session is refused, and with which number: as receiving, but with 4
---                              where another session is there, or none
+--   session_rows d p r room    when receiving in that session is refused, and with which number: as receiving is, but
+--                              with 4 where another session is there, or none
 --   session_received d p r bs m    receiving in it: refused, or what receiving gives
 --   session_closing_rows d p r, session_closed d p r    closing it alike
---   are_none_of r cs       none of the calls cs opens with the number r
---   places_closed d e      of the records d and e, the places that are live in d and closed in e: bit p for place p
+--   is_none_of r c, are_none_of r cs    neither the call c nor any of the calls cs opens with the number r
+--   bit_where t n          n where t holds, else 0
+--   is_closed_since d e p  of the records d and e, the place p is live in d and closed in e
+--   places_closed d e      the places that are: bit p for place p
 --   passing_of d g         what passing says that gave g, lent d
 -- Assumes nothing.
 use Rattle.std.specs.Prelude.{ℕ, ◌+◌, Bool, true, not, ◌&&◌, List, [], ◌∷◌, length, if◌then◌else◌, nat_lt, ◌==◌}

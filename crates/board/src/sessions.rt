@@ -1,6 +1,6 @@
 // The calls of a host that names the connection, and not its place alone (RULES, The C face): a place is closed by time
 // and opened again, and bytes of the socket that stood there before are then none of the new connection's.
-ghost use Rattle.std.specs.Prelude.{◌≡◌, ◌<◌, ◌&&◌, length};
+ghost use Rattle.std.specs.Prelude.{◌≡◌, ◌<◌, ◌&&◌};
 ghost use Rattle.text.specs.Rows.{first_of};
 ghost use Rattle.record.specs.Limits.{places_count};
 ghost use Rattle.record.specs.Places.{connection_at, is_shut};
@@ -18,7 +18,7 @@ use record::connection::SHUT;
 use record::types::{Device, PLACES};
 use text::numbered;
 
-/// What passing time gives that tells the places.
+/// What passing time gives beside the record: its number, and the places that it closed.
 #[repr(C)]
 #[derive(Clone, Copy)]
 pub struct Passing {
@@ -76,8 +76,9 @@ fn closing_number(device: &Device, place: usize, random: u32) -> u32
     }
 }
 
-/// Bytes from the network for the connection at a place that was opened with that random number: 1, 2, 3 and 4 in that
-/// order, 4 also where another connection is there.
+/// Takes bytes from the network for the connection at this place that was opened with this random number, as
+/// `pj_receive_in_place` does. Errors, in this order, also for no bytes: 1, 2, 3; 4 where the connection there is closed,
+/// or was opened with another number.
 #[unsafe(no_mangle)]
 pub extern "C" fn pj_receive_session_in_place(
     device: &mut Device,
@@ -101,8 +102,8 @@ pub extern "C" fn pj_receive_session_in_place(
     Receiving::from(on_legal::receive(device, place, bytes, out))
 }
 
-/// The connection at a place closed, if it was opened with that random number: 1, 3 and 4 in that order, 4 also where
-/// another connection is there.
+/// Closes the connection at this place that was opened with this random number. Errors, in this order: 1, 3; 4 where
+/// the connection there is closed, or was opened with another number.
 #[unsafe(no_mangle)]
 pub extern "C" fn pj_close_session_in_place(device: &mut Device, place: usize, random: u32) -> u32
     ensures number { result ≡ (session_closed device.old place random).number }
@@ -127,7 +128,8 @@ fn bit_of(was: bool, device: &Device, place: usize, bit: u32) -> u32
     }
 }
 
-/// So many seconds pass: 1. Tells the places whose connection that closed.
+/// Lets so many seconds pass, as `pj_pass_in_place` does, and returns the places whose connection that closed. Error:
+/// 1.
 #[unsafe(no_mangle)]
 pub extern "C" fn pj_pass_telling_in_place(device: &mut Device, seconds: u32) -> Passing
     ensures says { result ≡ passing_of device.old (ours.pass device.old seconds) }
