@@ -77,8 +77,8 @@ fn closing_number(device: &Device, place: usize, random: u32) -> u32
 }
 
 /// Takes bytes from the network for the connection at this place that was opened with this random number, as
-/// `pj_receive_in_place` does. Errors, in this order, also for no bytes: 1, 2, 3; 4 where the connection there is closed,
-/// or was opened with another number.
+/// `pj_receive_in_place` does. Errors, in this order, also for no bytes: 1, 2, 3; 4 where the connection there is
+/// closed, or was opened with another number.
 #[unsafe(no_mangle)]
 pub extern "C" fn pj_receive_session_in_place(
     device: &mut Device,
