@@ -1,9 +1,10 @@
 /* A host: it keeps one projector, feeds it bytes in odd cuts as a network would, lets time pass, and asks as a
    controller; service compares two tables of lamp seconds, the board is swapped, four controllers are connected at
    once, one lamp burns while the other rests, a projector of Class 2 is asked what one of Class 1 does not answer, a log
-   of all calls is recorded and played back, and a cutting day is planned and checked. It lends its record to the calls in place, and makes one call by value. Every
-   number that a call gives is tested before anything else of its result is used. What it must print, by docs/RULES.md,
-   is in host.stdout: `0 < LINE` is a reply to the controller at place 0. */
+   of all calls is recorded and played back, bytes of an older session come late, and a cutting day is planned and
+   checked. It lends its record to the calls in place, and makes one call by value. Every number that a call gives is
+   tested before anything else of its result is used. What it must print, by docs/RULES.md, is in host.stdout:
+   `0 < LINE` is a reply to the controller at place 0. */
 #include <stdio.h>
 #include <stdlib.h>
 #include <string.h>
@@ -377,6 +378,42 @@ static void recorded_log(void) {
     append(pj_log_closed(&kept, opened.place, line, sizeof line), "pj_log_closed");
 }
 
+/* An outsider's place is closed by time, and a controller gets it; what the outsider sent meanwhile comes late. A host
+   that names the session, place and random number, serves none of it. */
+static void an_older_session(void) {
+    const uint32_t lamps[] = {0};
+    const uint32_t older = 0x1c92c6f5, newer = 0x498e4a67;
+    served(pj_set_up_in_place(&device, TEXT("Table 6"), TEXT("maker"), TEXT("model"), TEXT(""),
+                              TEXT("JBMIAProjectorLink"), TEXT("11"), LIST(lamps), 20, 60), "pj_set_up_in_place");
+    pj_opening outsider = pj_open_in_place(&device, older, reply, sizeof reply);
+    served(outsider.number, "pj_open_in_place");
+
+    /* bit 0 is place 0: the host closes the outsider's socket now */
+    pj_passing passed = pj_pass_telling_in_place(&device, 29);
+    served(passed.number, "pj_pass_telling_in_place");
+    printf("after 29 s: closed %u\n", (unsigned)passed.closed);
+    passed = pj_pass_telling_in_place(&device, 1);
+    served(passed.number, "pj_pass_telling_in_place");
+    printf("after 30 s: closed %u\n", (unsigned)passed.closed);
+
+    pj_opening opened = pj_open_in_place(&device, newer, reply, sizeof reply);
+    served(opened.number, "pj_open_in_place");
+    printf("controller: the same place %d\n", opened.place == outsider.place);
+    pj_receiving r = pj_receive_session_in_place(&device, opened.place, newer,
+                                                 TEXT("5d8409bc1c3fa39749434aa3a5c38682%1POWR ?\r"), reply,
+                                                 sizeof reply);
+    served(r.number, "pj_receive_session_in_place");
+    printf("%zu < %.*s\n", opened.place, (int)r.length - 1, (const char *)reply);
+
+    r = pj_receive_session_in_place(&device, outsider.place, older, TEXT("%1POWR 1\r"), reply, sizeof reply);
+    printf("late bytes: refused %d, off still %d\n", r.number == PJ_NOT_CONNECTED, device.own.power == PJ_POWER_OFF);
+    uint32_t late = pj_close_session_in_place(&device, outsider.place, older);
+    printf("late closing: refused %d, open still %d\n", late == PJ_NOT_CONNECTED,
+           device.connections[opened.place].phase == PJ_PHASE_OPEN);
+    served(pj_close_session_in_place(&device, opened.place, newer), "pj_close_session_in_place");
+    printf("closed: phase %d\n", device.connections[opened.place].phase);
+}
+
 static void one_day(void) {
     /* three jobs, of which the first two overlap, on two rigs; the last may use rig 0 alone (bit 0) */
     const uint32_t starts[] = {600, 1200, 9000}, lengths[] = {3600, 1800, 7200};
@@ -411,6 +448,7 @@ int main(void) {
     one_lamp();
     class_2();
     recorded_log();
+    an_older_session();
     one_day();
     return 0;
 }

@@ -17,7 +17,8 @@
    - A pointer is good for its length, and one to a record for a record. It is never NULL, even with length 0.
    - A bool is 0 or 1.
    - Memory that a call writes, be it reply memory, a result list or a record, overlaps nothing else that is lent to
-     that call.
+     that call. So what came and the reply need a buffer each.
+   No proof sees these broken. Of the calls that receive, a debug build tests the first and the last ("Debug builds").
 
    Text is bytes with a length, and no NUL ends it. A line ends with CR (0x0D) alone. */
 #ifndef CEILING_H
@@ -63,7 +64,8 @@ enum pj_number {
                                    controller, there is no such lamp or its mark is the last, two tables cannot be
                                    compared, the jobs, rigs or lists of a day are out of theirs, no line of a log can
                                    say it, or a line of a log does not belong where the log stands */
-    PJ_NOT_CONNECTED = 4,       /* receiving or closing at a place whose connection is closed */
+    PJ_NOT_CONNECTED = 4,       /* receiving or closing at a place whose connection is closed, or is not the session
+                                   that is named */
     PJ_CONNECTED = 5,           /* of the program replay alone: the log opens a connection that is not closed */
     PJ_NO_PLACE = 6,            /* opening where every place has a connection that is not closed */
     PJ_NOT_OFF = 7,             /* setting or clearing a lamp's mark while the power is not off */
@@ -449,6 +451,37 @@ CEILING_KEEP
 uint32_t pj_set_errors_in_place(pj_device *d, const uint8_t *digits, size_t count);
 CEILING_KEEP
 uint32_t pj_set_mark_in_place(pj_device *d, size_t lamp, bool enabled);
+
+/* Sessions: calls for a host with sockets. A connection is named by its place and the random number with which pj_open
+   opened it, and the host keeps both beside the socket. A place is closed by time, or by pj_close, and opened again:
+   bytes that come late, of the socket that stood there before, would be served as the new connection's, past its
+   password. With the number they are refused, and nothing changes. Sessions are told apart by their numbers alone: draw
+   a new one for each connection, without a password too. These calls have no like by value: the record of such a host
+   lies in one place. */
+
+/* pj_receive, for the connection at that place which was opened with that random number.
+   Refuses with PJ_NOT_LEGAL, PJ_NO_ROOM, PJ_OUT_OF_RANGE (a place of PJ_PLACES or more) or PJ_NOT_CONNECTED (the
+   connection there is closed, or was opened with another number), also where no bytes are handed in. */
+CEILING_KEEP
+pj_receiving pj_receive_session_in_place(pj_device *d, size_t place, uint32_t random, const uint8_t *bytes, size_t len,
+                                         uint8_t *out, size_t out_len);
+
+/* pj_close, for the connection at that place which was opened with that random number: closing an old socket leaves the
+   connection that took its place.
+   Refuses with PJ_NOT_LEGAL, PJ_OUT_OF_RANGE or PJ_NOT_CONNECTED, as above. */
+CEILING_KEEP
+uint32_t pj_close_session_in_place(pj_device *d, size_t place, uint32_t random);
+
+typedef struct {
+    uint32_t number;
+    uint32_t closed;                        /* bit p, 1 << p: time closed the connection at place p. 0 with a refusal */
+} pj_passing;
+
+/* pj_pass, which also tells the places whose connection it closed: the host closes their sockets, before it opens
+   another connection.
+   Refuses with PJ_NOT_LEGAL. */
+CEILING_KEEP
+pj_passing pj_pass_telling_in_place(pj_device *d, uint32_t seconds);
 
 /* The recorded log: the history of a board as lines of text, from which the record is made again, to the second, and the
    programs `replay` and `burnt` tell of it (RULES, History of a board). The host records every call that can change the
@@ -868,6 +901,54 @@ static inline uint32_t pj_which_setting_from(const pj_setup *s) {
                               s->name_count > 0 ? s->name_lengths : &no_name, s->name_count);
 }
 
+/* Debug builds. Where the host defines CEILING_DEBUG before it includes this, the calls that receive are tested before
+   they are made: NULL, and memory that overlaps, end the program by assert. It has to be asked for by name, since a
+   board that ends is a dark table. In any other build nothing is tested, and what such a call does is not said. The
+   archive is the same for both. */
+
+/* Two pieces of memory have a byte in common. */
+CEILING_KEEP
+static inline bool pj_overlap(const void *one, size_t one_len, const void *other, size_t other_len) {
+    uintptr_t p = (uintptr_t)one, q = (uintptr_t)other;
+    return one_len > 0 && other_len > 0 && (p < q ? q - p < one_len : p - q < other_len);
+}
+
+/* What a call that receives is lent is there, and what it writes overlaps nothing: the record d is NULL by value. */
+CEILING_KEEP
+static inline bool pj_well_lent(const pj_device *d, const uint8_t *bytes, size_t len,
+                                const uint8_t *out, size_t out_len) {
+    return bytes && out && !pj_overlap(bytes, len, out, out_len)
+           && !(d && (pj_overlap(d, sizeof *d, bytes, len) || pj_overlap(d, sizeof *d, out, out_len)));
+}
+
+#ifdef CEILING_DEBUG
+#include <assert.h>
+CEILING_KEEP
+static inline pj_received pj_receive_tested(pj_device d, size_t place, const uint8_t *bytes, size_t len,
+                                            uint8_t *out, size_t out_len) {
+    assert(pj_well_lent(NULL, bytes, len, out, out_len));
+    return pj_receive(d, place, bytes, len, out, out_len);
+}
+
+CEILING_KEEP
+static inline pj_receiving pj_receive_in_place_tested(pj_device *d, size_t place, const uint8_t *bytes, size_t len,
+                                                      uint8_t *out, size_t out_len) {
+    assert(d && pj_well_lent(d, bytes, len, out, out_len));
+    return pj_receive_in_place(d, place, bytes, len, out, out_len);
+}
+
+CEILING_KEEP
+static inline pj_receiving pj_receive_session_in_place_tested(pj_device *d, size_t place, uint32_t random,
+                                                              const uint8_t *bytes, size_t len,
+                                                              uint8_t *out, size_t out_len) {
+    assert(d && pj_well_lent(d, bytes, len, out, out_len));
+    return pj_receive_session_in_place(d, place, random, bytes, len, out, out_len);
+}
+#define pj_receive pj_receive_tested
+#define pj_receive_in_place pj_receive_in_place_tested
+#define pj_receive_session_in_place pj_receive_session_in_place_tested
+#endif
+
 /* The layout that the archive has. */
 #if SIZE_MAX != UINT64_MAX
 #error "the archive is for processors of 64 bits: size_t has to have 8 bytes"
@@ -897,6 +978,7 @@ CEILING_IS(sizeof(pj_received) == 5848 && offsetof(pj_received, taken) == 8);
 CEILING_IS(offsetof(pj_received, length) == 16 && offsetof(pj_received, device) == 24);
 CEILING_IS(sizeof(pj_receiving) == 24 && offsetof(pj_receiving, taken) == 8 && offsetof(pj_receiving, length) == 16);
 CEILING_IS(sizeof(pj_opening) == 24 && offsetof(pj_opening, length) == 8 && offsetof(pj_opening, place) == 16);
+CEILING_IS(sizeof(pj_passing) == 8 && offsetof(pj_passing, closed) == 4);
 CEILING_IS(sizeof(pj_log) == 12 && offsetof(pj_log, lines) == 4 && offsetof(pj_log, sum) == 8);
 CEILING_IS(sizeof(pj_digest) == 16);
 CEILING_IS(sizeof(pj_command) == 3 && offsetof(pj_command, first) == 1 && offsetof(pj_command, second) == 2);

@@ -6,3 +6,4 @@ pub mod OneOfLists
 pub mod Gives
 mod Unsayable
 mod Played
+pub mod SessionsTold

@@ -7,3 +7,4 @@ pub mod Results
 pub mod Logs
 pub mod Writable
 pub mod Header
+pub mod Sessions

@@ -10,6 +10,7 @@ pub mod log;
 pub mod projector;
 pub mod reader;
 pub mod results;
+pub mod sessions;
 pub mod sums;
 pub mod theorems;
 pub mod which;

@@ -1,7 +1,15 @@
 // What is proved beside the contracts of the functions. Nothing is done here: that these functions have their contracts
 // is that the theorems stand.
 ghost use Rattle.std.specs.Prelude.{[], ◌∷◌, ◌≡◌, ◌≢◌, ◌≤◌, ℕ, ℤ, List, length, Bool, true, not, if◌then◌else◌, nat_lt};
-ghost use Rattle.std.specs.Prelude.{Option, Some, None, Result};
+ghost use Rattle.std.specs.Prelude.{Option, Some, None, Result, ◌<◌, ◌==◌, ◌⊎◌, false};
+ghost use Rattle.text.specs.Rows.{first_of};
+ghost use Rattle.record.specs.Legal.{is_legal};
+ghost use Rattle.record.specs.Limits.{places_count};
+ghost use Rattle.record.specs.Places.{connection_at, is_shut};
+ghost use Rattle.record.specs.declared.types.Device.{Device};
+ghost use Rattle.device.specs.Calls.{reply_room};
+ghost use Rattle.ours.specs.Board.{ours};
+ghost use Rattle.demands.specs.Calls.{Call, after, run};
 ghost use Rattle.std.specs.List.{list_all};
 ghost use Rattle.pjlink.specs.declared.command.Command.{Command};
 ghost use Rattle.codes.specs.declared.command.Coded.{Coded};
@@ -38,6 +46,7 @@ ghost use Rattle.board.specs.Header.{refusal_constant, panel_refusal_constant, s
 ghost use Rattle.board.specs.Header.{load_error_constant, unwritten_constant, outcome_constant, setting_constant};
 ghost use Rattle.board.specs.Header.{rule_constant, limits, phases, powers_kept, awaited, has_its_number};
 ghost use Rattle.board.specs.Writable.{is_writable_by};
+ghost use Rattle.board.specs.Sessions.{is_session, session_rows, session_received, session_closed, are_none_of};
 ghost use Rattle.board.specs.declared.writer.Written.{Written};
 ghost use Rattle.text.specs.Words.{over};
 ghost use Rattle.codes.specs.declared.readings.FlatReading.{FlatReading};
@@ -147,4 +156,43 @@ pub fn one_result()
         → r ≡ panel_changed_of (lost_at p i) → s ≡ panel_changed_of (lost_at p i) → r ≡ s }
     ensures setting { (w : Wanted) (r s : ℕ)
         → r ≡ setting_number (setting_told (set_up w)) → s ≡ setting_number (setting_told (set_up w)) → r ≡ s }
+{}
+
+/// A session's own bytes get what receiving gives, and its closing what closing gives. What names another one, or one
+/// where none is, changes nothing, whatever the record and the bytes: its number is the first row's, so 4 where the
+/// record is legal, the memory long enough, and the place one that there is (RULES, The C face).
+#[tactic(auto, using(crate::proofs::SessionsTold::naming))]
+pub fn a_session_is_served_alone()
+    ensures own_bytes { (d : Device) (p r : ℕ) (bytes out : List ℕ) → is_session d p r ≡ true
+        → session_received d p r bytes out ≡ ours.receive d p bytes out }
+    ensures own_closing { (d : Device) (p r : ℕ) → is_session d p r ≡ true → session_closed d p r ≡ ours.closing d p }
+    ensures number { (d : Device) (p r : ℕ) (bytes out : List ℕ)
+        → (session_received d p r bytes out).number ≡ first_of (session_rows d p r (length out)) }
+    ensures others_bytes { (d : Device) (p r : ℕ) (bytes out : List ℕ) → is_session d p r ≡ false
+        → let t = session_received d p r bytes out in
+        (t.number ≢ 0) × (t.taken ≡ 0) × (t.length ≡ 0) × (t.memory ≡ out) × (t.device ≡ d) }
+    ensures others_number { (d : Device) (p r : ℕ) (bytes out : List ℕ) → is_session d p r ≡ false
+        → is_legal d ≡ true → reply_room ≤ length out → p < places_count
+        → (session_received d p r bytes out).number ≡ 4 }
+    ensures others_closing { (d : Device) (p r : ℕ) → is_session d p r ≡ false
+        → ((session_closed d p r).number ≢ 0) × ((session_closed d p r).device ≡ d) }
+{}
+
+/// A session begins with its opening and lasts until its connection is closed, by time or by a call. Once it is over it
+/// stays so over any calls of everybody, if none opens with its number: so bytes of an older session change nothing,
+/// though its place was opened again (RULES, The C face).
+#[tactic(auto, using(crate::proofs::SessionsTold::standing))]
+pub fn an_older_session_is_over()
+    ensures opened { (d : Device) (s r : ℕ) (out : List ℕ) → (ours.opening d s out).number ≡ 0
+        → is_session (ours.opening d s out).device (ours.place_opened d s out) r ≡ (s == r) }
+    ensures lasts { (d : Device) (p r : ℕ) (c : Call) → is_session d p r ≡ true
+        → (is_shut (connection_at (after ours d c) p) ≡ true) ⊎ (is_session (after ours d c) p r ≡ true) }
+    ensures closed { (d : Device) (p r : ℕ) → is_shut (connection_at d p) ≡ true → is_session d p r ≡ false }
+    ensures over { (d : Device) (p r : ℕ) (calls : List Call) → is_session d p r ≡ false → are_none_of r calls ≡ true
+        → is_session (run ours d calls) p r ≡ false }
+    ensures older_bytes { (d : Device) (p r : ℕ) (calls : List Call) (bytes out : List ℕ)
+        → is_session d p r ≡ false → are_none_of r calls ≡ true
+        → let e = run ours d calls in
+        let t = session_received e p r bytes out in
+        (t.number ≢ 0) × (t.taken ≡ 0) × (t.length ≡ 0) × (t.memory ≡ out) × (t.device ≡ e) }
 {}

@@ -1,0 +1,148 @@
+// The calls of a host that names the connection, and not its place alone (RULES, The C face): a place is closed by time
+// and opened again, and bytes of the socket that stood there before are then none of the new connection's.
+ghost use Rattle.std.specs.Prelude.{◌≡◌, ◌<◌, ◌&&◌};
+ghost use Rattle.text.specs.Rows.{first_of};
+ghost use Rattle.record.specs.Limits.{places_count};
+ghost use Rattle.record.specs.Places.{connection_at, is_shut};
+ghost use Rattle.ours.specs.Board.{ours};
+ghost use Rattle.ours.specs.Tied.{lent_told};
+ghost use Rattle.board.specs.Results.{receiving_of};
+ghost use Rattle.board.specs.Sessions.{is_session, session_rows, session_closing_rows, session_received};
+ghost use Rattle.board.specs.Sessions.{session_closed, bit_where, is_live, passing_of};
+
+use crate::projector;
+use crate::results::Receiving;
+use device::on_legal;
+use device::on_legal::REPLY_ROOM;
+use record::connection::SHUT;
+use record::types::{Device, PLACES};
+use text::numbered;
+
+/// What passing time gives beside the record: its number, and the places that it closed.
+#[repr(C)]
+#[derive(Clone, Copy)]
+pub struct Passing {
+    /// 0, or the number of the refusal: 1 (RULES, The numbers a call gives).
+    pub number: u32,
+    /// Bit p, of value 2 to the p: the connection at place p was not closed before, and is now. 0 with a refusal.
+    pub closed: u32,
+}
+
+// Whether the connection at a place that there is is not closed.
+fn is_live(device: &Device, place: usize) -> bool
+    requires { place < places_count }
+    ensures { result ≡ is_live (connection_at device.now place) }
+{
+    device.connections[place].phase != SHUT
+}
+
+// Whether the connection at a place that there is was opened with that number, and is not closed since.
+fn is_session(device: &Device, place: usize, random: u32) -> bool
+    requires { place < places_count }
+    ensures { result ≡ is_session device.now place random }
+{
+    is_live(device, place) && device.connections[place].random == random
+}
+
+// The number of receiving in a session.
+fn receiving_number(device: &Device, place: usize, random: u32, room: usize) -> u32
+    ensures { result ≡ first_of (session_rows device.now place random room) }
+{
+    if !device.is_legal() {
+        1
+    } else if room < REPLY_ROOM {
+        2
+    } else if PLACES <= place {
+        3
+    } else if !is_session(device, place, random) {
+        4
+    } else {
+        0
+    }
+}
+
+// The number of closing a session.
+fn closing_number(device: &Device, place: usize, random: u32) -> u32
+    ensures { result ≡ first_of (session_closing_rows device.now place random) }
+{
+    if !device.is_legal() {
+        1
+    } else if PLACES <= place {
+        3
+    } else if !is_session(device, place, random) {
+        4
+    } else {
+        0
+    }
+}
+
+/// Takes bytes from the network for the connection at this place that was opened with this random number, as
+/// `pj_receive_in_place` does. Errors, in this order, also for no bytes: 1, 2, 3; 4 where the connection there is
+/// closed, or was opened with another number.
+#[unsafe(no_mangle)]
+pub extern "C" fn pj_receive_session_in_place(
+    device: &mut Device,
+    place: usize,
+    random: u32,
+    bytes: &[u8],
+    out: &mut [u8],
+) -> Receiving
+    ensures says { result ≡ receiving_of (lent_told (session_received device.old place random bytes.now out.old)) }
+    ensures device { device.new ≡ (session_received device.old place random bytes.now out.old).device }
+    ensures reply { out.new ≡ (session_received device.old place random bytes.now out.old).memory }
+{
+    let number = receiving_number(device, place, random, out.len());
+    if number != 0 {
+        return Receiving {
+            number,
+            taken: 0,
+            length: 0,
+        };
+    }
+    Receiving::from(on_legal::receive(device, place, bytes, out))
+}
+
+/// Closes the connection at this place that was opened with this random number. Errors, in this order: 1, 3; 4 where
+/// the connection there is closed, or was opened with another number.
+#[unsafe(no_mangle)]
+pub extern "C" fn pj_close_session_in_place(device: &mut Device, place: usize, random: u32) -> u32
+    ensures number { result ≡ (session_closed device.old place random).number }
+    ensures device { device.new ≡ (session_closed device.old place random).device }
+{
+    let number = closing_number(device, place, random);
+    if number != 0 {
+        return number;
+    }
+    numbered::number_of(on_legal::close(device, place))
+}
+
+// The bit of a place that is closed now, if it was live.
+fn bit_of(was: bool, device: &Device, place: usize, bit: u32) -> u32
+    requires { place < places_count }
+    ensures { result ≡ bit_where (was && is_shut (connection_at device.now place)) bit }
+{
+    if was && !is_live(device, place) {
+        bit
+    } else {
+        0
+    }
+}
+
+/// Lets so many seconds pass, as `pj_pass_in_place` does, and returns the places whose connection that closed. Error:
+/// 1.
+#[unsafe(no_mangle)]
+pub extern "C" fn pj_pass_telling_in_place(device: &mut Device, seconds: u32) -> Passing
+    ensures says { result ≡ passing_of device.old (ours.pass device.old seconds) }
+    ensures device { device.new ≡ (ours.pass device.old seconds).device }
+{
+    let first = is_live(device, 0);
+    let second = is_live(device, 1);
+    let third = is_live(device, 2);
+    let fourth = is_live(device, 3);
+    let number = projector::pj_pass_in_place(device, seconds);
+    let closed = bit_of(first, device, 0, 1)
+        + bit_of(second, device, 1, 2)
+        + bit_of(third, device, 2, 4)
+        + bit_of(fourth, device, 3, 8);
+    Passing { number, closed }
+}
