@@ -6,6 +6,6 @@ use Rattle.history.proofs.put.hex.Goals as goal
 pub loop-b-preserved : goal.loop-b-preserved
 loop-b-preserved c = (
   puts_as (grind (arith, hex_text-take, c.hex8-digits.ensures)) c.loop-b.invariant.0
-  (puts_then c.byte.ensures c.byte-in-loop-b.ensures),
+      (puts_then c.byte.ensures c.byte-in-loop-b.ensures),
   omega arith,
 )
