@@ -76,7 +76,7 @@ impl Watch {
     ghost use Rattle.std.specs.Prelude.{IfSome, None};
     ghost use Rattle.floorlog.specs.KeptText.{kept_text};
     ghost use Rattle.floorlog.specs.Told.{Drives};
-    ghost use Rattle.watch.specs.Marking.{floor_event, seconds_by};
+    ghost use Rattle.watch.specs.Marking.{floor_event, floor_step, seconds_by};
     ghost use Rattle.watch.specs.Watching.{watching_from, is_burning_in, is_long, burnt_by};
     ghost use Rattle.watch.specs.States.{state_of, IsWatched};
 
@@ -95,8 +95,8 @@ impl Watch {
     /// A line of the log. It tells whether the line ended stretches: those of the lamps whose marks are set, from
     /// `from` to `time`. None where 64 bits cannot count the seconds that are then gone: nothing is done.
     pub fn play(&mut self, line: &KeptLine) -> Option<bool>
-        ensures watched { IfSome result
-            (IsWatched (state_of self.old) (floor_event (kept_text line.now)) (state_of self.new)) }
+        ensures watched { IfSome result (IsWatched (state_of self.old)
+            (floor_step self.old.tested.device (floor_event (kept_text line.now))) (state_of self.new)) }
         ensures kept { result ≡ None → state_of self.new ≡ state_of self.old }
         ensures uncounted { result ≡ None → 2 ^ 64 ≤ self.old.time + seconds_by (floor_event (kept_text line.now)) }
         ensures places { IfSome result (λ _. Drives (seconds_by (floor_event (kept_text line.now)))

@@ -1,0 +1,36 @@
+-- The steps of a board's calls, at whatever place, and of a log of the second kind (RULES, History of a board), of which
+-- only a call can leave another record or let seconds pass.
+--   seconds_of_call c    the seconds that a call lets pass
+--   call_step d c        the step of the call c, lent the device d;    call_steps d cs   the steps of the calls cs
+--   still_step d         a step that leaves d, and lets no second pass
+--   entry_step d e       the step of what a line says;    entry_steps d es   the steps of what lines say
+-- Assumes nothing.
+use Rattle.std.specs.Prelude.{ℕ, List, [], ◌∷◌}
+use Rattle.record.specs.declared.types.Device.{Device}
+use Rattle.ours.specs.Board.{ours}
+use Rattle.demands.specs.Calls.{Call, passes, after}
+use Rattle.history.specs.Entries.{LogEntry, call}
+use Rattle.recorded.specs.Playing.{played_call}
+use Rattle.watch.specs.Watching.{Step}
+
+abbrev pub seconds_of_call : Call → ℕ
+seconds_of_call (passes n) = n
+seconds_of_call c = 0
+
+abbrev pub call_step : Device → Call → Step
+call_step d c = record { device = after ours d c; seconds = seconds_of_call c }
+
+abbrev pub call_steps : Device → List Call → List Step
+call_steps d [] = []
+call_steps d (c ∷ cs) = call_step d c ∷ call_steps (after ours d c) cs
+
+abbrev pub still_step : Device → Step
+still_step d = record { device = d; seconds = 0 }
+
+abbrev pub entry_step : Device → LogEntry → Step
+entry_step d (call c) = call_step d (played_call c)
+entry_step d e = still_step d
+
+abbrev pub entry_steps : Device → List LogEntry → List Step
+entry_steps d [] = []
+entry_steps d (e ∷ es) = entry_step d e ∷ entry_steps (entry_step d e).device es
