@@ -4,9 +4,12 @@ use Rattle.std.specs.List.{list_all}
 use Rattle.std.proofs.Common.{ℕ, ◌*◌, ◌-◌, ◌≤◌, ◌<◌, ◌≡◌, true, ◌&&◌, List, [], ◌∷◌, ◌++◌, arith, length}
 use Rattle.std.proofs.Common.{nat_le}
 use Rattle.std.proofs.Common.{Option, Some, None, leb-true, eqb-true, codes, length-append, length-take-le, ◌==◌}
+use Rattle.std.proofs.Common.{sym}
 use Rattle.std.proofs.lemmas.List.{length-map}
 use Rattle.text.proofs.Choices.{if_all, both_left, both_right}
 use Rattle.text.proofs.InTurn.{length-each_in_turn}
+use Rattle.crc32.specs.Crc.{crc32_on}
+use Rattle.crc32.proofs.GoesOn.{crc32_on-append}
 use Rattle.numbers.specs.Decimal.{digits}
 use Rattle.numbers.proofs.Digits.{digits_at_most_10}
 use Rattle.digest.specs.Hex.{hex_digits, hex_value}
@@ -90,3 +93,7 @@ entry_fits (stated n s shown) h =
       stated_short shown h,
       length-append (codes "S " ++ summed_text n s) (codes " " ++ shown),
     )
+
+-- a line that is summed without its LF, and then that
+pub sum_past_lf : (sum : ℕ) (l : List ℕ) → crc32_on (crc32_on sum l) (codes "\n") ≡ crc32_on sum (l ++ codes "\n")
+sum_past_lf sum l = sym (crc32_on-append sum l (codes "\n"))

@@ -4,7 +4,9 @@
 --   cannot_follow r e    there is no file yet, or the count of its lines can't grow
 --   entry_rows r e room  when an entry is refused, and with which number
 --   recorded_by r e room refused with no byte, or the line
---   advanced r e         what is kept after the line
+--   counted r e sum      what is kept after a line that says e, where all up to its LF has that sum
+--   advanced r e         what is kept after the line of the entry e
+--   read_past r e l      what is kept after the line l, which is given without its LF and says e
 --   recorder_after r e room   what is kept after the call: refused, what was kept
 --   header_next r t      the header of the next file;    stated_next r shown   a stated line
 --   stated_by r d room   refused with 1 where the record d is not legal, else its stated line;
@@ -16,6 +18,7 @@
 --   AreTyped asked          the calls asked have the numbers of the code's types
 -- Assumes nothing.
 use Rattle.std.specs.Prelude.{ℕ, ◌+◌, Bool, false, not, ◌||◌, List, [], ◌∷◌, ◌++◌, nat_lt, ◌==◌, Option, if◌then◌else◌}
+use Rattle.std.specs.Prelude.{codes}
 use Rattle.text.specs.Rows.{Row, ◌when◌, by_rows}
 use Rattle.text.specs.Outcomes.{WrittenAs, nothing_written}
 use Rattle.record.specs.Legal.{is_legal}
@@ -41,9 +44,15 @@ entry_rows r e room =
 unfoldable pub recorded_by : Recorder → LogEntry → ℕ → WrittenAs
 recorded_by r e room = by_rows (entry_rows r e room) nothing_written (record { number = 0; bytes = entry_line e })
 
+abbrev pub counted : Recorder → LogEntry → ℕ → Recorder
+counted r (header f s t) sum = record { file = f; lines = 0; sum = sum }
+counted r e sum = record { file = r.file; lines = r.lines + 1; sum = sum }
+
 abbrev pub advanced : Recorder → LogEntry → Recorder
-advanced r (header f s t) = record { file = f; lines = 0; sum = crc32_on r.sum (entry_line (header f s t)) }
-advanced r e = record { file = r.file; lines = r.lines + 1; sum = crc32_on r.sum (entry_line e) }
+advanced r e = counted r e (crc32_on r.sum (entry_line e))
+
+abbrev pub read_past : Recorder → LogEntry → List ℕ → Recorder
+read_past r e l = counted r e (crc32_on r.sum (l ++ codes "\n"))
 
 unfoldable pub recorder_after : Recorder → LogEntry → ℕ → Recorder
 recorder_after r e room = by_rows (entry_rows r e room) (λ _. r) (advanced r e)

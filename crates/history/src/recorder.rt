@@ -7,8 +7,8 @@ ghost use Rattle.record.specs.Refusals.{refusal_number};
 ghost use Rattle.crc32.specs.Crc.{crc32_of, crc32_on};
 ghost use Rattle.history.specs.Calls.{call_seen};
 ghost use Rattle.history.specs.Entries.{time_seen, entry_seen, is_sayable_entry, entry_line, call};
-ghost use Rattle.history.specs.Recording.{log_line_room, cannot_follow, advanced, recorded_by, recorder_after};
-ghost use Rattle.history.specs.Recording.{header_next};
+ghost use Rattle.history.specs.Recording.{log_line_room, cannot_follow, counted, read_past};
+ghost use Rattle.history.specs.Recording.{recorded_by, recorder_after, header_next};
 ghost use Rattle.history.specs.Recording.{stated_by, stated_after};
 
 use crate::call::Call;
@@ -58,11 +58,10 @@ impl Recorder {
         }
     }
 
-    // What is kept after a line, of which `sum` is the sum.
-    fn advance(&mut self, entry: &Entry<'_>, sum: u32)
-        requires summed { sum ≡ crc32_on self.old.sum (entry_line (entry_seen entry.now)) }
+    // What is kept after a line, where all up to its LF has this sum.
+    fn count(&mut self, entry: &Entry<'_>, sum: u32)
         requires room { cannot_follow self.old (entry_seen entry.now) ≡ false }
-        ensures { self.new ≡ advanced self.old (entry_seen entry.now) }
+        ensures { self.new ≡ counted self.old (entry_seen entry.now) sum }
     {
         self.sum = sum;
         match entry {
@@ -72,6 +71,17 @@ impl Recorder {
             }
             _ => self.lines += 1,
         }
+    }
+
+    /// For a reader of a history, which keeps the same numbers as its recorder: goes on past a line that was read, which
+    /// is given without its LF and says the entry.
+    #[tactic(auto, using(crate::proofs::Fits::sum_past_lf))]
+    pub fn read_past(&mut self, entry: &Entry<'_>, line: &[u8])
+        requires room { cannot_follow self.old (entry_seen entry.now) ≡ false }
+        ensures { self.new ≡ read_past self.old (entry_seen entry.now) line.now }
+    {
+        let text = crc32::crc32_on(self.sum, line);
+        self.count(entry, crc32::crc32_on(text, b"\n"));
     }
 
     /// Nothing is recorded yet. The form is that of the device, which was set up, or loaded from it.
@@ -105,7 +115,7 @@ impl Recorder {
             return Err(Refusal::OutOfRange);
         }
         let count = put_line(entry, out);
-        self.advance(entry, crc32::crc32_on(self.sum, &out[..count]));
+        self.count(entry, crc32::crc32_on(self.sum, &out[..count]));
         Ok(count)
     }
 

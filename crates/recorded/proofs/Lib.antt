@@ -6,3 +6,4 @@ pub mod CallsSayable
 pub mod Fronts
 pub mod Written
 pub mod Illegal
+pub mod Chained

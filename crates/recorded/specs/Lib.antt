@@ -1,3 +1,4 @@
 pub mod Recorded
 pub mod Playing
 pub mod Played
+pub mod Chain

@@ -2,5 +2,6 @@
 //! History of a board).
 #![tactic(auto)]
 
+pub mod chain;
 pub mod play;
 pub mod theorems;

@@ -1,0 +1,169 @@
+// A chain of files, line by line: what a line says, if it stands where the reader is, and the line made again. The
+// reader keeps the recorder's three numbers.
+ghost use Rattle.std.specs.Prelude.{◌≡◌, [], Ok, Err};
+ghost use Rattle.std.specs.Option.{option_map};
+ghost use Rattle.text.specs.Words.{over};
+ghost use Rattle.text.specs.Scans.{same_by, itself};
+ghost use Rattle.history.specs.Entries.{entry_seen};
+ghost use Rattle.history.specs.Shown.{device_shown};
+ghost use Rattle.recorded.specs.Chain.{why_seen, misfit_header, misfit_line, misfit_stated, misfit};
+ghost use Rattle.recorded.specs.Chain.{entry_told, entry_read, made_told, made_seen, device_made, reply_made};
+ghost use Rattle.recorded.specs.Chain.{log_made, call_made};
+ghost use Rattle.recorded.specs.Played.{play_told};
+
+use crate::play::{self, Stray};
+use arrayvec::ArrayVec;
+use device::on_legal::REPLY_ROOM;
+use history::entry::{Entry, Header, SHOWN_MOST, Stated};
+use history::read::{self, Bytes};
+use history::recorder::Recorder;
+use history::shown;
+use record::legality::Tested;
+use record::refusal::Refusal;
+use record::types::Device;
+
+/// Why a line does not belong to the history of a record.
+#[derive(Clone, Copy)]
+pub enum Why {
+    /// No LF ends it.
+    Unended,
+    /// It says nothing: it is not one that a recorder writes.
+    SaysNothing,
+    /// It is the header of another file than the next, or stands before the first header.
+    OtherFile,
+    /// It has another sum than all that came before it.
+    OtherSum,
+    /// It states another count of lines since the header, or is one more than there can be.
+    OtherCount,
+    /// It states something else than the record shows.
+    OtherState,
+    /// It is an opening that got another place than it says.
+    OtherPlace,
+    /// It is a call that is refused.
+    Refused(Refusal),
+}
+
+fn shows(device: &Device, text: &[u8]) -> bool
+    ensures { result ≡ same_by itself text.now (device_shown device.now) }
+{
+    let mut shown: ArrayVec<u8, SHOWN_MOST> = ArrayVec::new();
+    shown::put_shown(device, &mut shown);
+    text::same(text, shown.as_slice())
+}
+
+fn header_misfit(log: &Recorder, header: &Header<'_>) -> Option<Why>
+    ensures { option_map why_seen result ≡ misfit_header log.now header.now.file header.now.sum }
+{
+    if header.file as u64 != log.file as u64 + 1 {
+        return Some(Why::OtherFile);
+    }
+    if header.sum != log.sum {
+        return Some(Why::OtherSum);
+    }
+    None
+}
+
+// Of a line that is no header: whether it can stand there.
+fn line_misfit(log: &Recorder) -> Option<Why>
+    ensures { option_map why_seen result ≡ misfit_line log.now }
+{
+    if log.file == 0 {
+        return Some(Why::OtherFile);
+    }
+    if log.lines == u32::MAX {
+        return Some(Why::OtherCount);
+    }
+    None
+}
+
+fn stated_misfit(log: &Recorder, device: &Device, stated: &Stated<'_>) -> Option<Why>
+    ensures { option_map why_seen result
+        ≡ misfit_stated log.now device.now stated.now.lines stated.now.sum stated.now.shown.now }
+{
+    if stated.lines != log.lines {
+        return Some(Why::OtherCount);
+    }
+    if stated.sum != log.sum {
+        return Some(Why::OtherSum);
+    }
+    if !shows(device, stated.shown) {
+        return Some(Why::OtherState);
+    }
+    None
+}
+
+// Why an entry does not stand where the reader is, if it does not.
+#[tactic(auto, unfolding(crate::specs::Chain::misfit))]
+fn misfit(log: &Recorder, device: &Device, entry: &Entry<'_>) -> Option<Why>
+    ensures { option_map why_seen result ≡ misfit log.now device.now (entry_seen entry.now) }
+{
+    match entry {
+        Entry::Header(header) => header_misfit(log, header),
+        Entry::Call(_) => line_misfit(log),
+        Entry::Stated(stated) => match line_misfit(log) {
+            Some(why) => Some(why),
+            None => stated_misfit(log, device, stated),
+        },
+    }
+}
+
+/// What a line says, which is given without its LF, if it stands where the reader is. The bytes that it says were
+/// received lie in the room, which is to be empty. Errors: `SaysNothing`; of a header `OtherFile` where it is not that
+/// of the next file, then `OtherSum`; of another line `OtherFile` before the first header, and `OtherCount` where no
+/// line more can be counted; of a stated line also `OtherCount`, then `OtherSum`, then `OtherState`.
+pub fn entry<'a>(
+    log: &Recorder,
+    device: &Device,
+    line: &'a [u8],
+    room: &'a mut Bytes,
+) -> Result<Entry<'a>, Why>
+    requires empty { room.old.items ≡ [] }
+    ensures { entry_read result ≡ entry_told log.now device.now line.now }
+{
+    let Some(said) = read::read(line, room) else {
+        return Err(Why::SaysNothing);
+    };
+    match misfit(log, device, &said) {
+        Some(why) => Err(why),
+        None => Ok(said),
+    }
+}
+
+fn stray(stray: Stray) -> Why
+    ensures { call_made (play_told (Err stray)) ≡ Err (why_seen result) }
+{
+    match stray {
+        Stray::Refused(why) => Why::Refused(why),
+        Stray::OtherPlace => Why::OtherPlace,
+    }
+}
+
+/// Makes again what a line says, as [`entry`] gave it there: a call is made, and the line, which is given without its
+/// LF, is counted and added to the sum. Returns the length of the reply, which fills the start of the memory; 0 for a
+/// header or a stated line. Errors: `Refused` with why a call is refused, which leaves all as it was; `OtherPlace` for
+/// an opening that gets another place than its line says: the record is then as the opening left it, the reply in the
+/// memory, and the three numbers as they were.
+#[tactic(auto, using(crate::proofs::Chained::stands_follow))]
+pub fn make(
+    log: &mut Recorder,
+    t: &mut Tested,
+    entry: &Entry<'_>,
+    line: &[u8],
+    reply: &mut [u8; REPLY_ROOM],
+) -> Result<usize, Why>
+    requires stands { entry_told log.old t.old.device line.now ≡ Ok (entry_seen entry.now) }
+    ensures told { made_seen result ≡ made_told t.old.device (entry_seen entry.now) }
+    ensures device { t.new.device ≡ device_made t.old.device (entry_seen entry.now) }
+    ensures reply { reply.new ≡ over (reply_made t.old.device (entry_seen entry.now)) reply.old }
+    ensures log { log.new ≡ log_made log.old t.old.device (entry_seen entry.now) line.now }
+{
+    let count = match entry {
+        Entry::Call(call) => match play::play(t, call, reply) {
+            Ok(count) => count,
+            Err(why) => return Err(stray(why)),
+        },
+        _ => 0,
+    };
+    log.read_past(entry, line);
+    Ok(count)
+}
