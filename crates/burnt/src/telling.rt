@@ -1,18 +1,13 @@
-// A log read to its end, of which is told which lamp burnt when.
-ghost use Rattle.std.specs.Prelude.{[], ◌≡◌, ◌≢◌, ◌+◌, ◌≤◌, ◌<◌, ◌^◌, map, length, Err};
-ghost use Rattle.std.specs.Prelude.{IfErr, OnOk, IfSome};
-ghost use Rattle.std.specs.Io.KnownBytes.{Appends};
-ghost use Rattle.textio.specs.Fronts.{WritesFront, WritesText};
-ghost use Rattle.textio.specs.Ahead.{left_in};
-ghost use Rattle.textio.specs.NextLine.{FailureComesOf, OnFailedRead};
-ghost use Rattle.watch.specs.Marking.{floor_event};
-ghost use Rattle.watch.specs.Telling.{seconds_together, telling_if, after_log};
+// What is told of a log as it is watched: its stretches as they end, and in the end each lamp's seconds.
+ghost use Rattle.std.specs.Prelude.{◌≡◌, ◌+◌, ◌≤◌, ◌^◌, map, OnOk, sum_by};
+ghost use Rattle.textio.specs.Fronts.{WritesText};
+ghost use Rattle.textio.specs.Lines.{texts_of};
+ghost use Rattle.watch.specs.Marking.{floor_event, floor_steps, seconds_by};
+ghost use Rattle.watch.specs.Telling.{telling_if, after_log};
 ghost use Rattle.watch.specs.States.{state_of};
-ghost use Rattle.burnt.specs.Told.{tellings_text, report_after, totals_text, told_from, log_told, IsUntold};
-ghost use Rattle.burnt.specs.Told.{told_within, IsToldSoFar};
+ghost use Rattle.burnt.specs.Told.{tellings_text, report_after, totals_text, told_from, told_within};
 
 use floorlog::kept::KeptLine;
-use floorlog::observer;
 use floorlog::observer::Observer;
 use record::types::Device;
 use report::Report;
@@ -21,13 +16,12 @@ use report::page::Stretch;
 use std::io;
 use text::rooms;
 use textio::lines::Failure;
-use textio::reader::{ByteSource, Reader};
 use textio::writer::ByteSink;
 use watch::Watch;
 
-// The stretches that ended, if any did.
+/// The stretches that ended, if any did.
 #[tactic(auto, unfolding(crate::specs::Told::tellings_text, crate::specs::Told::report_after))]
-fn tell_ended<W: ByteSink>(
+pub fn tell_ended<W: ByteSink>(
     ended: bool,
     report: &mut Report,
     watch: &Watch,
@@ -49,42 +43,56 @@ fn tell_ended<W: ByteSink>(
     report.tell(to, lit, stretch)
 }
 
-// The seconds of each lamp, in all, of a log that began with these.
-fn tell_totals<W: ByteSink>(
-    report: Report,
-    watch: &Watch,
-    starts: [u32; LAMPS],
-    to: &mut W,
-) -> io::Result<()>
-    ensures { WritesText W.fails_with (W.contents to.old) (W.contents to.new) result
-        (totals_text report starts (state_of watch.now)) }
+/// The seconds of each lamp, in all, of a log that began with these.
+pub fn totals_of(watch: &Watch, starts: [u32; LAMPS]) -> Totals
+    ensures count { result.count ≡ min watch.now.tested.device.settings.lamp_count 8 }
+    ensures starts { result.starts ≡ starts }
+    ensures burnt { result.burnt ≡ burnt_by (state_of watch.now) }
+    ensures lasts { result.lasts ≡ watch.now.tested.device.own.lamps }
 {
     let device = watch.device();
-    let totals = Totals {
+    Totals {
         count: device.settings.lamp_count.min(LAMPS),
         starts,
         burnt: watch.burnt(),
         lasts: device.own.lamps,
-    };
-    report.end(to, watch.time(), totals)
+    }
 }
 
-// A log that is watched, as it is told: its lamps had these seconds where it began.
+/// A log of the first kind that is watched, as it is told: its lamps had these seconds where it began.
 #[derive(Drop)]
-struct Teller {
+pub struct Teller {
     watch: Watch,
     report: Report,
     starts: [u32; LAMPS],
 }
 
+impl Teller {
+    /// Before a log that begins with a device.
+    pub fn new(begun: Device, report: Report) -> Teller
+        ensures watch { state_of result.watch ≡ watching_from begun }
+        ensures report { result.report ≡ report }
+        ensures starts { result.starts ≡ begun.own.lamps }
+    {
+        let starts = begun.own.lamps;
+        Teller {
+            watch: Watch::new(begun),
+            report,
+            starts,
+        }
+    }
+}
+
 impl Observer for Teller {
-    ghost output = { λ t ls. told_from t.starts t.report (state_of t.watch) (map floor_event ls) };
+    ghost output = { λ t ls. told_from (totals_text t.starts) t.report (state_of t.watch)
+        (floor_steps t.watch.tested.device (map floor_event (texts_of ls))) };
 
-    ghost leaves = { λ t ls last. (last.starts ≡ t.starts)
-        × (last.report ≡ report_after t.report (told_within (state_of t.watch) (map floor_event ls)))
-        × (state_of last.watch ≡ after_log (state_of t.watch) (map floor_event ls)) };
+    ghost leaves = { λ t ls last. let es = floor_steps t.watch.tested.device (map floor_event (texts_of ls)) in
+        (last.starts ≡ t.starts)
+        × (last.report ≡ report_after t.report (told_within (state_of t.watch) es))
+        × (state_of last.watch ≡ after_log (state_of t.watch) es) };
 
-    ghost overflows = { λ t ls. 2 ^ 64 ≤ t.watch.time + seconds_together (map floor_event ls) };
+    ghost overflows = { λ t ls. 2 ^ 64 ≤ t.watch.time + sum_by seconds_by (map floor_event (texts_of ls)) };
 
     // A line, and the stretches that ended with it.
     fn line<W: ByteSink>(&mut self, line: &KeptLine, to: &mut W) -> Result<(), Failure> {
@@ -98,40 +106,10 @@ impl Observer for Teller {
     fn end<W: ByteSink>(&mut self, to: &mut W) -> io::Result<()> {
         let mut report = self.report;
         tell_ended(self.watch.is_underway(), &mut report, &self.watch, to)?;
-        tell_totals(report, &self.watch, self.starts, to)
+        report.end(
+            to,
+            self.watch.time(),
+            totals_of(&self.watch, self.starts),
+        )
     }
-}
-
-/// The log that a reader has left, which begins with a device: which lamp burnt when goes to a sink, as lines or drawn
-/// on a page, as it comes. What is told is handed on before each read, which may wait.
-pub fn tell_log<R: ByteSource, W: ByteSink>(
-    begun: Device,
-    drawn: bool,
-    from: &mut Reader<R>,
-    to: &mut W,
-) -> Result<(), Failure>
-    ensures whole { OnOk result (IfSome (left_in R.remaining from.old) (λ log. Appends (W.contents to.old)
-        (W.contents to.new) (log_told begun drawn log))) }
-    ensures front { IfSome (left_in R.remaining from.old) (λ log. WritesFront (W.contents to.old)
-        (W.contents to.new) (log_told begun drawn log)) }
-    ensures none_waits { OnOk result (W.waiting to.new ≡ []) }
-    ensures read { IfErr result (OnFailedRead (W.waiting to.new ≡ [])) }
-    ensures broken { IfErr result (OnFailedRead (IfSome (left_in R.remaining from.old) (λ log.
-        IfSome (left_in R.remaining from.new) (λ left.
-        IsToldSoFar begun drawn log left (W.contents to.old) (W.contents to.new))))) }
-    ensures err { IfErr result
-        (FailureComesOf R.fails_with W.fails_with IsUntold (left_in R.remaining from.old)) }
-    ensures short { IfSome (left_in R.remaining from.old) (λ log. length log < 2 ^ 32
-        → result ≢ Err Failure.TooLong) }
-{
-    let starts = begun.own.lamps;
-    let report = Report::new(drawn);
-    let watch = Watch::new(begun);
-    let mut teller = Teller {
-        watch,
-        report,
-        starts,
-    };
-    report.begin(to).map_err(Failure::Write)?;
-    observer::follow(&mut teller, from, to)
 }

@@ -7,3 +7,4 @@ pub mod Fronts
 pub mod Written
 pub mod Illegal
 pub mod Chained
+pub mod Followed

@@ -2,3 +2,4 @@ pub mod Recorded
 pub mod Playing
 pub mod Played
 pub mod Chain
+pub mod Following

@@ -4,7 +4,7 @@
 // be told from another.
 ghost use Rattle.std.specs.Prelude.{◌≡◌, ◌≤◌, length, IfOk};
 ghost use Rattle.textio.specs.Fronts.{WritesText};
-ghost use Rattle.report.specs.Days.{days_of, rows_drawn, stretch_drawn};
+ghost use Rattle.report.specs.Days.{days_of, row_ended, rows_drawn, stretch_drawn};
 ghost use Rattle.report.specs.Frame.{page_begun, page_ended, page_ended_until};
 ghost use Rattle.report.specs.Reports.{stray_seen};
 
@@ -61,6 +61,13 @@ pub fn draw<W: ByteSink>(out: &mut W, rows: u64, lit: &[bool], s: Stretch) -> io
     Ok(opened)
 }
 
+// The last row ends.
+fn end_row<W: ByteSink>(out: &mut W) -> io::Result<()>
+    ensures { WritesText W.fails_with (W.contents out.old) (W.contents out.new) result row_ended }
+{
+    put(out, b"</svg>\n")
+}
+
 /// The rows up to the end of a log of so many seconds, and what stands below them.
 pub fn end<W: ByteSink>(out: &mut W, rows: u64, seconds: u64, t: Totals) -> io::Result<()>
     requires { t.count ≤ 8 }
@@ -68,7 +75,7 @@ pub fn end<W: ByteSink>(out: &mut W, rows: u64, seconds: u64, t: Totals) -> io::
         (page_ended rows seconds t.count t.starts t.burnt t.lasts) }
 {
     days::open_to(out, t.count as u64, rows, days_until(seconds))?;
-    put(out, b"</svg>\n")?;
+    end_row(out)?;
     frame::put_table(out, t)?;
     put(out, b"</body></html>\n")
 }
@@ -86,7 +93,7 @@ pub fn end_until<W: ByteSink>(
         (page_ended_until rows seconds t.count t.starts t.burnt t.lasts until.entry.lines (stray_seen until.entry.stray)) }
 {
     days::open_to(out, t.count as u64, rows, days_until(seconds))?;
-    put(out, b"</svg>\n")?;
+    end_row(out)?;
     frame::put_table(out, t)?;
     frame::put_until(out, seconds, until.lines)?;
     frame::put_stray(out, until.stray)?;

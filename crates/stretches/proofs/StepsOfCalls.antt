@@ -22,8 +22,7 @@ use Rattle.watch.specs.Watching.{Step, Watching, watched_on}
 use Rattle.watch.specs.Telling.{Telling, told_on, tellings, after_log}
 use Rattle.watch.proofs.DoneSpelt.{done_opening, done_receiving, done_passing, done_closing, done_nothing, done_marking}
 use Rattle.watch.proofs.LineLeaves.{done_legal}
-use Rattle.watch.proofs.TellingsSpelt.{tellings_more, after_none, after_more, still_leaves, still_tells, steps_none}
-use Rattle.watch.proofs.TellingsSpelt.{steps_more}
+use Rattle.watch.proofs.TellingsSpelt.{tellings_more, after_none, after_more, still_leaves, still_tells}
 use Rattle.stretches.specs.LogTold.{calls_by, calls_of}
 
 pub data StepsOf : Device → List Step → List Call → Type 0 where
@@ -119,7 +118,5 @@ event_step d legal (marked lamp to) more = called d (marked lamp to) more _ refl
 
 pub events_are_steps : (es : List FloorEvent) (d : Device) → is_legal d ≡ true
     → StepsOf d (floor_steps d es) (calls_of d es)
-events_are_steps [] d legal = subst (λ (l : List Step). StepsOf d l []) (sym (steps_none d)) no_step
-events_are_steps (e ∷ es) d legal =
-    subst (λ (l : List Step). StepsOf d l (calls_of d (e ∷ es))) (sym (steps_more d e es))
-    (event_step d legal e (events_are_steps es (done_by d e) (done_legal d legal e)))
+events_are_steps [] d legal = no_step
+events_are_steps (e ∷ es) d legal = event_step d legal e (events_are_steps es (done_by d e) (done_legal d legal e))

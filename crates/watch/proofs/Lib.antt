@@ -3,5 +3,6 @@ pub mod LineLeaves
 mod Sound
 mod Lamps
 mod OneLine
+mod Strays
 pub mod LinesKept
 pub mod TellingsSpelt

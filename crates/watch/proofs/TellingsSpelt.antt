@@ -3,9 +3,8 @@
 use Rattle.std.proofs.Common.{ℕ, ◌+◌, ◌-◌, ◌*◌, ◌≤◌, ◌≡◌, refl, Bool, true, false, not, ◌&&◌, if◌then◌else◌, arith}
 use Rattle.std.proofs.Common.{List, [], ◌∷◌, ◌++◌, map, length, sum_by}
 use Rattle.std.proofs.lemmas.List.Sums.{sum_by-cons}
-use Rattle.record.specs.declared.types.Device.{Device}
 use Rattle.clock.specs.Passing.{seconds_most}
-use Rattle.watch.specs.Marking.{FloorEvent, floor_event, floor_step, floor_steps, done_by, seconds_by}
+use Rattle.watch.specs.Marking.{floor_event, seconds_by}
 use Rattle.watch.specs.CallSteps.{still_step}
 use Rattle.watch.specs.Watching.{Step, Watching, is_burning_in, gained_by, is_long, watched_on}
 use Rattle.watch.specs.Telling.{telling_if, told_on, told_at_end, tellings, after_log}
@@ -56,16 +55,6 @@ module _ (s : Watching) where
   pub still_tells : told_on s (still_step s.device) ≡ []
   still_tells =
       let t = watched_on s (still_step s.device) in told_dark (is_burning_in s.device) (is_long t) t
-
-module _ (d : Device) where
-  pub steps_none : floor_steps d [] ≡ []
-  unfolding floor_steps
-  steps_none = refl
-
-  pub steps_more : (e : FloorEvent) (es : List FloorEvent)
-      → floor_steps d (e ∷ es) ≡ floor_step d e ∷ floor_steps (done_by d e) es
-  unfolding floor_steps
-  steps_more e es = refl
 
 -- a log of so many lines lets no more seconds pass than each could
 pub seconds_most_lem : (ls : List (List ℕ)) → sum_by seconds_by (map floor_event ls) ≤ length ls * seconds_most

@@ -58,6 +58,6 @@ seconds_by (marked lamp mark) = 0
 abbrev pub floor_step : Device → FloorEvent → Step
 floor_step d e = record { device = done_by d e; seconds = seconds_by e }
 
-unfoldable pub floor_steps : Device → List FloorEvent → List Step
+abbrev pub floor_steps : Device → List FloorEvent → List Step
 floor_steps d [] = []
 floor_steps d (e ∷ es) = floor_step d e ∷ floor_steps (done_by d e) es

@@ -1,0 +1,59 @@
+// A line that does not belong to the history of a record, and what is said of it.
+ghost use Rattle.std.specs.Prelude.{◌≡◌, ◌+◌, ◌≤◌, ◌++◌, length, []};
+ghost use Rattle.arrayvec.specs.ArrayVec.{array_vec_len};
+ghost use Rattle.recorded.specs.Chain.{why_seen};
+ghost use Rattle.recorded.specs.Following.{stray_seen, misfit_words, stray_text};
+
+use crate::chain::Why;
+use arrayvec::ArrayVec;
+use text::numbered::Numbered;
+
+/// The most bytes of what is said of a line that does not belong: its number has twenty digits at most.
+pub const STRAY_MOST: usize = 64;
+
+/// What is said of a line that does not belong.
+pub type StrayText = ArrayVec<u8, STRAY_MOST>;
+
+/// The first line of a log that does not belong.
+#[derive(Clone, Copy)]
+pub struct StrayLine {
+    /// The number of the line in the log, from 1.
+    pub line: u64,
+    /// Why it does not belong.
+    pub why: Why,
+}
+
+fn put_words(why: &Why, out: &mut StrayText)
+    requires { array_vec_len out.old ≤ 29 }
+    ensures { out.new.items ≡ out.old.items ++ misfit_words (why_seen why.now) }
+{
+    let words: &[u8] = match why {
+        Why::Unended => b"no line end",
+        Why::SaysNothing => b"no such line",
+        Why::OtherFile => b"not the next file",
+        Why::OtherSum => b"another sum",
+        Why::OtherCount => b"another count of lines",
+        Why::OtherState => b"the record shows something else",
+        Why::OtherPlace => b"another place was opened",
+        Why::Refused(refusal) => {
+            out.try_extend_from_slice(b"refused with ").unwrap();
+            numbers::put_number(refusal.number(), out);
+            return;
+        }
+    };
+    out.try_extend_from_slice(words).unwrap();
+}
+
+impl StrayLine {
+    /// Puts what is said of the line, without LF: `! line 5: no line end`.
+    #[tactic(auto, using(crate::proofs::Followed::stray_lengths), unfolding(crate::specs::Following::stray_text))]
+    pub fn put(&self, out: &mut StrayText)
+        requires { out.old.items ≡ [] }
+        ensures { out.new.items ≡ stray_text (stray_seen self.now) }
+    {
+        out.try_extend_from_slice(b"! line ").unwrap();
+        numbers::put_long(self.line, out);
+        out.try_extend_from_slice(b": ").unwrap();
+        put_words(&self.why, out);
+    }
+}
