@@ -15,7 +15,7 @@ use Rattle.std.specs.declared.option.Option.{Option}
 use Rattle.std.specs.Io.KnownBytes.{Appends}
 use Rattle.record.specs.declared.types.Device.{Device}
 use Rattle.clock.specs.Second.{marks_in}
-use Rattle.textio.specs.Lines.{IsTooLong}
+use Rattle.textio.specs.Lines.{LogLine, texts_of, IsTooLong}
 use Rattle.floorlog.specs.Kept.{kept_lines}
 use Rattle.watch.specs.Marking.{FloorEvent, floor_event}
 use Rattle.watch.specs.Watching.{Watching, watching_from, watched_on, burnt_by}
@@ -52,9 +52,9 @@ abbrev pub IsUntold : List ℕ → Type 0
 IsUntold log = IsTooLong log ⊎ IsUncounted log
 
 pub record IsToldSoFar (d : Device) (drawn : Bool) (log left : List ℕ) (old new : Option (List ℕ)) : Type 0 where
-  pub told : List (List ℕ)
+  pub told : List LogLine
   pub part : List ℕ
   pub one_line : All (λ b. b ≢ 10) part
   pub lines : kept_lines log ≡ told ++ kept_lines (part ++ left)
   pub printed : let r = report_new drawn in Appends old new (begun_text r
-      ++ tellings_text r (told_within (watching_from d) (map floor_event told)))
+      ++ tellings_text r (told_within (watching_from d) (map floor_event (texts_of told))))

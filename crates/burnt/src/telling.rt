@@ -2,6 +2,7 @@
 ghost use Rattle.std.specs.Prelude.{[], ◌≡◌, ◌≢◌, ◌+◌, ◌≤◌, ◌<◌, ◌^◌, map, length, Err};
 ghost use Rattle.std.specs.Prelude.{IfErr, OnOk, IfSome};
 ghost use Rattle.std.specs.Io.KnownBytes.{Appends};
+ghost use Rattle.textio.specs.Lines.{texts_of};
 ghost use Rattle.textio.specs.Fronts.{WritesFront, WritesText};
 ghost use Rattle.textio.specs.Ahead.{left_in};
 ghost use Rattle.textio.specs.NextLine.{FailureComesOf, OnFailedRead};
@@ -78,13 +79,13 @@ struct Teller {
 }
 
 impl Observer for Teller {
-    ghost output = { λ t ls. told_from t.starts t.report (state_of t.watch) (map floor_event ls) };
+    ghost output = { λ t ls. told_from t.starts t.report (state_of t.watch) (map floor_event (texts_of ls)) };
 
     ghost leaves = { λ t ls last. (last.starts ≡ t.starts)
-        × (last.report ≡ report_after t.report (told_within (state_of t.watch) (map floor_event ls)))
-        × (state_of last.watch ≡ after_log (state_of t.watch) (map floor_event ls)) };
+        × (last.report ≡ report_after t.report (told_within (state_of t.watch) (map floor_event (texts_of ls))))
+        × (state_of last.watch ≡ after_log (state_of t.watch) (map floor_event (texts_of ls))) };
 
-    ghost overflows = { λ t ls. 2 ^ 64 ≤ t.watch.time + seconds_together (map floor_event ls) };
+    ghost overflows = { λ t ls. 2 ^ 64 ≤ t.watch.time + seconds_together (map floor_event (texts_of ls)) };
 
     // A line, and the stretches that ended with it.
     fn line<W: ByteSink>(&mut self, line: &KeptLine, to: &mut W) -> Result<(), Failure> {
