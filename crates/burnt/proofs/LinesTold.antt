@@ -7,7 +7,7 @@ use Rattle.std.specs.declared.option.Option.{Option}
 use Rattle.std.specs.Io.KnownBytes.{Appends}
 use Rattle.std.proofs.KnownBytes.{Appends-trans}
 use Rattle.record.specs.declared.types.Device.{Device}
-use Rattle.textio.specs.Lines.{lines_of, IsTooLong}
+use Rattle.textio.specs.Lines.{texts_of, lines_of, IsTooLong}
 use Rattle.textio.specs.Fronts.{WritesFront}
 use Rattle.textio.proofs.LinesCounted.{lines_fit, too_long_bytes}
 use Rattle.textio.proofs.Fronts.{front_then, front_more}
@@ -71,31 +71,31 @@ pub untold_bytes : (log : List ℕ) → IsUntold log → 2 ^ 32 ≤ length log
 untold_bytes log h =
     ⊎_elim (λ (e : IsTooLong log). omega (arith, too_long_bytes log e))
     (λ (e : 2 ^ 64 ≤ seconds_together (floor_events log)).
-    omega (arith, e, seconds_most_lem (lines_of log), lines_fit [] log)) h
+    omega (arith, e, seconds_most_lem (lines_of log), lines_fit log)) h
 
 -- from the start of a log on
 pub untold : {t : ℕ} → t ≡ 0 → (log : List ℕ)
-    → IsTooLong log ⊎ (2 ^ 64 ≤ t + seconds_together (map floor_event (kept_lines log))) → IsUntold log
+    → IsTooLong log ⊎ (2 ^ 64 ≤ t + seconds_together (map floor_event (texts_of (kept_lines log)))) → IsUntold log
 untold {t} first log h =
     ⊎_elim (λ (e : IsTooLong log). inl e)
-    (λ (e : 2 ^ 64 ≤ t + seconds_together (map floor_event (kept_lines log))).
+    (λ (e : 2 ^ 64 ≤ t + seconds_together (map floor_event (texts_of (kept_lines log)))).
     inr (omega (arith, e, first, ap seconds_together (floor_events_kept log)))) h
 
 module _ {begun : Device} (drawn : Bool) {r : Report} {s : Watching} (new : r ≡ report_new drawn)
     (watched : s ≡ watching_from begun) where
-  log_text : (log : List ℕ) → begun_text r ++ told_from begun.own.lamps r s (map floor_event (kept_lines log))
+  log_text : (log : List ℕ) → begun_text r ++ told_from begun.own.lamps r s (map floor_event (texts_of (kept_lines log)))
       ≡ log_told begun drawn log
   log_text log = (λ i. begun_text (new i) ++ told_from begun.own.lamps (new i) (watched i) (floor_events_kept log i))
 
   module _ (a old mid now : Option (List ℕ)) where
     pub log_whole : Appends old mid (begun_text r)
-        → IfSome a (λ log. Appends mid now (told_from begun.own.lamps r s (map floor_event (kept_lines log))))
+        → IfSome a (λ log. Appends mid now (told_from begun.own.lamps r s (map floor_event (texts_of (kept_lines log)))))
         → IfSome a (λ log. Appends old now (log_told begun drawn log))
     log_whole w h =
         IfSome_then a h (λ log p. subst (Appends old now) (log_text log) (Appends-trans old mid now _ _ w p))
 
     pub log_front : Appends old mid (begun_text r)
-        → IfSome a (λ log. WritesFront mid now (told_from begun.own.lamps r s (map floor_event (kept_lines log))))
+        → IfSome a (λ log. WritesFront mid now (told_from begun.own.lamps r s (map floor_event (texts_of (kept_lines log)))))
         → IfSome a (λ log. WritesFront old now (log_told begun drawn log))
     log_front w h =
         IfSome_then a h (λ log f. subst (WritesFront old now) (log_text log) (front_then old mid now _ _ w f))
@@ -112,10 +112,10 @@ pub told_so_far : {begun : Device} {drawn : Bool} {t after : Teller} {log left :
     → t.report ≡ report_new drawn
     → state_of t.watch ≡ watching_from begun
     → Appends old mid (begun_text (report_new drawn))
-    → BreaksOff (λ (x : Teller) ls. told_from x.starts x.report (state_of x.watch) (map floor_event ls))
+    → BreaksOff (λ (x : Teller) ls. told_from x.starts x.report (state_of x.watch) (map floor_event (texts_of ls)))
     (λ (x : Teller) ls (last : Teller). (last.starts ≡ x.starts)
-    × (last.report ≡ report_after x.report (told_within (state_of x.watch) (map floor_event ls)))
-    × (state_of last.watch ≡ after_log (state_of x.watch) (map floor_event ls)))
+    × (last.report ≡ report_after x.report (told_within (state_of x.watch) (map floor_event (texts_of ls))))
+    × (state_of last.watch ≡ after_log (state_of x.watch) (map floor_event (texts_of ls))))
     t after log left mid now
     → IsToldSoFar begun drawn log left old now
 told_so_far {begun} {drawn} {t} {after} {log} {left} {old} {mid} {now} starts report watch w b = record {
@@ -127,7 +127,7 @@ told_so_far {begun} {drawn} {t} {after} {log} {left} {old} {mid} {now} starts re
 }
   where
     es : List FloorEvent
-    es = map floor_event b.told
+    es = map floor_event (texts_of b.told)
 
     s : Watching
     s = state_of t.watch
@@ -145,7 +145,7 @@ told_so_far {begun} {drawn} {t} {after} {log} {left} {old} {mid} {now} starts re
     text_is = append_cancel_right b.text _ later
         ((λ i. b.text ++ told_from (sym at.0 i) (sym at.1 i) (sym at.2 i) [])
         ∙ sym (b.then [])
-        ∙ ap (λ (l : List FloorEvent). told_from t.starts t.report s l) (map-append floor_event b.told [])
+        ∙ ap (λ (l : List FloorEvent). told_from t.starts t.report s l) (map-append floor_event (texts_of b.told) [])
         ∙ told_then t.starts t.report s es [])
 
     from_begun : tellings_text t.report (told_within s es)
