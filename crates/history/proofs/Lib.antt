@@ -7,3 +7,5 @@ pub mod Printable
 pub mod Logs
 pub mod Chain
 pub mod ShownFits
+pub mod ShownPlain
+pub mod Served

@@ -38,7 +38,7 @@ hex_digit_printable b h = grind (arith, nat_tests)
 decimal_printable : (b : ℕ) → is_digit b ≡ true → is_printable b ≡ true
 decimal_printable b h = grind (arith, nat_tests)
 
-digits_printable : (n : ℕ) → list_all is_printable (digits n) ≡ true
+pub digits_printable : (n : ℕ) → list_all is_printable (digits n) ≡ true
 digits_printable n = list_all_implies is_digit is_printable decimal_printable (digits n) (digits_are_digits n)
 
 hex_printable : (n x : ℕ) → list_all is_printable (hex_digits n x) ≡ true

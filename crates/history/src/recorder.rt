@@ -1,15 +1,18 @@
 // The recorder: the line of a header, of a call and of what a record shows, into lent memory, and what is kept for the
 // next one.
 ghost use Rattle.std.specs.Prelude.{◌≡◌, ◌≤◌, length, true, false};
+ghost use Rattle.std.specs.Result.{is_ok};
 ghost use Rattle.text.specs.Words.{over};
 ghost use Rattle.text.specs.Outcomes.{told_written, written_told};
+ghost use Rattle.record.specs.Legal.{is_legal};
 ghost use Rattle.record.specs.Refusals.{refusal_number};
 ghost use Rattle.crc32.specs.Crc.{crc32_of, crc32_on};
-ghost use Rattle.history.specs.Calls.{call_seen};
+ghost use Rattle.history.specs.Calls.{call_seen, is_sayable};
 ghost use Rattle.history.specs.Entries.{time_seen, entry_seen, is_sayable_entry, entry_line, call};
 ghost use Rattle.history.specs.Recording.{log_line_room, cannot_follow, counted, read_past};
 ghost use Rattle.history.specs.Recording.{recorded_by, recorder_after, header_next};
-ghost use Rattle.history.specs.Recording.{stated_by, stated_after};
+ghost use Rattle.history.specs.Recording.{stated_next, stated_by, stated_after};
+ghost use Rattle.history.specs.Shown.{device_shown};
 
 use crate::call::Call;
 use crate::entry::{Entry, Header, SHOWN_MOST, Stated};
@@ -157,6 +160,9 @@ impl Recorder {
         ensures memory { out.new
             ≡ over (recorded_by self.old (call (call_seen made.now)) (length out.old)).bytes out.old }
         ensures kept { self.new ≡ recorder_after self.old (call (call_seen made.now)) (length out.old) }
+        ensures served { is_sayable (call_seen made.now) ≡ true → log_line_room ≤ length out.old
+            → cannot_follow self.old (call (call_seen made.now)) ≡ false
+            → is_ok result ≡ true }
     {
         self.record(&Entry::Call(*made), out)
     }
@@ -164,13 +170,16 @@ impl Recorder {
     /// Records what a record shows: its power and seconds, with the count of lines and the sum so far. Returns the
     /// length of the line, which fills the start of the memory; its rest stays. Errors, in this order, with which the
     /// recorder and all of the memory stay: `NotLegal`; `NoRoom` under 4,097 bytes of memory; `OutOfRange` before the
-    /// first file, and past 4,294,967,295 lines of a file.
+    /// first file, and past 4,294,967,295 lines of a file, and never for what a legal record shows.
     #[tactic(auto, unfolding(crate::specs::Recording::stated_by, crate::specs::Recording::stated_after))]
     pub fn stated(&mut self, device: &Device, out: &mut [u8]) -> Result<usize, Refusal>
         ensures told { written_told refusal_number result
             ≡ told_written (stated_by self.old device.now (length out.old)) }
         ensures memory { out.new ≡ over (stated_by self.old device.now (length out.old)).bytes out.old }
         ensures kept { self.new ≡ stated_after self.old device.now (length out.old) }
+        ensures served { is_legal device.now ≡ true → log_line_room ≤ length out.old
+            → cannot_follow self.old (stated_next self.old (device_shown device.now)) ≡ false
+            → is_ok result ≡ true }
     {
         if !device.is_legal() {
             return Err(Refusal::NotLegal);

@@ -42,7 +42,7 @@ module _ (d : Device) where
       (λ z. absurd (omega arith))
       (λ legal right z. right) (eqb-true _ 0 h)
 
-  typed : (c : Call) → IsTypedCall c → IsTyped (recorded_call d c)
+  pub typed : (c : Call) → IsTypedCall c → IsTyped (recorded_call d c)
   typed (opens random m) t = t
   typed (closes p) t = tt
   typed (receives p bs m) t = grind (arith, bytes_taken (ours.receive d p bs m).taken bs)
@@ -51,7 +51,7 @@ module _ (d : Device) where
   typed (reports errors) t = tt
   typed (enables lamp mark) t = tt
 
-  sayable : (c : Call) → is_served d c ≡ true → (gave_by ours d c).taken ≤ received_most
+  pub sayable : (c : Call) → is_served d c ≡ true → (gave_by ours d c).taken ≤ received_most
       → is_sayable (recorded_call d c) ≡ true
   sayable (opens random m) h few = grind (arith, place_there random m h)
   sayable (closes p) h few = grind (arith, (served_there (closes p) h).there.0)

@@ -7,4 +7,6 @@ pub mod Fronts
 pub mod Written
 pub mod Illegal
 pub mod Chained
+pub mod Believed
+pub mod Kept
 pub mod Followed

@@ -8,19 +8,29 @@
 --   made_seen t          the same of what the code's function returns
 --   device_made d e      the record then
 --   reply_made d e       the reply
---   log_made r d e l     the three numbers then, where the line l says e
+--   is_made d e          it belongs;    log_made r d e l   the three numbers then, where the line l says e
+--   Followed             where a reader stands after some lines: the three numbers, the record, and the calls that they
+--                        say with their replies
+--   followed r d ls      where it stands after the lines ls, given without their LFs, if each belongs
+--   HoldsFor p d e       the entry e tells the truth of the record d, where the log stands at p: a call belongs, what is
+--                        stated is shown, and a line more can be counted;    AllHold p d es   each where those before
+--                        it leave both
 -- Assumes nothing.
-use Rattle.std.specs.Prelude.{ℕ, ◌+◌, Bool, true, not, List, [], if◌then◌else◌, ◌==◌}
+use Rattle.std.specs.Prelude.{ℕ, ◌+◌, ◌≡◌, ◌<◌, Bool, true, not, List, [], ◌∷◌, if◌then◌else◌, ◌==◌}
 use Rattle.std.specs.Prelude.{Option, Some, None, Result, Ok, Err}
-use Rattle.std.specs.Option.{option_or}
+use Rattle.std.specs.Option.{option_or, option_map}
+use Rattle.std.specs.Result.{result_ok}
 use Rattle.text.specs.Scans.{same_by, itself}
+use Rattle.words.specs.Codec.{◌>>=◌}
 use Rattle.record.specs.Refusals.{refusal_number}
 use Rattle.record.specs.declared.types.Device.{Device}
 use Rattle.ours.specs.Board.{ours}
 use Rattle.demands.specs.Calls.{after}
 use Rattle.history.specs.Lines.{number_most}
+use Rattle.history.specs.Calls.{LogCall}
 use Rattle.history.specs.Entries.{LogEntry, header, call, stated, entry_seen, entry_in}
 use Rattle.history.specs.Shown.{device_shown}
+use Rattle.history.specs.Logs.{LogPlace, past}
 use Rattle.history.specs.Recording.{read_past}
 use Rattle.history.specs.declared.entry.Entry.{Entry}
 use Rattle.history.specs.declared.recorder.Recorder.{Recorder}
@@ -125,3 +135,37 @@ is_made d e = true
 
 abbrev pub log_made : Recorder → Device → LogEntry → List ℕ → Recorder
 log_made r d e l = if is_made d e then read_past r e l else r
+
+-- ---- line by line
+
+pub record Followed : Type 0 where
+  pub log : Recorder
+  pub device : Device
+  pub calls : List LogCall
+  pub replies : List (List ℕ)
+
+abbrev pub and_reply : Device → LogEntry → Followed → Followed
+and_reply d (call c) f = record {
+  log = f.log;
+  device = f.device;
+  calls = c ∷ f.calls;
+  replies = reply_made d (call c) ∷ f.replies;
+}
+and_reply d e f = f
+
+abbrev pub followed : Recorder → Device → List (List ℕ) → Option Followed
+followed r d [] = Some (record { log = r; device = d; calls = []; replies = [] })
+followed r d (l ∷ ls) =
+    result_ok (entry_told r d l) >>= λ e. result_ok (made_told d e)
+    >>= λ n. option_map (and_reply d e) (followed (log_made r d e l) (device_made d e) ls)
+
+-- ---- what a history says of the record
+
+abbrev pub HoldsFor : LogPlace → Device → LogEntry → Type 0
+HoldsFor p d (header f s t) = Unit {0}
+HoldsFor p d (call c) = (p.lines < number_most) × (belongs d c ≡ true)
+HoldsFor p d (stated n s shown) = (p.lines < number_most) × (shown ≡ device_shown d)
+
+abbrev pub AllHold : LogPlace → Device → List LogEntry → Type 0
+AllHold p d [] = Unit {0}
+AllHold p d (e ∷ es) = HoldsFor p d e × AllHold (past p e) (device_made d e) es

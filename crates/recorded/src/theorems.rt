@@ -1,15 +1,22 @@
 // What is proved of recorded calls. Nothing is done here: that these functions have their contracts is that the
 // theorems stand.
-ghost use Rattle.std.specs.Prelude.{◌≡◌, ◌≤◌, ℕ, List, Some, map, length, take};
+ghost use Rattle.std.specs.Prelude.{◌≡◌, ◌≤◌, ◌<◌, ◌+◌, ◌^◌, ℕ, true, List, [], Some, map, length, take};
 ghost use Rattle.record.specs.declared.types.Device.{Device};
 ghost use Rattle.ours.specs.Board.{ours};
-ghost use Rattle.demands.specs.Calls.{Call, run};
+ghost use Rattle.demands.specs.Calls.{Call, run, gave_by};
 ghost use Rattle.demands.specs.History.{Streams, history};
+ghost use Rattle.history.specs.Calls.{received_most};
+ghost use Rattle.history.specs.Lines.{number_most};
 ghost use Rattle.history.specs.Entries.{call};
 ghost use Rattle.history.specs.Logs.{Sayable};
+ghost use Rattle.textio.specs.Lines.{lines_ended};
+ghost use Rattle.history.specs.Recording.{log_line_room, recorded_by};
+ghost use Rattle.history.specs.declared.recorder.Recorder.{Recorder};
 ghost use Rattle.history.specs.Recording.{Asked, AreTyped, recorder_begun, entries_recorded, bytes_recorded};
-ghost use Rattle.recorded.specs.Recorded.{recorded, replies_of, AreTypedCalls, TakeFew};
+ghost use Rattle.recorded.specs.Recorded.{is_served, recorded_call, recorded, replies_of, AreTypedCalls, TakeFew};
 ghost use Rattle.recorded.specs.Playing.{played_call, played, replies_played, entry_calls, PlaysAs};
+ghost use Rattle.recorded.specs.Chain.{followed};
+ghost use Rattle.recorded.specs.Hosts.{HostStep, host_log, host_calls, host_left, AreKept, HaveRoom, AreTypedSteps};
 
 /// What is recorded of any calls from any record on, played back from that record, gives the record that the calls
 /// gave, the replies that they were given, and demand 3's history of the calls.
@@ -28,10 +35,15 @@ pub fn what_is_taken_is_enough()
 {}
 
 /// Each call that is served can be said by a line, if it takes 2,046 bytes at most: the recorder refuses none for what
-/// it is.
+/// it is; so it records each, given room for a line, once there is a file and while lines can be counted.
 pub fn served_calls_can_be_said()
-    ensures { (d : Device) (cs : List Call) → AreTypedCalls cs → TakeFew d cs
+    ensures said { (d : Device) (cs : List Call) → AreTypedCalls cs → TakeFew d cs
         → Sayable (map call (recorded d cs)) }
+    ensures one_recorded { (d : Device) (c : Call) → is_served d c ≡ true → (gave_by ours d c).taken ≤ received_most
+        → (r : Recorder) → 1 ≤ r.file → r.lines < number_most
+        → (n : ℕ) → log_line_room ≤ n → (recorded_by r (call (recorded_call d c)) n).number ≡ 0 }
+    ensures all_recorded { (d : Device) (ss : List (HostStep × ℕ)) → HaveRoom ss → TakeFew d (host_calls ss)
+        → (r : Recorder) → 1 ≤ r.file → r.lines + length ss < number_most → AreKept r d ss }
 {}
 
 /// What the recorder writes of these calls, with whatever headers and stated lines between them, plays back as they
@@ -46,4 +58,19 @@ pub fn what_is_written_plays_back(form: &[u8])
         → (n : ℕ)
         → (k : ℕ) × (k ≤ length cs)
         × PlaysAs d (take k cs) (take n (bytes_recorded (recorder_begun form.now) asked)) }
+{}
+
+/// What a host records is believed to its end. It makes any calls, on any record, and records each served one; it begins
+/// files and states what the record shows when it likes; and the recorder has refused none of the calls. Then each line
+/// that it wrote belongs, and a reader who began where the host began has its three numbers, its record and its replies.
+/// Cut at any byte, so does a front of the steps.
+pub fn what_a_host_records_is_believed()
+    ensures whole { (r : Recorder) (d : Device) (ss : List (HostStep × ℕ)) → r.lines < 2 ^ 32 → r.sum < 2 ^ 32
+        → AreTypedSteps ss → AreKept r d ss
+        → followed r d (lines_ended [] (host_log r d ss)) ≡ Some (host_left r d ss) }
+    ensures cut { (r : Recorder) (d : Device) (ss : List (HostStep × ℕ)) → r.lines < 2 ^ 32 → r.sum < 2 ^ 32
+        → AreTypedSteps ss → AreKept r d ss
+        → (n : ℕ)
+        → (k : ℕ) × (k ≤ length ss)
+        × (followed r d (lines_ended [] (take n (host_log r d ss))) ≡ Some (host_left r d (take k ss))) }
 {}

@@ -1,0 +1,284 @@
+-- What a host records is believed to its end: each line that it wrote belongs, and the reader then stands where the
+-- host does; cut anywhere, a front of it does so.
+-- Assumes nothing.
+use Rattle.std.specs.List.{list_all}
+use Rattle.std.specs.Result.{result_ok}
+use Rattle.std.specs.Option.{option_map}
+use Rattle.std.proofs.Common.{ℕ, zero, suc, ◌≤◌, ◌<◌, ◌^◌, ◌≡◌, Bool, true, false, List, [], ◌∷◌, ◌++◌, arith, length}
+use Rattle.std.proofs.Common.{take, refl, sym, ap, ◌∙◌, subst, Option, Some, None, Result, Ok, codes, inl, inr}
+use Rattle.std.proofs.Common.{append_assoc}
+use Rattle.std.proofs.lemmas.Bool.Decides.{nat_tests}
+use Prim.Native.Char.{code}
+use Rattle.text.specs.Scans.{same_by, itself}
+use Rattle.text.specs.Outcomes.{WrittenAs}
+use Rattle.text.proofs.Choices.{if_yes, if_no, both}
+use Rattle.words.specs.Codec.{◌>>=◌}
+use Rattle.record.specs.declared.types.Device.{Device}
+use Rattle.crc32.proofs.Changes.{crc32_on_within}
+use Rattle.ours.specs.Board.{ours}
+use Rattle.demands.specs.Calls.{Call, after, run}
+use Rattle.history.specs.Calls.{LogCall}
+use Rattle.history.specs.Entries.{LogEntry, header, call, stated, is_sayable_entry, IsTypedEntry, entry_text, entry_line}
+use Rattle.history.specs.Shown.{device_shown}
+use Rattle.textio.specs.Lines.{lines_ended}
+use Rattle.history.specs.Recording.{cannot_follow, advanced, recorded_by, recorder_after, header_next, stated_next}
+use Rattle.history.specs.declared.recorder.Recorder.{Recorder}
+use Rattle.history.proofs.Chain.{served, refused, tried, stated_tried}
+use Rattle.history.proofs.EntriesBack.{entry_back}
+use Rattle.history.proofs.Logs.{no_lines, line_ended, line_cut}
+use Rattle.history.proofs.Printable.{not_lf, entry_no_lf, line_bytes}
+use Rattle.recorded.specs.Recorded.{is_served, recorded_call, recorded as recorded_of, replied_by, replies_of}
+use Rattle.recorded.specs.Recorded.{IsTypedCall}
+use Rattle.recorded.specs.Playing.{belongs}
+use Rattle.recorded.specs.Played.{call_told}
+use Rattle.recorded.specs.Chain.{Misfit, misfit, unless, entry_at, entry_told, made_told, device_made, log_made}
+use Rattle.recorded.specs.Hosts.{HostStep, begins, makes, states, written_by, recorder_by, device_by, host_log}
+use Rattle.recorded.specs.Hosts.{recorder_left, host_calls, IsKept, AreKept, IsTypedStep, AreTypedSteps}
+use Rattle.recorded.specs.Hosts.{host_left}
+use Rattle.recorded.specs.Chain.{Followed, and_reply, followed}
+use Rattle.recorded.proofs.CallsSayable.{typed}
+use Rattle.recorded.proofs.Same.{IsPlayedSame, played_same, refused_leaves}
+
+-- ---- what the recorder writes stands where it wrote it
+
+same_itself : (s : List ℕ) → same_by itself s s ≡ true
+same_itself [] = refl
+same_itself (b ∷ s) = grind (arith, nat_tests, same_itself s)
+
+header_stands : (r : Recorder) (d : Device) (t : Option (List ℕ)) → misfit r d (header_next r t) ≡ None
+unfolding misfit
+header_stands r d t = grind (arith, nat_tests)
+
+call_stands : (r : Recorder) (d : Device) (c : LogCall) → cannot_follow r (call c) ≡ false
+    → misfit r d (call c) ≡ None
+unfolding misfit
+call_stands r d c h = grind (arith, nat_tests)
+
+stated_stands : (r : Recorder) (d : Device) → cannot_follow r (stated_next r (device_shown d)) ≡ false
+    → misfit r d (stated_next r (device_shown d)) ≡ None
+unfolding misfit
+stated_stands r d h = grind (arith, nat_tests, same_itself (device_shown d))
+
+module _ (r : Recorder) (d : Device) (e : LogEntry) where
+  told_again : IsTypedEntry e → is_sayable_entry e ≡ true → misfit r d e ≡ None → entry_told r d (entry_text e) ≡ Ok e
+  told_again t h fits = ap (entry_at r d) (entry_back e t h) ∙ ap (λ (m : Option Misfit). unless m e) fits
+
+  line_made : (l : List ℕ) (ls : List (List ℕ)) (n : ℕ) (q : Recorder) (k : Device) (f : Followed)
+      → entry_told r d l ≡ Ok e
+      → made_told d e ≡ Ok n
+      → log_made r d e l ≡ q
+      → device_made d e ≡ k
+      → followed q k ls ≡ Some f
+      → followed r d (l ∷ ls) ≡ Some (and_reply d e f)
+  line_made l ls n q k f told made log device rest =
+      ap (λ (o : Result LogEntry Misfit). result_ok o >>= λ e. result_ok (made_told d e)
+      >>= λ n. option_map (and_reply d e) (followed (log_made r d e l) (device_made d e) ls)) told
+      ∙ ap (λ (o : Result ℕ Misfit). result_ok o
+      >>= λ n. option_map (and_reply d e) (followed (log_made r d e l) (device_made d e) ls)) made
+      ∙ ap (option_map (and_reply d e)) ((λ i. followed (log i) (device i) ls) ∙ rest)
+
+-- ---- one step of a host
+
+record Small (r : Recorder) : Type 0 where
+  lines : r.lines < 2 ^ 32
+  sum : r.sum < 2 ^ 32
+
+small_next : (r : Recorder) (e : LogEntry) → Small r → is_sayable_entry e ≡ true → cannot_follow r e ≡ false
+    → Small (advanced r e)
+small_next r (header f s t) k h free =
+    record { lines = omega arith; sum = crc32_on_within r.sum _ k.sum (line_bytes (header f s t) h) }
+small_next r (call c) k h free =
+    record { lines = grind (arith, k.lines); sum = crc32_on_within r.sum _ k.sum (line_bytes (call c) h) }
+small_next r (stated n s shown) k h free =
+    record { lines = grind (arith, k.lines); sum = crc32_on_within r.sum _ k.sum (line_bytes (stated n s shown) h) }
+
+module _ (r : Recorder) (d : Device) (s : HostStep) (n : ℕ) where
+  abbrev recorder : Recorder
+  recorder = recorder_by r d s n
+
+  abbrev GoesOn : List (List ℕ) → List (List ℕ) → Type 0
+  GoesOn all ls = (ts : List (HostStep × ℕ))
+      → followed recorder (device_by d s) ls ≡ Some (host_left recorder (device_by d s) ts)
+      → followed r d all ≡ Some (host_left r d ((s, n) ∷ ts))
+
+  data Done : Type 0 where
+    wrote : (l : List ℕ) → list_all not_lf l ≡ true → (written_by r d s n).bytes ≡ l ++ codes "\n"
+        → Small recorder
+        → ((ls : List (List ℕ)) → GoesOn (l ∷ ls) ls)
+        → Done
+    silent : (written_by r d s n).bytes ≡ [] → Small recorder → ((ls : List (List ℕ)) → GoesOn ls ls) → Done
+
+-- it wrote the line of an entry that is no call
+still : (r : Recorder) (d : Device) (e : LogEntry) (s : HostStep) (n : ℕ) → Small r → IsTypedEntry e
+    → misfit r d e ≡ None
+    → is_sayable_entry e ≡ true
+    → (written_by r d s n).bytes ≡ entry_line e
+    → Small (recorder_by r d s n)
+    → made_told d e ≡ Ok 0
+    → log_made r d e (entry_text e) ≡ recorder_by r d s n
+    → device_made d e ≡ device_by d s
+    → ((ts : List (HostStep × ℕ))
+    → and_reply d e (host_left (recorder_by r d s n) (device_by d s) ts) ≡ host_left r d ((s, n) ∷ ts))
+    → Done r d s n
+still r d e s n small t fits h bytes next made log device left =
+    wrote (entry_text e) (entry_no_lf e h) bytes next
+    (λ ls ts rest.
+    line_made r d e (entry_text e) ls 0 (recorder_by r d s n) (device_by d s)
+    (host_left (recorder_by r d s n) (device_by d s) ts) (told_again r d e t h fits) made log device rest
+    ∙ ap Some (left ts))
+
+begun : (r : Recorder) (d : Device) (t : Option (List ℕ)) (n : ℕ) → Small r → Done r d (begins t) n
+begun r d t n k =
+    let e = header_next r t in
+    elim (tried r e n) [
+      | served h free number bytes next ↦
+          still r d e (begins t) n k k.sum (header_stands r d t) h bytes
+          (subst Small (sym next) (small_next r e k h free)) refl (sym next) refl (λ ts. refl)
+      | refused number bytes next ↦
+          silent bytes (subst Small (sym next) k) (λ ls ts rest. ap (λ (q : Recorder). followed q d ls) (sym next) ∙ rest)
+    ]
+
+stated_there : (r : Recorder) (d : Device) (n : ℕ) → Small r → Done r d states n
+stated_there r d n k =
+    let e = stated_next r (device_shown d) in
+    elim (stated_tried r d n) [
+      | served h free number bytes next ↦
+          still r d e states n k (k.lines, k.sum) (stated_stands r d free) h bytes
+          (subst Small (sym next) (small_next r e k h free)) refl (sym next) refl (λ ts. refl)
+      | refused number bytes next ↦
+          silent bytes (subst Small (sym next) k) (λ ls ts rest. ap (λ (q : Recorder). followed q d ls) (sym next) ∙ rest)
+    ]
+
+module _ (r : Recorder) (d : Device) (c : Call) (n : ℕ) (k : Small r) (t : IsTypedCall c) where
+  abbrev entry : LogEntry
+  entry = call (recorded_call d c)
+
+  abbrev recorder_then : Recorder
+  recorder_then = recorder_by r d (makes c) n
+
+  recorded : is_served d c ≡ true → is_sayable_entry entry ≡ true → cannot_follow r entry ≡ false
+      → (recorded_by r entry n).bytes ≡ entry_line entry
+      → recorder_after r entry n ≡ advanced r entry
+      → Done r d (makes c) n
+  recorded done h free bytes next =
+      let s : IsPlayedSame d c = played_same d c done in
+      let b : belongs d (recorded_call d c) ≡ true = both s.served s.there in
+      let same : recorder_then ≡ advanced r entry = if_yes _ _ done ∙ next in
+      wrote (entry_text entry) (entry_no_lf entry h) (ap (λ (w : WrittenAs). w.bytes) (if_yes _ _ done) ∙ bytes)
+      (subst Small (sym same) (small_next r entry k h free))
+      (λ ls ts rest.
+      line_made r d entry (entry_text entry) ls (call_told d (recorded_call d c)).length recorder_then (after ours d c)
+      (host_left recorder_then (after ours d c) ts)
+      (told_again r d entry (typed d c t) h (call_stands r d (recorded_call d c) free)) (if_yes _ _ b)
+      (if_yes _ _ b ∙ sym same) s.device rest
+      ∙ (λ i. Some (record {
+        log = recorder_left recorder_then (after ours d c) ts;
+        device = run ours (after ours d c) (host_calls ts);
+        calls = sym (if_yes (recorded_call d c ∷ recorded_of (after ours d c) (host_calls ts))
+            (recorded_of (after ours d c) (host_calls ts)) done) i;
+        replies = (ap (λ (w : List ℕ). w ∷ replies_of (after ours d c) (host_calls ts)) s.replied
+            ∙ sym (if_yes (replied_by d c ∷ replies_of (after ours d c) (host_calls ts))
+            (replies_of (after ours d c) (host_calls ts)) done)) i;
+      })))
+
+  unrecorded : is_served d c ≡ false → Done r d (makes c) n
+  unrecorded h =
+      let same : recorder_then ≡ r = if_no _ _ h in
+      let leaves : after ours d c ≡ d = refused_leaves d c h in
+      silent (ap (λ (w : WrittenAs). w.bytes) (if_no _ _ h)) (subst Small (sym same) k)
+      (λ ls ts rest. (λ i. followed (sym same i) (sym leaves i) ls)
+      ∙ rest
+      ∙ (λ i. Some (record {
+        log = recorder_left recorder_then (after ours d c) ts;
+        device = run ours (after ours d c) (host_calls ts);
+        calls = sym (if_no (recorded_call d c ∷ recorded_of (after ours d c) (host_calls ts))
+            (recorded_of (after ours d c) (host_calls ts)) h) i;
+        replies = sym (if_no (replied_by d c ∷ replies_of (after ours d c) (host_calls ts))
+            (replies_of (after ours d c) (host_calls ts)) h) i;
+      })))
+
+  made : (s : Bool) → is_served d c ≡ s → IsKept r d (makes c) n → Done r d (makes c) n
+  made true h kept =
+      elim (tried r entry n) [
+        | served s free number bytes next ↦ recorded h s free bytes next
+        | refused number bytes next ↦
+            absurd (grind (arith, kept h, number))
+      ]
+  made false h kept = unrecorded h
+
+step_done : (r : Recorder) (d : Device) (s : HostStep) (n : ℕ) → Small r → IsTypedStep s → IsKept r d s n → Done r d s n
+step_done r d (begins t) n k h kept = begun r d t n k
+step_done r d (makes c) n k h kept = made r d c n k h (is_served d c) refl kept
+step_done r d states n k h kept = stated_there r d n k
+
+-- ---- all of them
+
+believed_from : (ss : List (HostStep × ℕ)) (r : Recorder) (d : Device) → Small r → AreTypedSteps ss → AreKept r d ss
+    → followed r d (lines_ended [] (host_log r d ss)) ≡ Some (host_left r d ss)
+believed_from [] r d k t h = ap (followed r d) no_lines
+believed_from ((s, n) ∷ ss) r d k (t, ts) (h, hs) =
+    let more = host_log (recorder_by r d s n) (device_by d s) ss in
+    elim (step_done r d s n k t h) [
+      | wrote l no_lf bytes next on ↦
+          ap (λ (b : List ℕ). followed r d (lines_ended [] (b ++ more))) bytes
+          ∙ ap (λ (b : List ℕ). followed r d (lines_ended [] b)) (append_assoc l (codes "\n") more)
+          ∙ ap (followed r d) (line_ended l more no_lf)
+          ∙ on (lines_ended [] more) ss (believed_from ss (recorder_by r d s n) (device_by d s) next ts hs)
+      | silent bytes next on ↦
+          ap (λ (b : List ℕ). followed r d (lines_ended [] (b ++ more))) bytes
+          ∙ on (lines_ended [] more) ss (believed_from ss (recorder_by r d s n) (device_by d s) next ts hs)
+    ]
+
+abbrev Front : Recorder → Device → List (HostStep × ℕ) → List ℕ → Type 0
+Front r d ss b =
+    (m : ℕ) × (m ≤ length ss) × (followed r d (lines_ended [] b) ≡ Some (host_left r d (take m ss)))
+
+front_from : (ss : List (HostStep × ℕ)) (r : Recorder) (d : Device) → Small r → AreTypedSteps ss → AreKept r d ss
+    → (i : ℕ)
+    → Front r d ss (take i (host_log r d ss))
+front_from [] r d k t h zero = (0, omega arith, ap (followed r d) no_lines)
+front_from [] r d k t h (suc i) = (0, omega arith, ap (followed r d) no_lines)
+front_from ((s, n) ∷ ss) r d k (t, ts) (h, hs) i =
+    let q = recorder_by r d s n in
+    let more = host_log q (device_by d s) ss in
+    elim (step_done r d s n k t h) [
+      | wrote l no_lf bytes next on ↦
+          let text : host_log r d ((s, n) ∷ ss) ≡ l ++ (code "\n" ∷ more)
+          = ap (λ (b : List ℕ). b ++ more) bytes ∙ append_assoc l (codes "\n") more in
+          elim (line_cut l more no_lf i) [
+            | inl none ↦ (
+              0,
+              omega arith,
+              ap (λ (b : List ℕ). followed r d (lines_ended [] (take i b))) text
+                  ∙ ap (followed r d) none,
+            )
+            | inr (j, one) ↦
+                let (m, few, rest) = front_from ss q (device_by d s) next ts hs j in (
+                  suc m,
+                  omega (arith, few),
+                  ap (λ (b : List ℕ). followed r d (lines_ended [] (take i b))) text
+                      ∙ ap (followed r d) one
+                      ∙ on (lines_ended [] (take j more)) (take m ss) rest,
+                )
+          ]
+      | silent bytes next on ↦
+          let (m, few, rest) = front_from ss q (device_by d s) next ts hs i in (
+            suc m,
+            omega (arith, few),
+            ap (λ (b : List ℕ). followed r d (lines_ended [] (take i (b ++ more)))) bytes
+                ∙ on (lines_ended [] (take i more)) (take m ss) rest,
+          )
+    ]
+
+pub believed : (r : Recorder) (d : Device) (ss : List (HostStep × ℕ)) → r.lines < 2 ^ 32 → r.sum < 2 ^ 32
+    → AreTypedSteps ss
+    → AreKept r d ss
+    → followed r d (lines_ended [] (host_log r d ss)) ≡ Some (host_left r d ss)
+believed r d ss lines sum = believed_from ss r d (record { lines = lines; sum = sum })
+
+pub front_believed : (r : Recorder) (d : Device) (ss : List (HostStep × ℕ)) → r.lines < 2 ^ 32 → r.sum < 2 ^ 32
+    → AreTypedSteps ss
+    → AreKept r d ss
+    → (i : ℕ)
+    → Front r d ss (take i (host_log r d ss))
+front_believed r d ss lines sum = front_from ss r d (record { lines = lines; sum = sum })
