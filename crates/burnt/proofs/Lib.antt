@@ -1,2 +1,5 @@
 mod TellingsTold
 mod LinesTold
+mod FloorTold
+mod ChainLines
+mod ChainFollowed

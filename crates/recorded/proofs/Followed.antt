@@ -1,14 +1,15 @@
 -- A log followed, by what its next line is: one that belongs, or one that does not.
 -- Assumes nothing.
-use Rattle.std.proofs.Common.{ℕ, ◌+◌, ◌≡◌, refl, ap, ◌∙◌, Bool, true, false, List, [], ◌∷◌, Option, Some, None, Result, Ok, Err}
+use Rattle.std.proofs.Common.{ℕ, ◌+◌, ◌≡◌, refl, sym, ap, ◌∙◌, Bool, true, false, List, [], ◌∷◌, Option, Some, None, Result, Ok, Err}
 use Rattle.std.proofs.Common.{length-append}
 use Rattle.numbers.proofs.Digits.{digits_at_most_10, long_at_most_20}
 use Rattle.textio.specs.Lines.{LogLine}
 use Rattle.text.proofs.Choices.{if_yes, if_no}
 use Rattle.record.specs.declared.types.Device.{Device}
-use Rattle.history.specs.Entries.{LogEntry}
+use Rattle.history.specs.Entries.{LogEntry, entry_in}
 use Rattle.history.specs.declared.recorder.Recorder.{Recorder}
 use Rattle.recorded.specs.Chain.{Misfit, unended, entry_told, made_told, device_made, log_made}
+use Rattle.recorded.proofs.Chained.{entry_said}
 use Rattle.recorded.specs.Following.{as_made, and_made, line_told, said_then, belonging, FirstStray, stray_or, stray_from}
 
 pub ruleset stray_lengths =
@@ -44,6 +45,25 @@ module _ (r : Recorder) (d : Device) where
           → line_told r d l ≡ Ok e
       unfolding line_told
       line_belongs {e} h g = if_yes _ _ ended ∙ ap (and_made d) h ∙ ap (as_made e) g
+
+    -- what belongs is what it says
+    made_said : (t : Result ℕ Misfit) {e f : LogEntry} → as_made f t ≡ Ok e → f ≡ e
+    made_said (Ok n) h = cc
+    made_said (Err why) h = cc
+
+    told_said : (t : Result LogEntry Misfit) {e : LogEntry} → and_made d t ≡ Ok e → t ≡ Ok e
+    told_said (Ok f) {e} h = ap Ok (made_said (made_told d f) h)
+    told_said (Err why) h = cc
+
+    pub line_said : {e : LogEntry} → line_told r d l ≡ Ok e → entry_in l.text ≡ Some e
+    unfolding line_told
+    line_said {e} h = by l.ended refl
+      where
+        by : (t : Bool) → l.ended ≡ t → entry_in l.text ≡ Some e
+        by true ended =
+            (entry_said r d l.text e (told_said (entry_told r d l.text) (sym (if_yes _ _ ended) ∙ h))).0
+        by false cut =
+            let none : ◌≡◌ {A = Result LogEntry Misfit} (Err unended) (Ok e) = sym (if_no _ _ cut) ∙ h in cc
 
     -- and what follows
     module _ (ls : List LogLine) where
