@@ -7,7 +7,7 @@ use Rattle.std.specs.declared.option.Option.{Option}
 use Rattle.std.specs.Io.KnownBytes.{Appends}
 use Rattle.std.proofs.KnownBytes.{Appends-trans}
 use Rattle.record.specs.declared.types.Device.{Device}
-use Rattle.textio.specs.Lines.{texts_of, lines_of, IsTooLong}
+use Rattle.textio.specs.Lines.{LogLine, texts_of, lines_of, IsTooLong}
 use Rattle.textio.specs.Fronts.{WritesFront}
 use Rattle.textio.proofs.LinesCounted.{lines_fit, too_long_bytes}
 use Rattle.textio.proofs.Fronts.{front_then, front_more}
@@ -145,6 +145,8 @@ told_so_far {begun} {drawn} {t} {after} {log} {left} {old} {mid} {now} starts re
     text_is = append_cancel_right b.text _ later
         ((λ i. b.text ++ told_from (sym at.0 i) (sym at.1 i) (sym at.2 i) [])
         ∙ sym (b.then [])
+        ∙ ap (λ (l : List (List ℕ)). told_from t.starts t.report s (map floor_event l))
+        (map-append (λ (l : LogLine). l.text) b.told [])
         ∙ ap (λ (l : List FloorEvent). told_from t.starts t.report s l) (map-append floor_event (texts_of b.told) [])
         ∙ told_then t.starts t.report s es [])
 
