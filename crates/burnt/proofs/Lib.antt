@@ -2,4 +2,4 @@ mod TellingsTold
 mod LinesTold
 mod FloorTold
 mod ChainLines
-mod ChainFollowed
+mod ChainObserved

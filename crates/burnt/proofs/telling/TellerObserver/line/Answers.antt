@@ -5,7 +5,7 @@ use Rattle.textio.proofs.Failures.{both_mapped}
 use Rattle.floorlog.specs.KeptText.{kept_text}
 use Rattle.watch.specs.Marking.{floor_event}
 use Rattle.watch.specs.States.{state_of}
-use Rattle.burnt.proofs.LinesTold.{line_uncounted, line_counted, line_told, line_cut, line_left, line_reported}
+use Rattle.burnt.proofs.FloorTold.{line_uncounted, line_counted, line_told, line_cut, line_left, line_reported}
 use Rattle.burnt.proofs.telling.TellerObserver.line.Goals as goal
 
 pub returns-in_default-clause-err : goal.returns-in_default-clause-err
@@ -37,6 +37,6 @@ pub returns-clause-front : goal.returns-clause-front
 returns-clause-front g c =
     let t = c.args.self.now in
     let e = floor_event (kept_text c.args.line.now) in
-    let cut = λ (ls : List LogLine). line_cut (state_of t.watch) e (map floor_event (texts_of ls)) c.in-Some.ensures.watched
-    t.starts t.report c.tell_ended.ensures.text.front in
+    let cut = λ (ls : List LogLine). line_cut (state_of t.watch) e (map floor_event (texts_of ls))
+    c.in-Some.ensures.watched t.starts t.report c.tell_ended.ensures.text.front in
     grind (arith, cut)
