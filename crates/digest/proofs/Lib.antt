@@ -8,3 +8,4 @@ mod Padded
 mod Blocks
 pub mod Laws
 mod Vectors
+pub mod OneForm

@@ -9,3 +9,4 @@ pub mod Chain
 pub mod ShownFits
 pub mod ShownPlain
 pub mod Served
+pub mod OnlyLines

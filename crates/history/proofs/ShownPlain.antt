@@ -1,8 +1,8 @@
 -- What a record shows can be said by a stated line.
 -- Assumes nothing.
 use Rattle.std.specs.List.{list_all}
-use Rattle.std.proofs.Common.{ℕ, ◌+◌, ◌-◌, ◌≤◌, ◌≡◌, true, not, ◌&&◌, List, [], ◌∷◌, ◌++◌, arith, refl, sym, ap, subst, ◌∙◌}
-use Rattle.std.proofs.Common.{length, length-append, le-leb, nat_le, codes, append_assoc, slice_index_or, take}
+use Rattle.std.proofs.Common.{ℕ, ◌-◌, ◌≤◌, ◌≡◌, true, not, List, [], ◌∷◌, ◌++◌, arith, refl, sym, ap, subst, ◌∙◌}
+use Rattle.std.proofs.Common.{length, length-append, le-leb, codes, append_assoc, slice_index_or, take}
 use Rattle.std.proofs.lemmas.List.{append-nil}
 use Rattle.std.proofs.lemmas.Bool.Decides.{nat_tests}
 use Rattle.std.proofs.Math.Seq.{get_or-append_right}
@@ -14,7 +14,7 @@ use Rattle.numbers.specs.Decimal.{digits, is_digit}
 use Rattle.numbers.proofs.Digits.{digits_at_least_1, is_digit-slice_index_or}
 use Rattle.record.specs.declared.types.Device.{Device}
 use Rattle.history.specs.Lines.{is_plain, is_printable}
-use Rattle.history.specs.Entries.{LogEntry, stated, is_sayable_entry, shown_most}
+use Rattle.history.specs.Entries.{stated, is_sayable_entry, shown_most}
 use Rattle.history.specs.Shown.{lamp_shown, lamps_shown, power_and_lamps, device_shown}
 use Rattle.history.proofs.Printable.{digits_printable}
 
@@ -49,7 +49,8 @@ lamps_end : (xs a : List ℕ) → EndsPlain a → EndsPlain (a ++ lamps_shown xs
 lamps_end [] a e = subst EndsPlain (sym (append-nil a)) e
 lamps_end (x ∷ xs) a e =
     subst EndsPlain (append_assoc a (lamp_shown x) (lamps_shown xs))
-    (lamps_end xs (a ++ lamp_shown x) (ends_behind a (lamp_shown x) (ends_behind (codes " ") (digits x) (number_ends x))))
+    (lamps_end xs (a ++ lamp_shown x)
+    (ends_behind a (lamp_shown x) (ends_behind (codes " ") (digits x) (number_ends x))))
 
 lamp_printable : (x : ℕ) → list_all is_printable (lamp_shown x) ≡ true
 lamp_printable x = list_all-append is_printable (codes " ") (digits x) refl (digits_printable x)

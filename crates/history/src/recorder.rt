@@ -6,7 +6,7 @@ ghost use Rattle.text.specs.Words.{over};
 ghost use Rattle.text.specs.Outcomes.{told_written, written_told};
 ghost use Rattle.record.specs.Legal.{is_legal};
 ghost use Rattle.record.specs.Refusals.{refusal_number};
-ghost use Rattle.crc32.specs.Crc.{crc32_of, crc32_on};
+ghost use Rattle.crc32.specs.Crc.{crc32_of};
 ghost use Rattle.history.specs.Calls.{call_seen, is_sayable};
 ghost use Rattle.history.specs.Entries.{time_seen, entry_seen, is_sayable_entry, entry_line, call};
 ghost use Rattle.history.specs.Recording.{log_line_room, cannot_follow, counted, read_past};
@@ -76,8 +76,8 @@ impl Recorder {
         }
     }
 
-    /// For a reader of a history, which keeps the same numbers as its recorder: goes on past a line that was read, which
-    /// is given without its LF and says the entry.
+    /// For a reader of a history, which keeps the same numbers as its recorder: goes on past a line that was read. The
+    /// line is given without its LF, and says the entry.
     #[tactic(auto, using(crate::proofs::Fits::sum_past_lf))]
     pub fn read_past(&mut self, entry: &Entry<'_>, line: &[u8])
         requires room { cannot_follow self.old (entry_seen entry.now) ≡ false }

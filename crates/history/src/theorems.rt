@@ -6,12 +6,15 @@ ghost use Rattle.textio.specs.Lines.{cut_end};
 ghost use Rattle.history.specs.Logs.{Sayable, log_text, entries_in, begun_at, IsHistory};
 ghost use Rattle.history.specs.Recording.{Asked, AreTyped, recorder_begun, entries_recorded, bytes_recorded};
 
-/// What a line says is what it was written for, and no two entries have one line.
+/// What a line says is what it was written for; no two entries have one line, and no other line says an entry, which
+/// can be said.
 pub fn lines_say_what_they_were_written_for()
     ensures back { (e : LogEntry) → IsTypedEntry e → is_sayable_entry e ≡ true → entry_in (entry_text e) ≡ Some e }
     ensures one_line { (e f : LogEntry) → IsTypedEntry e → is_sayable_entry e ≡ true → IsTypedEntry f
         → is_sayable_entry f ≡ true
         → entry_text e ≡ entry_text f → e ≡ f }
+    ensures only { (l : List ℕ) (e : LogEntry) → entry_in l ≡ Some e
+        → (l ≡ entry_text e) × (is_sayable_entry e ≡ true) }
 {}
 
 /// A log says the entries that it was written for, and what is left of one that was cut, at any byte, says a front of

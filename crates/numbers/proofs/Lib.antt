@@ -5,3 +5,4 @@ pub mod ReadBack
 pub mod Reading
 pub mod HighestFirst
 pub mod Examples
+pub mod OneForm

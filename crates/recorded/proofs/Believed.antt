@@ -18,7 +18,8 @@ use Rattle.crc32.proofs.Changes.{crc32_on_within}
 use Rattle.ours.specs.Board.{ours}
 use Rattle.demands.specs.Calls.{Call, after, run}
 use Rattle.history.specs.Calls.{LogCall}
-use Rattle.history.specs.Entries.{LogEntry, header, call, stated, is_sayable_entry, IsTypedEntry, entry_text, entry_line}
+use Rattle.history.specs.Entries.{LogEntry, header, call, stated, is_sayable_entry, IsTypedEntry, entry_text}
+use Rattle.history.specs.Entries.{entry_line}
 use Rattle.history.specs.Shown.{device_shown}
 use Rattle.textio.specs.Lines.{lines_ended}
 use Rattle.history.specs.Recording.{cannot_follow, advanced, recorded_by, recorder_after, header_next, stated_next}
@@ -31,9 +32,9 @@ use Rattle.recorded.specs.Recorded.{is_served, recorded_call, recorded as record
 use Rattle.recorded.specs.Recorded.{IsTypedCall}
 use Rattle.recorded.specs.Playing.{belongs}
 use Rattle.recorded.specs.Played.{call_told}
-use Rattle.recorded.specs.Chain.{Misfit, misfit, unless, entry_at, entry_told, made_told, device_made, log_made}
-use Rattle.recorded.specs.Hosts.{HostStep, begins, makes, states, written_by, recorder_by, device_by, host_log}
-use Rattle.recorded.specs.Hosts.{recorder_left, host_calls, IsKept, AreKept, IsTypedStep, AreTypedSteps}
+use Rattle.recorded.specs.Chain.{Misfit, misfit, unless, said_there, entry_told, made_told, device_made, log_made}
+use Rattle.recorded.specs.Hosts.{HostStep, begins, makes, states, step_written, recorder_by, device_by, host_log}
+use Rattle.recorded.specs.Hosts.{recorder_left, step_calls, IsKept, AreKept, IsTypedStep, AreTypedSteps}
 use Rattle.recorded.specs.Hosts.{host_left}
 use Rattle.recorded.specs.Chain.{Followed, and_reply, followed}
 use Rattle.recorded.proofs.CallsSayable.{typed}
@@ -41,7 +42,7 @@ use Rattle.recorded.proofs.Same.{IsPlayedSame, played_same, refused_leaves}
 
 -- ---- what the recorder writes stands where it wrote it
 
-same_itself : (s : List ℕ) → same_by itself s s ≡ true
+pub same_itself : (s : List ℕ) → same_by itself s s ≡ true
 same_itself [] = refl
 same_itself (b ∷ s) = grind (arith, nat_tests, same_itself s)
 
@@ -60,10 +61,11 @@ unfolding misfit
 stated_stands r d h = grind (arith, nat_tests, same_itself (device_shown d))
 
 module _ (r : Recorder) (d : Device) (e : LogEntry) where
-  told_again : IsTypedEntry e → is_sayable_entry e ≡ true → misfit r d e ≡ None → entry_told r d (entry_text e) ≡ Ok e
-  told_again t h fits = ap (entry_at r d) (entry_back e t h) ∙ ap (λ (m : Option Misfit). unless m e) fits
+  pub told_again : IsTypedEntry e → is_sayable_entry e ≡ true → misfit r d e ≡ None
+      → entry_told r d (entry_text e) ≡ Ok e
+  told_again t h fits = ap (said_there r d) (entry_back e t h) ∙ ap (λ (m : Option Misfit). unless m e) fits
 
-  line_made : (l : List ℕ) (ls : List (List ℕ)) (n : ℕ) (q : Recorder) (k : Device) (f : Followed)
+  pub line_made : (l : List ℕ) (ls : List (List ℕ)) (n : ℕ) (q : Recorder) (k : Device) (f : Followed)
       → entry_told r d l ≡ Ok e
       → made_told d e ≡ Ok n
       → log_made r d e l ≡ q
@@ -102,17 +104,17 @@ module _ (r : Recorder) (d : Device) (s : HostStep) (n : ℕ) where
       → followed r d all ≡ Some (host_left r d ((s, n) ∷ ts))
 
   data Done : Type 0 where
-    wrote : (l : List ℕ) → list_all not_lf l ≡ true → (written_by r d s n).bytes ≡ l ++ codes "\n"
+    wrote : (l : List ℕ) → list_all not_lf l ≡ true → (step_written r d s n).bytes ≡ l ++ codes "\n"
         → Small recorder
         → ((ls : List (List ℕ)) → GoesOn (l ∷ ls) ls)
         → Done
-    silent : (written_by r d s n).bytes ≡ [] → Small recorder → ((ls : List (List ℕ)) → GoesOn ls ls) → Done
+    silent : (step_written r d s n).bytes ≡ [] → Small recorder → ((ls : List (List ℕ)) → GoesOn ls ls) → Done
 
 -- it wrote the line of an entry that is no call
 still : (r : Recorder) (d : Device) (e : LogEntry) (s : HostStep) (n : ℕ) → Small r → IsTypedEntry e
     → misfit r d e ≡ None
     → is_sayable_entry e ≡ true
-    → (written_by r d s n).bytes ≡ entry_line e
+    → (step_written r d s n).bytes ≡ entry_line e
     → Small (recorder_by r d s n)
     → made_told d e ≡ Ok 0
     → log_made r d e (entry_text e) ≡ recorder_by r d s n
@@ -135,7 +137,8 @@ begun r d t n k =
           still r d e (begins t) n k k.sum (header_stands r d t) h bytes
           (subst Small (sym next) (small_next r e k h free)) refl (sym next) refl (λ ts. refl)
       | refused number bytes next ↦
-          silent bytes (subst Small (sym next) k) (λ ls ts rest. ap (λ (q : Recorder). followed q d ls) (sym next) ∙ rest)
+          silent bytes (subst Small (sym next) k)
+          (λ ls ts rest. ap (λ (q : Recorder). followed q d ls) (sym next) ∙ rest)
     ]
 
 stated_there : (r : Recorder) (d : Device) (n : ℕ) → Small r → Done r d states n
@@ -146,7 +149,8 @@ stated_there r d n k =
           still r d e states n k (k.lines, k.sum) (stated_stands r d free) h bytes
           (subst Small (sym next) (small_next r e k h free)) refl (sym next) refl (λ ts. refl)
       | refused number bytes next ↦
-          silent bytes (subst Small (sym next) k) (λ ls ts rest. ap (λ (q : Recorder). followed q d ls) (sym next) ∙ rest)
+          silent bytes (subst Small (sym next) k)
+          (λ ls ts rest. ap (λ (q : Recorder). followed q d ls) (sym next) ∙ rest)
     ]
 
 module _ (r : Recorder) (d : Device) (c : Call) (n : ℕ) (k : Small r) (t : IsTypedCall c) where
@@ -173,12 +177,12 @@ module _ (r : Recorder) (d : Device) (c : Call) (n : ℕ) (k : Small r) (t : IsT
       (if_yes _ _ b ∙ sym same) s.device rest
       ∙ (λ i. Some (record {
         log = recorder_left recorder_then (after ours d c) ts;
-        device = run ours (after ours d c) (host_calls ts);
-        calls = sym (if_yes (recorded_call d c ∷ recorded_of (after ours d c) (host_calls ts))
-            (recorded_of (after ours d c) (host_calls ts)) done) i;
-        replies = (ap (λ (w : List ℕ). w ∷ replies_of (after ours d c) (host_calls ts)) s.replied
-            ∙ sym (if_yes (replied_by d c ∷ replies_of (after ours d c) (host_calls ts))
-            (replies_of (after ours d c) (host_calls ts)) done)) i;
+        device = run ours (after ours d c) (step_calls ts);
+        calls = sym (if_yes (recorded_call d c ∷ recorded_of (after ours d c) (step_calls ts))
+            (recorded_of (after ours d c) (step_calls ts)) done) i;
+        replies = (ap (λ (w : List ℕ). w ∷ replies_of (after ours d c) (step_calls ts)) s.replied
+            ∙ sym (if_yes (replied_by d c ∷ replies_of (after ours d c) (step_calls ts))
+            (replies_of (after ours d c) (step_calls ts)) done)) i;
       })))
 
   unrecorded : is_served d c ≡ false → Done r d (makes c) n
@@ -190,11 +194,11 @@ module _ (r : Recorder) (d : Device) (c : Call) (n : ℕ) (k : Small r) (t : IsT
       ∙ rest
       ∙ (λ i. Some (record {
         log = recorder_left recorder_then (after ours d c) ts;
-        device = run ours (after ours d c) (host_calls ts);
-        calls = sym (if_no (recorded_call d c ∷ recorded_of (after ours d c) (host_calls ts))
-            (recorded_of (after ours d c) (host_calls ts)) h) i;
-        replies = sym (if_no (replied_by d c ∷ replies_of (after ours d c) (host_calls ts))
-            (replies_of (after ours d c) (host_calls ts)) h) i;
+        device = run ours (after ours d c) (step_calls ts);
+        calls = sym (if_no (recorded_call d c ∷ recorded_of (after ours d c) (step_calls ts))
+            (recorded_of (after ours d c) (step_calls ts)) h) i;
+        replies = sym (if_no (replied_by d c ∷ replies_of (after ours d c) (step_calls ts))
+            (replies_of (after ours d c) (step_calls ts)) h) i;
       })))
 
   made : (s : Bool) → is_served d c ≡ s → IsKept r d (makes c) n → Done r d (makes c) n

@@ -5,7 +5,7 @@ use Rattle.record.specs.declared.types.Device.{Device}
 use Rattle.history.specs.Entries.{LogEntry, header, call, stated, entry_in}
 use Rattle.history.specs.Recording.{cannot_follow}
 use Rattle.history.specs.declared.recorder.Recorder.{Recorder}
-use Rattle.recorded.specs.Chain.{Misfit, misfit, unless, entry_at, entry_told}
+use Rattle.recorded.specs.Chain.{Misfit, misfit, unless, said_there, entry_told}
 
 can_follow : (r : Recorder) (d : Device) (e : LogEntry) → misfit r d e ≡ None → cannot_follow r e ≡ false
 unfolding misfit
@@ -18,7 +18,7 @@ unless_none : (m : Option Misfit) (f e : LogEntry) → unless m f ≡ Ok e → (
 unless_none None f e h = (cc, refl)
 unless_none (Some why) f e h = cc
 
-at_said : (r : Recorder) (d : Device) (o : Option LogEntry) (e : LogEntry) → entry_at r d o ≡ Ok e
+at_said : (r : Recorder) (d : Device) (o : Option LogEntry) (e : LogEntry) → said_there r d o ≡ Ok e
     → (o ≡ Some e) × (misfit r d e ≡ None)
 at_said r d None e h = cc
 at_said r d (Some f) e h =

@@ -1,7 +1,8 @@
 -- The recorder refuses none of a host's calls, given room for each line, once there is a file and while lines can be
 -- counted.
 -- Assumes nothing.
-use Rattle.std.proofs.Common.{ℕ, suc, ◌+◌, ◌≤◌, ◌<◌, ◌≡◌, Bool, true, false, List, [], ◌∷◌, arith, length, sym, subst, refl}
+use Rattle.std.proofs.Common.{ℕ, suc, ◌+◌, ◌≤◌, ◌<◌, ◌≡◌, Bool, true, false, List, [], ◌∷◌, arith, length, sym, subst}
+use Rattle.std.proofs.Common.{refl}
 use Rattle.std.proofs.Common.{leb-true, nat_le}
 use Rattle.std.proofs.lemmas.Bool.Decides.{nat_tests}
 use Rattle.text.specs.Outcomes.{WrittenAs}
@@ -18,7 +19,7 @@ use Rattle.history.specs.Recording.{advanced}
 use Rattle.history.specs.declared.recorder.Recorder.{Recorder}
 use Rattle.history.proofs.Chain.{Tried, served, refused, tried, stated_tried, recorded_if}
 use Rattle.recorded.specs.Recorded.{is_served, recorded_call, TakeFew}
-use Rattle.recorded.specs.Hosts.{HostStep, begins, makes, states, recorder_by, host_calls, AreKept, HaveRoom}
+use Rattle.recorded.specs.Hosts.{HostStep, begins, makes, states, recorder_by, step_calls, AreKept, HaveRoom}
 use Rattle.recorded.proofs.CallsSayable.{sayable}
 
 goes_on : (r : Recorder) (c : LogEntry) → 1 ≤ r.file → r.lines < number_most → cannot_follow r c ≡ false
@@ -73,14 +74,15 @@ after_call r d c n k false h g =
     (sym (if_no (recorder_after r (call (recorded_call d c)) n) r h)) (fewer r k g)
 
 kept_from : (ss : List (HostStep × ℕ)) (r : Recorder) (d : Device) → Going r (length ss) → HaveRoom ss
-    → TakeFew d (host_calls ss)
+    → TakeFew d (step_calls ss)
     → AreKept r d ss
 kept_from [] r d g room few = tt
 kept_from ((begins t, n) ∷ ss) r d g (room, rooms) few =
     let e = header_next r t in (
       tt,
       kept_from ss (recorder_by r d (begins t) n) d
-          (going_next r e (recorded_by r e n) (recorder_after r e n) (length ss) (grind (arith, nat_tests)) (tried r e n) g)
+          (going_next r e (recorded_by r e n) (recorder_after r e n) (length ss) (grind (arith, nat_tests))
+          (tried r e n) g)
           rooms few,
     )
 kept_from ((makes c, n) ∷ ss) r d g (room, rooms) (few, fews) = (
@@ -95,7 +97,7 @@ kept_from ((states, n) ∷ ss) r d g (room, rooms) few = (
       (grind (arith, nat_tests, g.file)) (stated_tried r d n) g) rooms few,
 )
 
-pub calls_kept : (d : Device) (ss : List (HostStep × ℕ)) → HaveRoom ss → TakeFew d (host_calls ss) → (r : Recorder)
+pub calls_kept : (d : Device) (ss : List (HostStep × ℕ)) → HaveRoom ss → TakeFew d (step_calls ss) → (r : Recorder)
     → 1 ≤ r.file
     → r.lines + length ss < number_most
     → AreKept r d ss

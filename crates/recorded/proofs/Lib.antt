@@ -10,3 +10,4 @@ pub mod Chained
 pub mod Believed
 pub mod Kept
 pub mod Followed
+pub mod Accepted

@@ -12,9 +12,9 @@
 --   Followed             where a reader stands after some lines: the three numbers, the record, and the calls that they
 --                        say with their replies
 --   followed r d ls      where it stands after the lines ls, given without their LFs, if each belongs
---   HoldsFor p d e       the entry e tells the truth of the record d, where the log stands at p: a call belongs, what is
---                        stated is shown, and a line more can be counted;    AllHold p d es   each where those before
---                        it leave both
+--   HoldsFor p d e       the entry e is true of the record d, where the log stands at p: a call belongs, what is stated
+--                        is shown, and a line more can be counted;    AllHold p d es   each where those before it leave
+--                        both
 -- Assumes nothing.
 use Rattle.std.specs.Prelude.{ℕ, ◌+◌, ◌≡◌, ◌<◌, Bool, true, not, List, [], ◌∷◌, if◌then◌else◌, ◌==◌}
 use Rattle.std.specs.Prelude.{Option, Some, None, Result, Ok, Err}
@@ -94,12 +94,12 @@ abbrev pub unless : Option Misfit → LogEntry → Result LogEntry Misfit
 unless None e = Ok e
 unless (Some why) e = Err why
 
-abbrev pub entry_at : Recorder → Device → Option LogEntry → Result LogEntry Misfit
-entry_at r d None = Err says_nothing
-entry_at r d (Some e) = unless (misfit r d e) e
+abbrev pub said_there : Recorder → Device → Option LogEntry → Result LogEntry Misfit
+said_there r d None = Err says_nothing
+said_there r d (Some e) = unless (misfit r d e) e
 
 abbrev pub entry_told : Recorder → Device → List ℕ → Result LogEntry Misfit
-entry_told r d l = entry_at r d (entry_in l)
+entry_told r d l = said_there r d (entry_in l)
 
 abbrev pub entry_read : Result Entry Why → Result LogEntry Misfit
 entry_read (Ok e) = Ok (entry_seen e)

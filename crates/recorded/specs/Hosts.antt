@@ -1,11 +1,11 @@
 -- A host that records (RULES, History of a board): it makes calls on its board, records each that is served, after it
 -- is made, and at will begins files and states what the record shows, each line into memory of its own.
 --   HostStep              what a host does: it begins a file, with a start time or none; makes a call; states
---   written_by r d s n    what the recorder gives and writes of the step s, made on the record d, lent n bytes
+--   step_written r d s n    what the recorder gives and writes of the step s, made on the record d, lent n bytes
 --   recorder_by r d s n   the recorder then;    device_by d s   the record then
 --   host_log r d ss       all that is written of the steps ss
 --   recorder_left r d ss  the recorder then
---   host_calls ss         the calls among them
+--   step_calls ss         the calls among them
 --   IsKept r d s n        if it is a call that is served, it is recorded;   AreKept r d ss   of each
 --   HaveRoom ss           each of them has the memory that any line fits in
 --   IsTypedStep s         its numbers are those that the code's types have;   AreTypedSteps ss   of each
@@ -28,10 +28,10 @@ pub data HostStep : Type 0 where
   makes : Call → HostStep
   states : HostStep
 
-abbrev pub written_by : Recorder → Device → HostStep → ℕ → WrittenAs
-written_by r d (begins t) n = recorded_by r (header_next r t) n
-written_by r d (makes c) n = if is_served d c then recorded_by r (call (recorded_call d c)) n else nothing_written 0
-written_by r d states n = stated_by r d n
+abbrev pub step_written : Recorder → Device → HostStep → ℕ → WrittenAs
+step_written r d (begins t) n = recorded_by r (header_next r t) n
+step_written r d (makes c) n = if is_served d c then recorded_by r (call (recorded_call d c)) n else nothing_written 0
+step_written r d states n = stated_by r d n
 
 abbrev pub recorder_by : Recorder → Device → HostStep → ℕ → Recorder
 recorder_by r d (begins t) n = recorder_after r (header_next r t) n
@@ -44,16 +44,16 @@ device_by d s = d
 
 abbrev pub host_log : Recorder → Device → List (HostStep × ℕ) → List ℕ
 host_log r d [] = []
-host_log r d (s ∷ ss) = (written_by r d s.0 s.1).bytes ++ host_log (recorder_by r d s.0 s.1) (device_by d s.0) ss
+host_log r d (s ∷ ss) = (step_written r d s.0 s.1).bytes ++ host_log (recorder_by r d s.0 s.1) (device_by d s.0) ss
 
 abbrev pub recorder_left : Recorder → Device → List (HostStep × ℕ) → Recorder
 recorder_left r d [] = r
 recorder_left r d (s ∷ ss) = recorder_left (recorder_by r d s.0 s.1) (device_by d s.0) ss
 
-abbrev pub host_calls : List (HostStep × ℕ) → List Call
-host_calls [] = []
-host_calls ((makes c, n) ∷ ss) = c ∷ host_calls ss
-host_calls (s ∷ ss) = host_calls ss
+abbrev pub step_calls : List (HostStep × ℕ) → List Call
+step_calls [] = []
+step_calls ((makes c, n) ∷ ss) = c ∷ step_calls ss
+step_calls (s ∷ ss) = step_calls ss
 
 abbrev pub IsKept : Recorder → Device → HostStep → ℕ → Type 0
 IsKept r d (makes c) n = is_served d c ≡ true → (recorded_by r (call (recorded_call d c)) n).number ≡ 0
@@ -80,7 +80,7 @@ AreTypedSteps (s ∷ ss) = IsTypedStep s.0 × AreTypedSteps ss
 abbrev pub host_left : Recorder → Device → List (HostStep × ℕ) → Followed
 host_left r d ss = record {
   log = recorder_left r d ss;
-  device = run ours d (host_calls ss);
-  calls = recorded d (host_calls ss);
-  replies = replies_of d (host_calls ss);
+  device = run ours d (step_calls ss);
+  calls = recorded d (step_calls ss);
+  replies = replies_of d (step_calls ss);
 }

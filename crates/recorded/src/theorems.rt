@@ -7,16 +7,16 @@ ghost use Rattle.demands.specs.Calls.{Call, run, gave_by};
 ghost use Rattle.demands.specs.History.{Streams, history};
 ghost use Rattle.history.specs.Calls.{received_most};
 ghost use Rattle.history.specs.Lines.{number_most};
-ghost use Rattle.history.specs.Entries.{call};
-ghost use Rattle.history.specs.Logs.{Sayable};
 ghost use Rattle.textio.specs.Lines.{lines_ended};
+ghost use Rattle.history.specs.Entries.{LogEntry, call, entry_in, entry_text};
+ghost use Rattle.history.specs.Logs.{Sayable, begun_at, IsHistory};
 ghost use Rattle.history.specs.Recording.{log_line_room, recorded_by};
 ghost use Rattle.history.specs.declared.recorder.Recorder.{Recorder};
 ghost use Rattle.history.specs.Recording.{Asked, AreTyped, recorder_begun, entries_recorded, bytes_recorded};
 ghost use Rattle.recorded.specs.Recorded.{is_served, recorded_call, recorded, replies_of, AreTypedCalls, TakeFew};
 ghost use Rattle.recorded.specs.Playing.{played_call, played, replies_played, entry_calls, PlaysAs};
-ghost use Rattle.recorded.specs.Chain.{followed};
-ghost use Rattle.recorded.specs.Hosts.{HostStep, host_log, host_calls, host_left, AreKept, HaveRoom, AreTypedSteps};
+ghost use Rattle.recorded.specs.Chain.{Followed, followed, AllHold};
+ghost use Rattle.recorded.specs.Hosts.{HostStep, host_log, step_calls, host_left, AreKept, HaveRoom, AreTypedSteps};
 
 /// What is recorded of any calls from any record on, played back from that record, gives the record that the calls
 /// gave, the replies that they were given, and demand 3's history of the calls.
@@ -42,7 +42,7 @@ pub fn served_calls_can_be_said()
     ensures one_recorded { (d : Device) (c : Call) → is_served d c ≡ true → (gave_by ours d c).taken ≤ received_most
         → (r : Recorder) → 1 ≤ r.file → r.lines < number_most
         → (n : ℕ) → log_line_room ≤ n → (recorded_by r (call (recorded_call d c)) n).number ≡ 0 }
-    ensures all_recorded { (d : Device) (ss : List (HostStep × ℕ)) → HaveRoom ss → TakeFew d (host_calls ss)
+    ensures all_recorded { (d : Device) (ss : List (HostStep × ℕ)) → HaveRoom ss → TakeFew d (step_calls ss)
         → (r : Recorder) → 1 ≤ r.file → r.lines + length ss < number_most → AreKept r d ss }
 {}
 
@@ -60,10 +60,10 @@ pub fn what_is_written_plays_back(form: &[u8])
         × PlaysAs d (take k cs) (take n (bytes_recorded (recorder_begun form.now) asked)) }
 {}
 
-/// What a host records is believed to its end. It makes any calls, on any record, and records each served one; it begins
-/// files and states what the record shows when it likes; and the recorder has refused none of the calls. Then each line
-/// that it wrote belongs, and a reader who began where the host began has its three numbers, its record and its replies.
-/// Cut at any byte, so does a front of the steps.
+/// What a host records is believed to its end. It makes any calls, on any record, and records each served one; it
+/// begins files and states what the record shows when it likes; and the recorder has refused none of the calls. Then
+/// each line that it wrote belongs, and a reader who began where the host began has its three numbers, its record and
+/// its replies. Cut at any byte, so does a front of the steps.
 pub fn what_a_host_records_is_believed()
     ensures whole { (r : Recorder) (d : Device) (ss : List (HostStep × ℕ)) → r.lines < 2 ^ 32 → r.sum < 2 ^ 32
         → AreTypedSteps ss → AreKept r d ss
@@ -73,4 +73,17 @@ pub fn what_a_host_records_is_believed()
         → (n : ℕ)
         → (k : ℕ) × (k ≤ length ss)
         × (followed r d (lines_ended [] (take n (host_log r d ss))) ≡ Some (host_left r d (take k ss))) }
+{}
+
+/// What a reader accepts of a chain, from a form on, is a history of that form that holds for the record: each line
+/// says an entry, which fits where those before it leave the log, calls belong, and what is stated is shown. And each
+/// such history is accepted.
+pub fn what_is_accepted_is_a_history()
+    ensures accepted { (form : List ℕ) (d : Device) (ls : List (List ℕ)) (f : Followed)
+        → followed (recorder_begun form) d ls ≡ Some f
+        → (es : List LogEntry) × (map entry_in ls ≡ map Some es) × IsHistory (begun_at form) es
+        × AllHold (begun_at form) d es }
+    ensures each { (form : List ℕ) (d : Device) (es : List LogEntry) → Sayable es → IsHistory (begun_at form) es
+        → AllHold (begun_at form) d es
+        → (f : Followed) × (followed (recorder_begun form) d (map entry_text es) ≡ Some f) }
 {}
