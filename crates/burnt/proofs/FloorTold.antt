@@ -1,10 +1,8 @@
 -- A log of the first kind told line by line.
 -- Assumes nothing.
 use Rattle.std.proofs.Common.{ℕ, ◌+◌, ◌^◌, ◌≤◌, ◌≡◌, refl, sym, subst, ap, ◌∙◌, List, [], ◌∷◌, ◌++◌, map, ◌⊎◌, ⊎_elim}
-use Rattle.std.proofs.Common.{arith, length, inl, inr, append-nil, sum_by, Bool}
+use Rattle.std.proofs.Common.{arith, length, inl, inr, sum_by, Bool}
 use Rattle.std.specs.declared.option.Option.{Option}
-use Rattle.std.specs.Io.KnownBytes.{Appends}
-use Rattle.std.proofs.KnownBytes.{Appends-trans}
 use Rattle.std.proofs.lemmas.List.Sums.{sum_by-cons}
 use Rattle.record.specs.declared.types.Device.{Device}
 use Rattle.textio.specs.Fronts.{WritesFront}
@@ -12,7 +10,6 @@ use Rattle.textio.specs.Lines.{LogLine, texts_of, lines_of, IsTooLong}
 use Rattle.textio.proofs.LinesCounted.{lines_fit, too_long_bytes}
 use Rattle.textio.proofs.Fronts.{front_more}
 use Rattle.floorlog.specs.Kept.{kept_lines}
-use Rattle.floorlog.specs.Observing.{BreaksOff}
 use Rattle.watch.specs.Marking.{FloorEvent, floor_event, floor_step, floor_steps, done_by, seconds_by}
 use Rattle.watch.specs.Watching.{Step, Watching, watching_from}
 use Rattle.watch.specs.Telling.{floor_events, telling_if, after_log}
@@ -22,7 +19,6 @@ use Rattle.watch.proofs.TellingsSpelt.{after_none, seconds_most_lem}
 use Rattle.report.specs.Reports.{report_new, begun_text}
 use Rattle.report.specs.declared.Report.{Report}
 use Rattle.burnt.specs.Told.{tellings_text, report_after, told_from, told_within, totals_text, log_told, IsUntold}
-use Rattle.burnt.specs.Told.{IsToldSoFar}
 use Rattle.burnt.specs.declared.telling.Teller.{Teller}
 use Rattle.burnt.proofs.TellingsTold.{report_within_none}
 use Rattle.burnt.proofs.LinesTold.{step_left, step_told, step_reported, text_so_far}
@@ -107,38 +103,15 @@ module _ {begun : Device} {drawn : Bool} {t : Teller} (starts : t.starts ≡ beg
       (floor_steps (watch i).device (floor_events_kept log i)))
 
   -- where a read fails
-  pub teller_so_far : {after : Teller} {log left : List ℕ} {old mid now : Option (List ℕ)}
-      → Appends old mid (begun_text (report_new drawn))
-      → BreaksOff teller_told TellerLeft t after log left mid now
-      → IsToldSoFar begun drawn log left old now
-  teller_so_far {after} {log} {left} {old} {mid} {now} w b = record {
-    told = b.told;
-    part = b.part;
-    one_line = b.one_line;
-    lines = b.lines;
-    printed = Appends-trans old mid now _ _ w (subst (Appends mid now) (text_is ∙ from_begun) b.written);
-  }
-    where
-      events : List FloorEvent
-      events = map floor_event (texts_of b.told)
+  pub teller_so_far : {after : Teller} {ls : List LogLine} {text : List ℕ}
+      → teller_told t ls ≡ text ++ teller_told after [] → TellerLeft t ls after
+      → text ≡ tellings_text (report_new drawn)
+      (told_within (watching_from begun) (floor_steps begun (map floor_event (texts_of ls))))
+  teller_so_far {after} {ls} {text} then at =
+      let events = map floor_event (texts_of ls) in
+      text_so_far (totals_text t.starts) t.report (state_of t.watch) (floor_steps t.watch.tested.device events) then
+      (λ i. told_from (totals_text (at.0 i)) (at.1 i) (at.2 i) [])
+      ∙ (λ i. tellings_text (report i) (told_within (watch i) (floor_steps (watch i).device events)))
 
-      es : List Step
-      es = floor_steps t.watch.tested.device events
-
-      s : Watching
-      s = state_of t.watch
-
-      at : TellerLeft t b.told after
-      at =
-          b.leaves after
-          (refl, sym (report_within_none after.report (state_of after.watch)), sym (after_none (state_of after.watch)))
-
-      text_is : b.text ≡ tellings_text t.report (told_within s es)
-      text_is =
-          text_so_far (totals_text t.starts) t.report s es
-          (ap (λ (ls : List LogLine). teller_told t ls) (sym (append-nil b.told)) ∙ b.then [])
-          (λ i. told_from (totals_text (at.0 i)) (at.1 i) (at.2 i) [])
-
-      from_begun : tellings_text t.report (told_within s es)
-          ≡ tellings_text (report_new drawn) (told_within (watching_from begun) (floor_steps begun events))
-      from_begun = (λ i. tellings_text (report i) (told_within (watch i) (floor_steps (watch i).device events)))
+pub teller_itself : (t : Teller) → TellerLeft t [] t
+teller_itself t = (refl, sym (report_within_none t.report (state_of t.watch)), sym (after_none (state_of t.watch)))

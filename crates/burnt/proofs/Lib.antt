@@ -3,3 +3,5 @@ mod LinesTold
 mod FloorTold
 mod ChainLines
 mod ChainObserved
+mod ChainBegun
+mod ByKinds

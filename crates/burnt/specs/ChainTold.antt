@@ -9,11 +9,9 @@
 --   chain_told d sum drawn log    what is written of a whole log that begins with the device d, on a page or as lines
 --   chain_stray d sum log    its first line that does not belong
 --   IsChainUntold log        it has more lines, or more bytes in one, or says more seconds, than 64 bits count
---   IsChainToldSoFar ..      as IsToldSoFar
 -- Assumes nothing.
-use Rattle.std.specs.Prelude.{ℕ, ◌+◌, ◌^◌, ◌≤◌, ◌≢◌, ◌⊎◌, ◌≡◌, min, Bool, List, [], ◌∷◌, ◌++◌, All, length, sum_by}
+use Rattle.std.specs.Prelude.{ℕ, ◌+◌, ◌^◌, ◌≤◌, ◌⊎◌, min, Bool, List, [], ◌++◌, length, sum_by}
 use Rattle.std.specs.Prelude.{Option, Some, None, option_map}
-use Rattle.std.specs.Io.KnownBytes.{Appends}
 use Rattle.record.specs.declared.types.Device.{Device}
 use Rattle.textio.specs.Lines.{LogLine, texts_of, IsTooLong}
 use Rattle.floorlog.specs.Kept.{kept_lines}
@@ -24,7 +22,7 @@ use Rattle.watch.specs.CallSteps.{entry_steps, said_seconds}
 use Rattle.watch.specs.Watching.{Watching, watching_from, burnt_by}
 use Rattle.report.specs.Reports.{report_new, begun_text, ended_until}
 use Rattle.report.specs.declared.Report.{Report}
-use Rattle.burnt.specs.Told.{tellings_text, told_within, told_from}
+use Rattle.burnt.specs.Told.{told_from}
 
 abbrev pub chain_begun : ℕ → Recorder
 chain_begun sum = record { file = 0; lines = 0; sum = sum }
@@ -57,12 +55,3 @@ chain_stray d sum log = stray_from 0 (chain_begun sum) d (kept_lines log)
 
 abbrev pub IsChainUntold : List ℕ → Type 0
 IsChainUntold log = IsTooLong log ⊎ (2 ^ 64 ≤ sum_by said_seconds (texts_of (kept_lines log)))
-
-pub record IsChainToldSoFar (d : Device) (sum : ℕ) (drawn : Bool) (log left : List ℕ) (old new : Option (List ℕ))
-    : Type 0 where
-  pub told : List LogLine
-  pub part : List ℕ
-  pub one_line : All (λ b. b ≢ 10) part
-  pub lines : kept_lines log ≡ told ++ kept_lines (part ++ left)
-  pub printed : let r = report_new drawn in Appends old new (begun_text r
-      ++ tellings_text r (told_within (watching_from d) (entry_steps d (belonging (chain_begun sum) d told))))

@@ -1,3 +1,4 @@
 pub mod Told
 pub mod ChainTold
 pub mod ChainTelling
+pub mod LogTold

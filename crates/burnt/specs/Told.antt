@@ -9,17 +9,11 @@
 --   log_told d drawn log     what is written of a whole log of the first kind that begins with the device d, on a page
 --                            or as lines
 --   IsUntold log             it has more lines, or more bytes in one, or lets more seconds pass, than 64 bits count
---   IsToldSoFar d drawn log left ..   the sink got what is told by the lines that have ended in what was read of the
---                            log, where this is left
 -- Assumes nothing.
-use Rattle.std.specs.Prelude.{ℕ, ◌≡◌, ◌≢◌, ◌⊎◌, min, Bool, List, [], ◌∷◌, ◌++◌, All, map}
-use Rattle.std.specs.declared.option.Option.{Option}
-use Rattle.std.specs.Io.KnownBytes.{Appends}
+use Rattle.std.specs.Prelude.{ℕ, ◌⊎◌, min, Bool, List, [], ◌∷◌, ◌++◌}
 use Rattle.record.specs.declared.types.Device.{Device}
 use Rattle.clock.specs.Second.{marks_in}
-use Rattle.textio.specs.Lines.{LogLine, texts_of, IsTooLong}
-use Rattle.floorlog.specs.Kept.{kept_lines}
-use Rattle.watch.specs.Marking.{floor_event, floor_steps}
+use Rattle.textio.specs.Lines.{IsTooLong}
 use Rattle.watch.specs.Watching.{Step, Watching, watching_from, watched_on, burnt_by}
 use Rattle.watch.specs.Telling.{log_steps, Telling, told_on, tellings, after_log, IsUncounted}
 use Rattle.report.specs.Reports.{report_new, begun_text, report_told, told_text, ended_text}
@@ -54,11 +48,3 @@ log_told d drawn log =
 
 abbrev pub IsUntold : List ℕ → Type 0
 IsUntold log = IsTooLong log ⊎ IsUncounted log
-
-pub record IsToldSoFar (d : Device) (drawn : Bool) (log left : List ℕ) (old new : Option (List ℕ)) : Type 0 where
-  pub told : List LogLine
-  pub part : List ℕ
-  pub one_line : All (λ b. b ≢ 10) part
-  pub lines : kept_lines log ≡ told ++ kept_lines (part ++ left)
-  pub printed : let r = report_new drawn in Appends old new (begun_text r
-      ++ tellings_text r (told_within (watching_from d) (floor_steps d (map floor_event (texts_of told)))))

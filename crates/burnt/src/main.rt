@@ -3,6 +3,7 @@
 // sample set-up, or that of the stored form in the file that the next argument names.
 #![tactic(auto)]
 
+mod chained;
 mod telling;
 #[cfg(test)]
 mod tests;
@@ -27,11 +28,25 @@ fn is_page(rt: &HostRuntime) -> bool {
     }
 }
 
+// The sum of the form that a log of the second kind begins with.
+fn sum_of(device: &Device) -> u32 {
+    let mut form = [0; 4504];
+    match stored::storing::store(device, &mut form) {
+        Ok(length) => crc32::crc32(&form[..length]),
+        Err(_) => 0,
+    }
+}
+
 fn show(rt: &HostRuntime, device: Device, drawn: bool) -> io::Result<()> {
     let mut from = Reader::new(Stream(rt.stdin()));
     let mut to = Writer::new(Stream(rt.stdout()));
-    let told = telling::tell_log(device, drawn, &mut from, &mut to);
-    cut::end_output(told, &mut to)
+    let sum = sum_of(&device);
+    let told = telling::tell_log(device, sum, drawn, &mut from, &mut to);
+    let ended = match told {
+        Ok(_) => Ok(()),
+        Err(failure) => Err(failure),
+    };
+    cut::end_output(ended, &mut to)
 }
 
 fn main(rt: HostRuntime) {

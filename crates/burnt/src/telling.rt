@@ -1,21 +1,35 @@
 // What is told of a log as it is watched: its stretches as they end, and in the end each lamp's seconds.
-ghost use Rattle.std.specs.Prelude.{◌≡◌, ◌+◌, ◌≤◌, ◌^◌, map, OnOk, sum_by};
-ghost use Rattle.textio.specs.Fronts.{WritesText};
+ghost use Rattle.std.specs.Prelude.{◌≡◌, ◌≢◌, ◌+◌, ◌≤◌, ◌<◌, ◌^◌, [], map, min, length, sum_by, if◌then◌else◌};
+ghost use Rattle.std.specs.Prelude.{None, Err, option_map};
+ghost use Rattle.std.specs.Prelude.{OnOk, IfOk, IfErr, IfSome};
+ghost use Rattle.std.specs.Io.KnownBytes.{Appends};
+ghost use Rattle.textio.specs.Fronts.{WritesFront, WritesText};
 ghost use Rattle.textio.specs.Lines.{texts_of};
+ghost use Rattle.textio.specs.Ahead.{left_in};
+ghost use Rattle.textio.specs.NextLine.{FailureComesOf, OnFailedRead};
+ghost use Rattle.floorlog.specs.Kinds.{is_history_from};
+ghost use Rattle.recorded.specs.Following.{stray_seen};
 ghost use Rattle.watch.specs.Marking.{floor_event, floor_steps, seconds_by};
 ghost use Rattle.watch.specs.Telling.{telling_if, after_log};
+ghost use Rattle.watch.specs.Watching.{watching_from, burnt_by};
 ghost use Rattle.watch.specs.States.{state_of};
 ghost use Rattle.burnt.specs.Told.{tellings_text, report_after, totals_text, told_from, told_within};
+ghost use Rattle.burnt.specs.LogTold.{told, stray_in, IsTooMuch, IsToldSoFar};
 
+use crate::chained::ChainTeller;
 use floorlog::kept::KeptLine;
+use floorlog::kinds::ByKind;
+use floorlog::observer;
 use floorlog::observer::Observer;
 use record::types::Device;
+use recorded::stray::StrayLine;
 use report::Report;
 use report::lamps::{LAMPS, Totals};
 use report::page::Stretch;
 use std::io;
 use text::rooms;
 use textio::lines::Failure;
+use textio::reader::{ByteSource, Reader};
 use textio::writer::ByteSink;
 use watch::Watch;
 
@@ -112,4 +126,53 @@ impl Observer for Teller {
             totals_of(&self.watch, self.starts),
         )
     }
+}
+
+// The first line that did not belong, if one did not.
+fn stray_of(teller: &ByKind<Teller, ChainTeller>) -> Option<StrayLine>
+    ensures { option_map stray_seen result
+        ≡ (if is_history_from teller.now.kind [] then option_map stray_seen teller.now.history.stray else None) }
+{
+    if teller.is_history() {
+        return teller.history.stray();
+    }
+    None
+}
+
+/// The log that a reader has left, which begins with a device: which lamp burnt when goes to a sink, as lines or drawn
+/// on a page, as it comes. What is told is handed on before each read, which may wait. A log whose first line begins
+/// with `LOG ` is of the second kind: `sum` is the CRC-32 of the form that it begins with. Returns its first line that
+/// does not belong, which is told last, if there is one. Errors: those of a read or a write; `TooLong` for a log with
+/// more lines, more bytes in one, or more seconds than 64 bits count.
+pub fn tell_log<R: ByteSource, W: ByteSink>(
+    begun: Device,
+    sum: u32,
+    drawn: bool,
+    from: &mut Reader<R>,
+    to: &mut W,
+) -> Result<Option<StrayLine>, Failure>
+    ensures whole { OnOk result (IfSome (left_in R.remaining from.old) (λ log. Appends (W.contents to.old)
+        (W.contents to.new) (told begun sum drawn log))) }
+    ensures stray { IfOk result (λ s. IfSome (left_in R.remaining from.old) (λ log.
+        option_map stray_seen s ≡ stray_in begun sum log)) }
+    ensures front { IfSome (left_in R.remaining from.old) (λ log. WritesFront (W.contents to.old)
+        (W.contents to.new) (told begun sum drawn log)) }
+    ensures none_waits { OnOk result (W.waiting to.new ≡ []) }
+    ensures read { IfErr result (OnFailedRead (W.waiting to.new ≡ [])) }
+    ensures broken { IfErr result (OnFailedRead (IfSome (left_in R.remaining from.old) (λ log.
+        IfSome (left_in R.remaining from.new) (λ left.
+        IsToldSoFar begun sum drawn log left (W.contents to.old) (W.contents to.new))))) }
+    ensures err { IfErr result
+        (FailureComesOf R.fails_with W.fails_with IsTooMuch (left_in R.remaining from.old)) }
+    ensures short { IfSome (left_in R.remaining from.old) (λ log. length log < 2 ^ 32
+        → result ≢ Err Failure.TooLong) }
+{
+    let report = Report::new(drawn);
+    let mut teller = ByKind::new(
+        Teller::new(begun, report),
+        ChainTeller::new(begun, sum, report),
+    );
+    report.begin(to).map_err(Failure::Write)?;
+    observer::follow(&mut teller, from, to)?;
+    Ok(stray_of(&teller))
 }

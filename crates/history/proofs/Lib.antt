@@ -10,3 +10,4 @@ pub mod ShownFits
 pub mod ShownPlain
 pub mod Served
 pub mod OnlyLines
+pub mod SecondsSaid

@@ -23,7 +23,7 @@ pub one_line : (e f : LogEntry) → IsTypedEntry e → is_sayable_entry e ≡ tr
 one_line e f t h u k same = same_Some e f (sym (entry_back e t h) ∙ ap entry_in same ∙ entry_back f u k)
 
 -- what has no LF has none at each place
-no_lf : (t : List ℕ) → list_all not_lf t ≡ true → NoLf t
+pub no_lf : (t : List ℕ) → list_all not_lf t ≡ true → NoLf t
 no_lf [] h = All-nil (λ b. b ≢ 10)
 no_lf (b ∷ t) h =
     All-cons (λ b. b ≢ 10) b t (λ e. false≢true (sym (ap not_lf e) ∙ both_left (not_lf b) (list_all not_lf t) h))

@@ -11,3 +11,5 @@ pub mod Believed
 pub mod Kept
 pub mod Followed
 pub mod Accepted
+pub mod FollowedSays
+pub mod HostsEnd

@@ -4,5 +4,6 @@ mod Sound
 mod Lamps
 mod OneLine
 mod Strays
+pub mod SecondsSaid
 pub mod LinesKept
 pub mod TellingsSpelt
