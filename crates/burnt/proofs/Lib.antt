@@ -5,3 +5,4 @@ mod ChainLines
 mod ChainObserved
 mod ChainBegun
 mod ByKinds
+mod HostsTold

@@ -2,3 +2,4 @@ pub mod Told
 pub mod ChainTold
 pub mod ChainTelling
 pub mod LogTold
+pub mod HistoryTold

@@ -5,6 +5,7 @@
 
 mod chained;
 mod telling;
+pub mod theorems;
 #[cfg(test)]
 mod tests;
 

@@ -1,6 +1,9 @@
 // A log from a source that gives it in odd pieces, or fails in mid-stream, to a sink that takes odd pieces, or fails.
 use crate::telling::tell_log;
 use floorlog::{cut, sample};
+use record::types::Device;
+use recorded::chain::Why;
+use setup::wanted::{Class, Wanted};
 use textio::lines::Failure;
 use textio::reader::Reader;
 use textio::trial::{Pieces, Taken};
@@ -21,7 +24,7 @@ fn source(most: usize, until: usize) -> Reader<Pieces> {
 fn a_log_in_odd_pieces(rt: HostRuntime) {
     for most in 1..12 {
         let mut to = Taken::new(most, 64);
-        let told = tell_log(sample(), false, &mut source(most, 1000), &mut to);
+        let told = tell_log(sample(), 0, false, &mut source(most, 1000), &mut to);
         assert!(rt; told.is_ok());
         assert!(rt; to.text() == TOLD);
     }
@@ -30,7 +33,7 @@ fn a_log_in_odd_pieces(rt: HostRuntime) {
 #[test]
 fn a_read_that_fails_after_a_stretch(rt: HostRuntime) {
     let mut to = Taken::new(6, 64);
-    let told = tell_log(sample(), false, &mut source(5, 42), &mut to);
+    let told = tell_log(sample(), 0, false, &mut source(5, 42), &mut to);
     assert!(rt; matches!(told, Err(Failure::Read(_))));
     assert!(rt; to.text() == b"lamp 1 from 0 to 2400\n".as_slice());
     // it is handed on before the read that fails
@@ -40,10 +43,97 @@ fn a_read_that_fails_after_a_stretch(rt: HostRuntime) {
 #[test]
 fn a_write_that_fails_in_mid_line(rt: HostRuntime) {
     let mut to = Taken::new(2, 15);
-    let told = tell_log(sample(), false, &mut source(7, 1000), &mut to);
+    let told = tell_log(sample(), 0, false, &mut source(7, 1000), &mut to);
     assert!(rt; matches!(told, Err(Failure::Write(_))));
     // and nothing is written after it
     to.set_room(64);
     assert!(rt; cut::end_output(told, &mut to).is_err());
     assert!(rt; to.text() == b"lamp 1 from 0 t".as_slice());
+}
+
+// RULES, Connection and Power: W = 20, C = 60, a lamp at 4,200 s and one at 60 s; the specification's password.
+fn secured() -> Device {
+    let lamps = [4200u32, 60];
+    let class = Class::One;
+    let wanted = Wanted {
+        name: b"",
+        maker: b"",
+        model: b"",
+        other: b"",
+        password: b"JBMIAProjectorLink",
+        inputs: b"11",
+        lamps: &lamps,
+        warm: 20,
+        cool: 60,
+        class,
+    };
+    match setup::set_up(&wanted) {
+        Ok(device) => device,
+        Err(_) => sample(),
+    }
+}
+
+// Four controllers on one projector, each greeted with the random number of the specification's example, so that its
+// digest leads the first line of each. By hand, from RULES: the lamps burn from the power-on at second 100, at place 3;
+// power-off at 110 is too early, and at 150, at place 1, it ends the stretch. The second lamp is disabled while the
+// power is off. A fault at 350 keeps the power off; without it a command in two parts, at place 0, switches it on at
+// 1350. The line that no LF ends is not played, so the log ends at 1357.
+const FOUR: &[u8] = b"LOG 2 1 0a1b2c3d 2026-11-27T05:45:09Z\n\
+    O 0 498e4a67\nO 1 498e4a67\nO 2 498e4a67\nO 3 498e4a67\n\
+    T 100\n\
+    R 3 5d8409bc1c3fa39749434aa3a5c38682%1POWR 1\n\
+    T 10\n\
+    R 1 5d8409bc1c3fa39749434aa3a5c38682%1POWR 0\n\
+    R 2 %1POWR 0\n\
+    T 40\n\
+    R 1 %1POWR 0\n\
+    X 3\n\
+    T 200\n\
+    M 2 0\n\
+    F 1\n\
+    R 0 5d8409bc1c3fa39749434aa3a5c38682%1POWR 1\n\
+    T 1000\n\
+    F 0\n\
+    B 0 2531504f\n\
+    R 0 WR 1\n\
+    T 7\n\
+    T 12";
+
+const FOUR_TOLD: &[u8] = b"lamp 1 from 100 to 150\nlamp 2 from 100 to 150\nlamp 1 from 1350 to 1357\n\
+    lamp 1 start 4200 burnt 57 now 4257\nlamp 2 start 60 burnt 50 now 110\n! line 23: no line end\n";
+
+#[test]
+fn four_places_and_a_password(rt: HostRuntime) {
+    for most in 1..9 {
+        let mut to = Taken::new(most, 256);
+        let mut from = Reader::new(Pieces {
+            log: FOUR,
+            most,
+            until: 4096,
+        });
+        let told = tell_log(secured(), 169552957, false, &mut from, &mut to);
+        assert!(rt; to.text() == FOUR_TOLD);
+        match told {
+            Ok(Some(stray)) => {
+                assert_eq!(rt; stray.line, 23);
+                assert!(rt; matches!(stray.why, Why::Unended));
+            }
+            _ => assert!(rt; false),
+        }
+    }
+}
+
+// A log of another form is not told at all.
+#[test]
+fn a_log_of_another_form(rt: HostRuntime) {
+    let mut to = Taken::new(7, 256);
+    let mut from = Reader::new(Pieces {
+        log: FOUR,
+        most: 9,
+        until: 4096,
+    });
+    let told = tell_log(secured(), 169552958, false, &mut from, &mut to);
+    assert!(rt; told.is_ok());
+    assert!(rt; to.text()
+        == b"lamp 1 start 4200 burnt 0 now 4200\nlamp 2 start 60 burnt 0 now 60\n! line 1: another sum\n".as_slice());
 }

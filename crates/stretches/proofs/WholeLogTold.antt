@@ -1,13 +1,15 @@
 -- What is told of a whole log is, of each lamp, its stretches in demand 3's history of its calls, what it burnt, and
 -- what it has now.
 -- Assumes nothing.
-use Rattle.std.proofs.Common.{ℕ, ◌≡◌, sym, ap, subst, ◌∙◌, Bool, true, false, List, arith, length, slice_index_or, map}
+use Rattle.std.proofs.Common.{[], ◌∷◌, refl, ℕ, ◌≡◌, sym, ap, subst, ◌∙◌, Bool, true, false, List, arith, length, slice_index_or, map}
 use Rattle.record.specs.Legal.{is_legal}
 use Rattle.record.specs.Wanted.{Wanted}
 use Rattle.record.specs.declared.types.Device.{Device}
+use Rattle.record.specs.declared.types.Settings.{Settings}
 use Rattle.record.proofs.LegalTold.{settings_of_legal}
 use Rattle.ours.specs.Board.{ours}
-use Rattle.demands.specs.Calls.{Call}
+use Rattle.demands.specs.Calls.{Call, after, run}
+use Rattle.demands.proofs.CallsDo.{settings_stay}
 use Rattle.demands.specs.CountsSeconds.{Beginning, start_marks, begun_by, IsAccepted, history_of}
 use Rattle.demands.proofs.CountsSeconds.{ours_counts_seconds}
 use Rattle.demands.specs.History.{Event, no_streams, steady}
@@ -26,6 +28,11 @@ use Rattle.stretches.specs.LogTold.{calls_of, stretches_in, StepsTold, log_histo
 use Rattle.stretches.proofs.StepsOfCalls.{StepsOf, same_told, same_left, calls_leave, entries_are_steps, events_are_steps}
 use Rattle.stretches.proofs.CallsTell.{is_legal-begun_by, call_stretches_tell}
 use Rattle.stretches.proofs.BurntAdds.{burnt_told}
+
+-- the settings stay
+run_settings : (cs : List Call) (d : Device) → (run ours d cs).settings ≡ d.settings
+run_settings [] d = refl
+run_settings (c ∷ cs) d = run_settings cs (after ours d c) ∙ settings_stay d c
 
 module _ (b : Beginning) (w : Wanted) (h : IsAccepted ours b w) where
   abbrev begun : Device
@@ -46,6 +53,10 @@ module _ (b : Beginning) (w : Wanted) (h : IsAccepted ours b w) where
       let told = same_told s steps in
       let left = same_left s steps in
       record {
+        count = ap (λ (t : Watching). t.device.settings.lamp_count) left
+            ∙ ap (λ (d : Device). d.settings.lamp_count) (calls_leave cs s)
+            ∙ ap (λ (q : Settings). q.lamp_count) (run_settings cs begun)
+            ∙ counted;
         stretches = λ k inside.
             subst (λ (ts : List Telling). StretchesTell w (start_marks b w) k (history_of ours b w cs)
             (stretches_in k ts)) (sym told)

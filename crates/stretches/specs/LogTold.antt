@@ -58,6 +58,8 @@ burnt_of k s es = slice_index_or (burnt_after s es) k 0
 
 -- however a history begins, with a set-up or with a stored form that loads
 pub record StepsTold (b : Beginning) (w : Wanted) (hs : List Event) (es : List Step) : Type 0 where
+  -- each lamp is told of
+  pub count : (after_log (watching_from (begun_by ours b w).device) es).device.settings.lamp_count ≡ length w.lamps
   -- of each lamp its stretches in the history
   pub stretches : (k : ℕ) → k < length w.lamps
       → StretchesTell w (start_marks b w) k hs (told_of k (watching_from (begun_by ours b w).device) es)

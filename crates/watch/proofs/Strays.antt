@@ -76,6 +76,14 @@ module _ (s : Watching) (log : Recorder) (l : LogLine) where
   stays : IsLeft s s
   stays = record { settings = refl; own = refl; time = refl; from = refl; burnt = refl }
 
+  belongs_so : (m : Result ℕ Misfit) → None ≡ misfit_made m → (n : ℕ) × (m ≡ Ok n)
+  belongs_so (Ok n) h = (n, refl)
+  belongs_so (Err why) h = cc
+
+  strays_so : (m : Result ℕ Misfit) {why : Misfit} → Some why ≡ misfit_made m → m ≡ Err why
+  strays_so (Ok n) h = cc
+  strays_so (Err why) h = cc
+
   pub unended_strays : l.ended ≡ false → IsLineStray s log l s unended
   unended_strays h = record { told = line_unended log s.device l h; left = stays }
 
@@ -83,15 +91,7 @@ module _ (s : Watching) (log : Recorder) (l : LogLine) where
     pub misfit_strays : {why : Misfit} → entry_told log s.device l.text ≡ Err why → IsLineStray s log l s why
     misfit_strays h = record { told = line_misfit log s.device l ended h; left = stays }
 
-    module _ {e : LogEntry} (told : entry_told log s.device l.text ≡ Ok e) {after : Watching} {later : Recorder} where
-      belongs_so : (m : Result ℕ Misfit) → None ≡ misfit_made m → (n : ℕ) × (m ≡ Ok n)
-      belongs_so (Ok n) h = (n, refl)
-      belongs_so (Err why) h = cc
-
-      strays_so : (m : Result ℕ Misfit) {why : Misfit} → Some why ≡ misfit_made m → m ≡ Err why
-      strays_so (Ok n) h = cc
-      strays_so (Err why) h = cc
-
+    module _ {e : LogEntry} (told : entry_told log s.device l.text ≡ Ok e) (after : Watching) (later : Recorder) where
       pub line_made : (r : Option (Result Bool Why)) → IfSome r (IsMade s (entry_step s.device e) after)
           → IfSome r (λ q. misfit_seen q ≡ misfit_made (made_told s.device e))
           → IfSome r (λ q. later ≡ log_made log s.device e l.text)

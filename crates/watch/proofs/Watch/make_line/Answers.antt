@@ -19,7 +19,7 @@ returns-in-Ok-clause-made c =
     let told : entry_told c.args.log.now d (kept_text c.args.line.now) ≡ Ok (entry_seen c.in-Ok.entry)
     = ap (entry_told c.args.log.now d) (sym c.text.ensures) ∙ sym c.in-Ok.ensures in
     line_made (state_of c.args.self.now) c.args.log.now (kept_line c.args.line.now)
-    (sym c.is_ended.ensures ∙ c.if-not-is_ended.false) told c.make.result c.make.ensures.made c.make.ensures.told
+    (sym c.is_ended.ensures ∙ c.if-not-is_ended.false) told _ _ c.make.result c.make.ensures.made c.make.ensures.told
     (rw text at c.make.ensures.log)
 
 pub returns-in-Err-clause-made : goal.returns-in-Err-clause-made
