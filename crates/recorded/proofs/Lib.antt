@@ -11,3 +11,4 @@ pub mod Believed
 pub mod Kept
 pub mod Followed
 pub mod Accepted
+pub mod StrayKeeps
