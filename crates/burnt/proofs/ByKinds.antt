@@ -13,13 +13,13 @@ use Rattle.floorlog.specs.Kinds.{is_history, is_history_from}
 use Rattle.floorlog.specs.Observing.{BreaksOff}
 use Rattle.floorlog.specs.declared.kinds.ByKind.{ByKind}
 use Rattle.floorlog.specs.declared.kinds.Kind.TheVariants.{Unbegun}
-use Rattle.recorded.specs.Following.{FirstStray, stray_seen}
+use Rattle.recorded.specs.Following.{chain_begun, FirstStray, stray_seen}
 use Rattle.watch.specs.Marking.{floor_event, floor_steps, seconds_by}
 use Rattle.watch.specs.Watching.{Watching, watching_from}
 use Rattle.watch.specs.States.{state_of}
 use Rattle.report.specs.Reports.{report_new, begun_text}
 use Rattle.burnt.specs.Told.{tellings_text, told_within, log_told, IsUntold}
-use Rattle.burnt.specs.ChainTold.{chain_begun, chain_told, chain_stray, IsChainUntold}
+use Rattle.burnt.specs.ChainTold.{chain_told, chain_stray, IsChainUntold}
 use Rattle.burnt.specs.ChainTelling.{stray_now, stray_then, teller_writes, IsChainLeft, ChainOverflows}
 use Rattle.burnt.specs.LogTold.{told, stray_in, steps_in, IsTooMuch, IsToldSoFar}
 use Rattle.burnt.specs.declared.telling.Teller.{Teller}

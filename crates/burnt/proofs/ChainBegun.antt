@@ -11,7 +11,7 @@ use Rattle.textio.proofs.LinesCounted.{lines_fit, too_long_bytes}
 use Rattle.floorlog.specs.Kept.{kept, kept_lines}
 use Rattle.history.specs.Calls.{LogCall}
 use Rattle.history.specs.Entries.{LogEntry, header, call, stated, entry_in}
-use Rattle.recorded.specs.Following.{FirstStray, belonging}
+use Rattle.recorded.specs.Following.{chain_begun, FirstStray, belonging}
 use Rattle.recorded.proofs.Followed.{belonging_none, stray_none}
 use Rattle.watch.specs.CallSteps.{entry_steps, said_seconds}
 use Rattle.watch.specs.Watching.{Watching, watching_from}
@@ -22,7 +22,7 @@ use Rattle.watch.proofs.TellingsSpelt.{after_none}
 use Rattle.report.specs.Reports.{report_new, begun_text}
 use Rattle.report.specs.declared.Report.{Report}
 use Rattle.burnt.specs.Told.{tellings_text, report_after, told_from, told_within}
-use Rattle.burnt.specs.ChainTold.{chain_begun, entries_left, stray_left, chain_ended, chain_told_from, chain_told}
+use Rattle.burnt.specs.ChainTold.{entries_left, stray_left, chain_ended, chain_told_from, chain_told}
 use Rattle.burnt.specs.ChainTold.{IsChainUntold}
 use Rattle.burnt.specs.ChainTelling.{stray_now, entries_of, steps_of, stray_then, teller_writes, IsChainLeft}
 use Rattle.burnt.specs.ChainTelling.{ChainOverflows}

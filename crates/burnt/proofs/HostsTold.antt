@@ -19,7 +19,7 @@ use Rattle.history.specs.declared.recorder.Recorder.{Recorder}
 use Rattle.recorded.specs.Recorded.{recorded}
 use Rattle.recorded.specs.Playing.{entry_calls}
 use Rattle.recorded.specs.Chain.{unended, Followed, followed}
-use Rattle.recorded.specs.Following.{belonging, FirstStray, stray_from, stray_text, line_told}
+use Rattle.recorded.specs.Following.{chain_begun, belonging, FirstStray, stray_from, stray_text, line_told}
 use Rattle.recorded.specs.Hosts.{HostStep, host_log, step_calls, host_left, AreKept, AreTypedSteps}
 use Rattle.recorded.proofs.Believed.{believed, front_believed}
 use Rattle.recorded.proofs.Followed.{belonging_none, stray_none, line_unended, belonging_stray, stray_here}
@@ -33,7 +33,7 @@ use Rattle.stretches.proofs.CallsTell.{is_legal-begun_by}
 use Rattle.stretches.proofs.WholeLogTold.{entries_watched}
 use Rattle.report.specs.Reports.{report_new, begun_text, ended_until}
 use Rattle.burnt.specs.Told.{tellings_text, report_after, told_from}
-use Rattle.burnt.specs.ChainTold.{chain_begun, chain_ended, chain_told, chain_stray}
+use Rattle.burnt.specs.ChainTold.{chain_ended, chain_told, chain_stray}
 use Rattle.burnt.specs.HistoryTold.{HistoryTold, IsCutLine, HostTold}
 
 -- ---- the lines of such a log

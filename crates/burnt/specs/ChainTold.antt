@@ -1,6 +1,5 @@
 -- What `burnt` writes of a log of the second kind (RULES, History of a board): of its lines up to the first that does
 -- not belong, and then of that one.
---   chain_begun sum          where a reader stands before a log of which the form has that sum
 --   entries_left s r d ls    what the lines ls say that belong, where s is a line before them that did not;
 --   stray_left s n r d ls    and the first that does not
 --   chain_ended starts n stray r s   what stands at the end of a log that began with these seconds of its lamps and leaves
@@ -17,15 +16,12 @@ use Rattle.textio.specs.Lines.{LogLine, texts_of, IsTooLong}
 use Rattle.floorlog.specs.Kept.{kept_lines}
 use Rattle.history.specs.Entries.{LogEntry}
 use Rattle.history.specs.declared.recorder.Recorder.{Recorder}
-use Rattle.recorded.specs.Following.{belonging, FirstStray, stray_from, stray_text}
+use Rattle.recorded.specs.Following.{chain_begun, belonging, FirstStray, stray_from, stray_text}
 use Rattle.watch.specs.CallSteps.{entry_steps, said_seconds}
 use Rattle.watch.specs.Watching.{Watching, watching_from, burnt_by}
 use Rattle.report.specs.Reports.{report_new, begun_text, ended_until}
 use Rattle.report.specs.declared.Report.{Report}
 use Rattle.burnt.specs.Told.{told_from}
-
-abbrev pub chain_begun : ℕ → Recorder
-chain_begun sum = record { file = 0; lines = 0; sum = sum }
 
 abbrev pub entries_left : Option FirstStray → Recorder → Device → List LogLine → List LogEntry
 entries_left (Some s) r d ls = []

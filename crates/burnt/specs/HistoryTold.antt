@@ -14,14 +14,14 @@ use Rattle.ours.specs.Board.{ours}
 use Rattle.demands.specs.CountsSeconds.{Beginning, IsAccepted, start_marks, begun_by, history_of}
 use Rattle.demands.specs.History.{Event, burning_seconds, lamp_with}
 use Rattle.recorded.specs.Chain.{unended}
-use Rattle.recorded.specs.Following.{FirstStray, stray_text}
+use Rattle.recorded.specs.Following.{chain_begun, FirstStray, stray_text}
 use Rattle.recorded.specs.Hosts.{HostStep, host_log, step_calls, AreKept, AreTypedSteps}
 use Rattle.watch.specs.Telling.{Telling}
 use Rattle.stretches.specs.LogTold.{stretches_in}
 use Rattle.stretches.specs.Stretches.{StretchesTell}
 use Rattle.report.specs.Reports.{report_new, begun_text, ended_until}
 use Rattle.burnt.specs.Told.{tellings_text, report_after}
-use Rattle.burnt.specs.ChainTold.{chain_begun, chain_told, chain_stray}
+use Rattle.burnt.specs.ChainTold.{chain_told, chain_stray}
 
 pub record HistoryTold (b : Beginning) (w : Wanted) (hs : List Event) (drawn : Bool) (stray : Option FirstStray)
     (text : List ℕ) : Type 0 where

@@ -12,13 +12,13 @@ use Rattle.record.specs.declared.types.Device.{Device}
 use Rattle.textio.specs.Lines.{LogLine, texts_of}
 use Rattle.floorlog.specs.Kept.{kept_lines}
 use Rattle.floorlog.specs.Kinds.{is_history}
-use Rattle.recorded.specs.Following.{FirstStray, belonging}
+use Rattle.recorded.specs.Following.{chain_begun, FirstStray, belonging}
 use Rattle.watch.specs.Marking.{floor_event, floor_steps}
 use Rattle.watch.specs.CallSteps.{entry_steps}
 use Rattle.watch.specs.Watching.{Step, watching_from}
 use Rattle.report.specs.Reports.{report_new, begun_text}
 use Rattle.burnt.specs.Told.{tellings_text, told_within, log_told, IsUntold}
-use Rattle.burnt.specs.ChainTold.{chain_begun, chain_told, chain_stray, IsChainUntold}
+use Rattle.burnt.specs.ChainTold.{chain_told, chain_stray, IsChainUntold}
 
 abbrev pub told : Device → ℕ → Bool → List ℕ → List ℕ
 told d sum drawn log =

@@ -1,10 +1,10 @@
 // What is told of a log of the second kind as it is watched: its lines up to the first that does not belong.
 ghost use Rattle.std.specs.Prelude.{◌≡◌, None, option_map};
 ghost use Rattle.textio.specs.Fronts.{WritesText};
-ghost use Rattle.recorded.specs.Following.{stray_seen};
+ghost use Rattle.recorded.specs.Following.{chain_begun, stray_seen};
 ghost use Rattle.watch.specs.States.{state_of};
 ghost use Rattle.watch.specs.Watching.{watching_from};
-ghost use Rattle.burnt.specs.ChainTold.{chain_begun, chain_ended};
+ghost use Rattle.burnt.specs.ChainTold.{chain_ended};
 
 use crate::telling::{self, tell_ended};
 use floorlog::kept::KeptLine;

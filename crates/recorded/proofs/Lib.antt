@@ -13,3 +13,4 @@ pub mod Followed
 pub mod Accepted
 pub mod FollowedSays
 pub mod HostsEnd
+pub mod StrayKeeps

@@ -1,5 +1,6 @@
 -- A log of the second kind followed line by line, from where a reader stands (RULES, History of a board): its lines
 -- belong up to the first that does not, which is told, and what follows that one is nothing.
+--   chain_begun sum       where a reader stands before a log of which the form has that sum
 --   line_told r d l       what the line l says there, or why it does not belong: no LF ends it; it says nothing that
 --                         stands there; or what it says, made again, is refused or gets another place
 --   belonging r d ls      what the lines ls say, up to the first that does not belong
@@ -17,6 +18,9 @@ use Rattle.history.specs.declared.recorder.Recorder.{Recorder}
 use Rattle.recorded.specs.Chain.{Misfit, unended, says_nothing, other_file, other_sum, other_count, other_state}
 use Rattle.recorded.specs.Chain.{other_place, refused_with, why_seen, entry_told, made_told, device_made, log_made}
 use Rattle.recorded.specs.declared.stray.StrayLine.{StrayLine}
+
+abbrev pub chain_begun : ℕ → Recorder
+chain_begun sum = record { file = 0; lines = 0; sum = sum }
 
 abbrev pub as_made : LogEntry → Result ℕ Misfit → Result LogEntry Misfit
 as_made e (Ok n) = Ok e

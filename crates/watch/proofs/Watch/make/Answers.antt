@@ -7,7 +7,8 @@ use Rattle.watch.specs.CallSteps.{entry_step}
 use Rattle.watch.specs.States.{state_of}
 use Rattle.watch.proofs.Sound.{sound_from, burnt_fits}
 use Rattle.watch.proofs.OneLine.{line_watched, stays_sound}
-use Rattle.watch.proofs.Strays.{KeepsOwn, stray_keeps, is_left, left_sound}
+use Rattle.recorded.proofs.StrayKeeps.{KeepsOwn, stray_keeps}
+use Rattle.watch.proofs.Strays.{is_left, left_sound}
 use Rattle.watch.proofs.Watch.make.Goals as goal
 
 pub invariant_of-self : goal.invariant_of-self
