@@ -12,7 +12,8 @@ use Rattle.ours.specs.Board.{ours}
 use Rattle.demands.specs.Calls.{Call}
 use Rattle.demands.specs.CountsSeconds.{Beginning, IsAccepted, start_marks, begun_by, history_of}
 use Rattle.demands.proofs.CountsSeconds.{ours_counts_seconds}
-use Rattle.textio.specs.Lines.{LogLine, ended_line, last_line, lines_in, lines_ended, cut_end}
+use Rattle.textio.specs.Lines.{LogLine, ended_line, last_line, lines_ended, cut_end}
+use Rattle.textio.proofs.LinesEnded.{lines_spelt}
 use Rattle.floorlog.specs.Kept.{kept_most, kept, kept_lines}
 use Rattle.history.specs.Entries.{LogEntry}
 use Rattle.history.specs.declared.recorder.Recorder.{Recorder}
@@ -63,9 +64,9 @@ module _ (log : List ℕ) (short : All (λ (l : List ℕ). length l ≤ 4096) (l
   tail = map kept (last_line (cut_end [] log))
 
   all_kept : kept_lines log ≡ map ended_line (lines_ended [] log) ++ tail
-  unfolding lines_in
   all_kept =
-      map-append kept (map ended_line (lines_ended [] log)) (last_line (cut_end [] log))
+      ap (map kept) (lines_spelt log)
+      ∙ map-append kept (map ended_line (lines_ended [] log)) (last_line (cut_end [] log))
       ∙ ap (λ (ls : List LogLine). ls ++ tail) (kept_same (lines_ended [] log) short)
 
 -- ---- where all that LF ends belongs

@@ -1,14 +1,15 @@
 -- What a host records ends with a line's end: nothing stands behind its last LF.
 -- Assumes nothing.
 use Rattle.std.specs.List.{list_all}
-use Rattle.std.proofs.Common.{ℕ, ◌≡◌, refl, ap, ◌∙◌, Bool, true, false, List, [], ◌∷◌, ◌++◌, append_assoc, codes}
+use Rattle.std.proofs.lemmas.List.Elements.{All-nil}
+use Rattle.std.proofs.Common.{ℕ, ◌≡◌, ◌≢◌, ap, ◌∙◌, Bool, true, false, List, [], ◌∷◌, ◌++◌, append_assoc, codes}
 use Prim.Native.Char.{code}
 use Rattle.text.specs.Outcomes.{WrittenAs}
 use Rattle.text.proofs.Choices.{if_yes, if_no}
 use Rattle.record.specs.declared.types.Device.{Device}
 use Rattle.demands.specs.Calls.{Call}
 use Rattle.textio.specs.Lines.{cut_end}
-use Rattle.textio.proofs.LinesEnded.{cut_later}
+use Rattle.textio.proofs.LinesEnded.{cut_last, cut_later}
 use Rattle.history.specs.Entries.{LogEntry, call, is_sayable_entry, entry_text, entry_line}
 use Rattle.history.specs.Shown.{device_shown}
 use Rattle.history.specs.Recording.{header_next, stated_next}
@@ -44,8 +45,7 @@ step_end r d (makes c) n more = by (is_served d c) refl
     by false h = ap (λ (w : WrittenAs). cut_end [] (w.bytes ++ more)) (if_no _ _ h)
 
 none_end : cut_end [] [] ≡ []
-unfolding cut_end
-none_end = refl
+none_end = cut_last [] [] (All-nil (λ b. b ≢ 10))
 
 pub host_log_ends : (ss : List (HostStep × ℕ)) (r : Recorder) (d : Device) → cut_end [] (host_log r d ss) ≡ []
 host_log_ends [] r d = none_end

@@ -7,7 +7,7 @@
 --   ended_until r seconds n .. lines stray    the end of one of the second kind, of so many lines that belong to it: and
 --                                     what is said of the line that does not, if there is one
 --   stray_line s                      that as a line
---   stray_seen s                      that as the code has it
+--   stray_said s                      that as the code has it
 -- Assumes nothing.
 use Rattle.std.specs.Prelude.{ℕ, Bool, true, false, List, [], ◌++◌, codes, Option, Some, None, option_map}
 use Rattle.std.specs.Borrow.{Bor}
@@ -41,8 +41,8 @@ abbrev pub stray_line : Option (List ℕ) → List ℕ
 stray_line None = []
 stray_line (Some s) = s ++ codes "\n"
 
-abbrev pub stray_seen : Option (Bor (List ℕ)) → Option (List ℕ)
-stray_seen s = option_map (λ b. b.now) s
+abbrev pub stray_said : Option (Bor (List ℕ)) → Option (List ℕ)
+stray_said s = option_map (λ b. b.now) s
 
 abbrev pub ended_until : Report → ℕ → ℕ → List ℕ → List ℕ → List ℕ → ℕ → Option (List ℕ) → List ℕ
 ended_until Lines seconds lamps starts burnt lasts lines stray =

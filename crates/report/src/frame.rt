@@ -2,7 +2,7 @@
 ghost use Rattle.std.specs.Prelude.{◌≤◌};
 ghost use Rattle.textio.specs.Fronts.{WritesText};
 ghost use Rattle.report.specs.Frame.{head, hours, table, until_text, stray_paragraph};
-ghost use Rattle.report.specs.Reports.{stray_seen};
+ghost use Rattle.report.specs.Reports.{stray_said};
 
 use crate::lamps::{Totals, fill_totals};
 use std::io;
@@ -83,7 +83,7 @@ pub fn put_until<W: ByteSink>(out: &mut W, seconds: u64, lines: u64) -> io::Resu
 /// What is said of a line that does not belong, if there is one.
 pub fn put_stray<W: ByteSink>(out: &mut W, stray: Option<&[u8]>) -> io::Result<()>
     ensures { WritesText W.fails_with (W.contents out.old) (W.contents out.new) result
-        (stray_paragraph (stray_seen stray.entry)) }
+        (stray_paragraph (stray_said stray.entry)) }
 {
     let Some(text) = stray else {
         return Ok(());

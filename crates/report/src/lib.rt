@@ -10,7 +10,7 @@ pub mod theorems;
 ghost use Rattle.std.specs.Prelude.{◌≡◌, ◌≤◌, length, OnOk, OnErr};
 ghost use Rattle.textio.specs.Fronts.{WritesText};
 ghost use Rattle.report.specs.Reports.{report_new, begun_text, report_told, told_text, ended_text, ended_until};
-ghost use Rattle.report.specs.Reports.{stray_line, stray_seen};
+ghost use Rattle.report.specs.Reports.{stray_line, stray_said};
 
 use crate::lamps::Totals;
 use crate::page::Stretch;
@@ -38,7 +38,7 @@ pub struct Until<'a> {
 // What is said of a line that does not belong, if there is one, as a line.
 fn put_stray<W: ByteSink>(out: &mut W, stray: Option<&[u8]>) -> io::Result<()>
     ensures { WritesText W.fails_with (W.contents out.old) (W.contents out.new) result
-        (stray_line (stray_seen stray.entry)) }
+        (stray_line (stray_said stray.entry)) }
 {
     let Some(text) = stray else {
         return Ok(());
@@ -107,7 +107,7 @@ impl Report {
     ) -> io::Result<()>
         requires { t.count ≤ 8 }
         ensures { WritesText W.fails_with (W.contents out.old) (W.contents out.new) result
-            (ended_until self seconds t.count t.starts t.burnt t.lasts until.entry.lines (stray_seen until.entry.stray)) }
+            (ended_until self seconds t.count t.starts t.burnt t.lasts until.entry.lines (stray_said until.entry.stray)) }
     {
         match self {
             Report::Lines => {

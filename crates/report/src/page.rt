@@ -6,7 +6,7 @@ ghost use Rattle.std.specs.Prelude.{◌≡◌, ◌≤◌, length, IfOk};
 ghost use Rattle.textio.specs.Fronts.{WritesText};
 ghost use Rattle.report.specs.Days.{days_of, row_ended, rows_drawn, stretch_drawn};
 ghost use Rattle.report.specs.Frame.{page_begun, page_ended, page_ended_until};
-ghost use Rattle.report.specs.Reports.{stray_seen};
+ghost use Rattle.report.specs.Reports.{stray_said};
 
 use crate::lamps::Totals;
 use crate::{Until, days, frame};
@@ -90,7 +90,7 @@ pub fn end_until<W: ByteSink>(
 ) -> io::Result<()>
     requires { t.count ≤ 8 }
     ensures { WritesText W.fails_with (W.contents out.old) (W.contents out.new) result
-        (page_ended_until rows seconds t.count t.starts t.burnt t.lasts until.entry.lines (stray_seen until.entry.stray)) }
+        (page_ended_until rows seconds t.count t.starts t.burnt t.lasts until.entry.lines (stray_said until.entry.stray)) }
 {
     days::open_to(out, t.count as u64, rows, days_until(seconds))?;
     end_row(out)?;

@@ -54,3 +54,8 @@ unfolding lines_in
 lines_last part h some =
     (λ i. map ended_line (ended_none [] part h i) ++ last_line (cut_last [] part h i))
     ∙ if_no _ _ (ne_eqb (length part) 0 (λ e. omega (arith, some, e)))
+
+pub lines_spelt : (log : List ℕ)
+    → lines_in log ≡ map ended_line (lines_ended [] log) ++ last_line (cut_end [] log)
+unfolding lines_in
+lines_spelt log = refl
