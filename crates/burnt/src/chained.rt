@@ -21,7 +21,6 @@ use textio::writer::ByteSink;
 use watch::Watch;
 
 // What stands last: the seconds of each lamp, and what is said of a line that does not belong.
-#[tactic(auto, unfolding(crate::specs::ChainTold::chain_ended))]
 fn tell_end<W: ByteSink>(
     report: Report,
     watch: &Watch,
@@ -34,15 +33,14 @@ fn tell_end<W: ByteSink>(
         (chain_ended starts lines (option_map stray_seen stray) report (state_of watch.now)) }
 {
     let totals = telling::totals_of(watch, starts);
-    let mut text = StrayText::new();
-    let stray = match stray {
-        Some(line) => {
-            line.put(&mut text);
-            Some(text.as_slice())
-        }
-        None => None,
+    let time = watch.time();
+    let Some(line) = stray else {
+        return report.end_until(to, time, totals, Until { lines, stray: None });
     };
-    report.end_until(to, watch.time(), totals, Until { lines, stray })
+    let mut text = StrayText::new();
+    line.put(&mut text);
+    let stray = Some(text.as_slice());
+    report.end_until(to, time, totals, Until { lines, stray })
 }
 
 /// A log of the second kind that is watched, as it is told: its lamps had these seconds where it began, and so many of

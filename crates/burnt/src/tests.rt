@@ -51,9 +51,9 @@ fn a_write_that_fails_in_mid_line(rt: HostRuntime) {
     assert!(rt; to.text() == b"lamp 1 from 0 t".as_slice());
 }
 
-// RULES, Connection and Power: W = 20, C = 60, a lamp at 4,200 s and one at 60 s; the specification's password.
+// The sample set-up with the password of PJLink's specification: W = 20, C = 60, a lamp at 0 s.
 fn secured() -> Device {
-    let lamps = [4200u32, 60];
+    let lamps = [0u32; 1];
     let class = Class::One;
     let wanted = Wanted {
         name: b"",
@@ -73,67 +73,71 @@ fn secured() -> Device {
     }
 }
 
+const SUM: u32 = 169552957; // 0a1b2c3d
+
+fn recorded(log: &'static [u8], most: usize) -> Reader<Pieces> {
+    Reader::new(Pieces {
+        log,
+        most,
+        until: 4096,
+    })
+}
+
 // Four controllers on one projector, each greeted with the random number of the specification's example, so that its
-// digest leads the first line of each. By hand, from RULES: the lamps burn from the power-on at second 100, at place 3;
-// power-off at 110 is too early, and at 150, at place 1, it ends the stretch. The second lamp is disabled while the
-// power is off. A fault at 350 keeps the power off; without it a command in two parts, at place 0, switches it on at
-// 1350. The line that no LF ends is not played, so the log ends at 1357.
-const FOUR: &[u8] = b"LOG 2 1 0a1b2c3d 2026-11-27T05:45:09Z\n\
-    O 0 498e4a67\nO 1 498e4a67\nO 2 498e4a67\nO 3 498e4a67\n\
-    T 100\n\
-    R 3 5d8409bc1c3fa39749434aa3a5c38682%1POWR 1\n\
-    T 10\n\
-    R 1 5d8409bc1c3fa39749434aa3a5c38682%1POWR 0\n\
-    R 2 %1POWR 0\n\
-    T 40\n\
-    R 1 %1POWR 0\n\
-    X 3\n\
-    T 200\n\
-    M 2 0\n\
-    F 1\n\
-    R 0 5d8409bc1c3fa39749434aa3a5c38682%1POWR 1\n\
-    T 1000\n\
-    F 0\n\
-    B 0 2531504f\n\
-    R 0 WR 1\n\
-    T 7\n\
-    T 12";
-
-const FOUR_TOLD: &[u8] = b"lamp 1 from 100 to 150\nlamp 2 from 100 to 150\nlamp 1 from 1350 to 1357\n\
-    lamp 1 start 4200 burnt 57 now 4257\nlamp 2 start 60 burnt 50 now 110\n! line 23: no line end\n";
-
+// digest leads the first line of each. By hand, from RULES: the lamp burns from the power-on at second 100, at place 3.
+// The power-off at 110 is too early, and one without a digest is not heard; that at 150, in two parts at place 1, ends
+// the stretch. With the fault mark the power stays off.
 #[test]
 fn four_places_and_a_password(rt: HostRuntime) {
+    let log = b"LOG 2 1 0a1b2c3d 2026-11-27T05:45:09Z\n\
+        O 0 498e4a67\nO 1 498e4a67\nO 2 498e4a67\nO 3 498e4a67\n\
+        T 100\n\
+        R 3 5d8409bc1c3fa39749434aa3a5c38682%1POWR 1\n\
+        T 10\n\
+        R 1 5d8409bc1c3fa39749434aa3a5c38682%1POWR 0\n\
+        R 2 %1POWR 0\n\
+        T 40\n\
+        B 1 2531504f\n\
+        R 1 WR 0\n\
+        X 3\n\
+        T 200\n\
+        M 1 1\n\
+        F 1\n\
+        R 0 5d8409bc1c3fa39749434aa3a5c38682%1POWR 1\n\
+        T 1000\n";
     for most in 1..9 {
-        let mut to = Taken::new(most, 256);
-        let mut from = Reader::new(Pieces {
-            log: FOUR,
-            most,
-            until: 4096,
-        });
-        let told = tell_log(secured(), 169552957, false, &mut from, &mut to);
-        assert!(rt; to.text() == FOUR_TOLD);
-        match told {
-            Ok(Some(stray)) => {
-                assert_eq!(rt; stray.line, 23);
-                assert!(rt; matches!(stray.why, Why::Unended));
-            }
-            _ => assert!(rt; false),
-        }
+        let mut to = Taken::new(most, 64);
+        let told = tell_log(secured(), SUM, false, &mut recorded(log, most), &mut to);
+        assert!(rt; matches!(told, Ok(None)));
+        assert!(rt; to.text()
+            == b"lamp 1 from 100 to 150\nlamp 1 start 0 burnt 50 now 50\n".as_slice());
     }
 }
 
-// A log of another form is not told at all.
+// `T 12` was `T 1200`, and nothing burnt.
+#[test]
+fn a_log_that_was_cut(rt: HostRuntime) {
+    let mut to = Taken::new(7, 64);
+    let log = b"LOG 2 1 0a1b2c3d\nT 5\nT 12";
+    let told = tell_log(secured(), SUM, false, &mut recorded(log, 4), &mut to);
+    match told {
+        Ok(Some(stray)) => {
+            assert_eq!(rt; stray.line, 3);
+            assert!(rt; matches!(stray.why, Why::Unended));
+        }
+        _ => assert!(rt; false),
+    }
+    assert!(rt; to.text()
+        == b"lamp 1 start 0 burnt 0 now 0\n! line 3: no line end\n".as_slice());
+}
+
+// It is not told at all.
 #[test]
 fn a_log_of_another_form(rt: HostRuntime) {
-    let mut to = Taken::new(7, 256);
-    let mut from = Reader::new(Pieces {
-        log: FOUR,
-        most: 9,
-        until: 4096,
-    });
-    let told = tell_log(secured(), 169552958, false, &mut from, &mut to);
-    assert!(rt; told.is_ok());
+    let mut to = Taken::new(7, 64);
+    let log = b"LOG 2 1 0a1b2c3e\nO 0 498e4a67\nT 5\n";
+    let told = tell_log(secured(), SUM, false, &mut recorded(log, 9), &mut to);
+    assert!(rt; matches!(told, Ok(Some(_))));
     assert!(rt; to.text()
-        == b"lamp 1 start 4200 burnt 0 now 4200\nlamp 2 start 60 burnt 0 now 60\n! line 1: another sum\n".as_slice());
+        == b"lamp 1 start 0 burnt 0 now 0\n! line 1: another sum\n".as_slice());
 }
