@@ -1,7 +1,7 @@
 -- A log of either kind, as the observer of its kind tells it.
 -- Assumes nothing.
 use Rattle.std.proofs.Common.{ℕ, ◌+◌, ◌^◌, ◌≤◌, ◌≡◌, refl, sym, subst, ap, ◌∙◌, Bool, true, false, List, [], ◌∷◌, ◌++◌}
-use Rattle.std.proofs.Common.{arith, length, ◌⊎◌, inl, inr, map, append-nil, if◌then◌else◌, sum_by, MatchBool}
+use Rattle.std.proofs.Common.{arith, length, ◌⊎◌, inl, inr, map, if◌then◌else◌, sum_by, MatchBool}
 use Rattle.std.proofs.Common.{Option, Some, None, option_map}
 use Rattle.std.specs.Io.KnownBytes.{Appends}
 use Rattle.std.proofs.KnownBytes.{Appends-trans}
@@ -18,12 +18,14 @@ use Rattle.watch.specs.Marking.{floor_event, floor_steps, seconds_by}
 use Rattle.watch.specs.Watching.{Watching, watching_from}
 use Rattle.watch.specs.States.{state_of}
 use Rattle.report.specs.Reports.{report_new, begun_text}
+use Rattle.report.specs.declared.Report.{Report}
 use Rattle.burnt.specs.Told.{tellings_text, told_within, log_told, IsUntold}
 use Rattle.burnt.specs.ChainTold.{chain_told, chain_stray, IsChainUntold}
 use Rattle.burnt.specs.ChainTelling.{stray_now, stray_then, teller_writes, IsChainLeft, ChainOverflows}
 use Rattle.burnt.specs.LogTold.{told, stray_in, steps_in, IsTooMuch, IsToldSoFar}
 use Rattle.burnt.specs.declared.telling.Teller.{Teller}
 use Rattle.burnt.specs.declared.chained.ChainTeller.{ChainTeller}
+use Rattle.burnt.proofs.LinesTold.{broken_text}
 use Rattle.burnt.proofs.FloorTold.{untold, untold_bytes, teller_told, TellerLeft, teller_begun, teller_so_far}
 use Rattle.burnt.proofs.FloorTold.{teller_itself}
 use Rattle.burnt.proofs.ChainBegun.{left_itself, chain_begins, begun_stray, chain_so_far, chain_untold}
@@ -73,6 +75,32 @@ pub record IsBegun (begun : Device) (sum : ℕ) (drawn : Bool) (o : Both) : Type
   pub lines : o.history.lines ≡ 0
   pub stray : o.history.stray ≡ None
 
+pub begun_so : (begun : Device) (sum : ℕ) (drawn : Bool) {r : Report} → r ≡ report_new drawn → (a : Teller)
+    → state_of a.watch ≡ watching_from begun → a.report ≡ r → a.starts ≡ begun.own.lamps
+    → (b : ChainTeller)
+    → state_of b.watch ≡ watching_from begun
+    → b.report ≡ r
+    → b.starts ≡ begun.own.lamps
+    → b.log ≡ chain_begun sum
+    → b.lines ≡ 0
+    → b.stray ≡ None
+    → (o : Both)
+    → (o.events ≡ a) × (o.history ≡ b)
+    → o.kind ≡ Unbegun
+    → IsBegun begun sum drawn o
+begun_so begun sum drawn new a aw ar at b bw br bt bl bn bx o is kind = record {
+  kind = kind;
+  starts = ap (λ (t : Teller). t.starts) is.0 ∙ at;
+  report = ap (λ (t : Teller). t.report) is.0 ∙ ar ∙ new;
+  watch = ap (λ (t : Teller). state_of t.watch) is.0 ∙ aw;
+  chain_starts = ap (λ (t : ChainTeller). t.starts) is.1 ∙ bt;
+  chain_report = ap (λ (t : ChainTeller). t.report) is.1 ∙ br ∙ new;
+  chain_watch = ap (λ (t : ChainTeller). state_of t.watch) is.1 ∙ bw;
+  log = ap (λ (t : ChainTeller). t.log) is.1 ∙ bl;
+  lines = ap (λ (t : ChainTeller). t.lines) is.1 ∙ bn;
+  stray = ap (λ (t : ChainTeller). t.stray) is.1 ∙ bx;
+}
+
 module _ {begun : Device} {sum : ℕ} {drawn : Bool} {o : Both} (n : IsBegun begun sum drawn o) where
   of_kind : (ls : List LogLine) → is_history_from o.kind ls ≡ is_history ls
   of_kind ls = ap (λ k. is_history_from k ls) n.kind
@@ -89,8 +117,8 @@ module _ {begun : Device} {sum : ℕ} {drawn : Bool} {o : Both} (n : IsBegun beg
           → begun_text (report_new drawn)
           ++ (if t then teller_writes o.history (kept_lines log) else teller_told o.events (kept_lines log))
           ≡ (if t then chain_told begun sum drawn log else log_told begun drawn log)
-      by true = chain_begins n.chain_starts n.chain_report n.chain_watch n.log n.lines n.stray log
-      by false = teller_begun n.starts n.report n.watch log
+      by true = chain_begins begun sum drawn o.history n.chain_starts n.chain_report n.chain_watch n.log n.lines n.stray log
+      by false = teller_begun begun drawn o.events n.starts n.report n.watch log
 
   pub too_much : (log : List ℕ) → IsTooLong log ⊎ Overflows o (kept_lines log) → IsTooMuch log
   too_much log h = by (is_history (kept_lines log)) (moved h)
@@ -108,13 +136,13 @@ module _ {begun : Device} {sum : ℕ} {drawn : Bool} {o : Both} (n : IsBegun beg
           → IsTooLong log ⊎ MatchBool t (ChainOverflows o.history (kept_lines log))
           (2 ^ 64 ≤ o.events.watch.time + sum_by seconds_by (map floor_event (texts_of (kept_lines log))))
           → MatchBool t (IsChainUntold log) (IsUntold log)
-      by true e = chain_untold n.lines (ap (λ (s : Watching). s.time) n.chain_watch) log e
+      by true e = chain_untold o.history n.lines (ap (λ (s : Watching). s.time) n.chain_watch) log e
       by false e = untold (ap (λ (s : Watching). s.time) n.watch) log e
 
   -- the line that did not belong
-  pub stray_left_so : {last : Both} (log : List ℕ) → Left o (kept_lines log) last
+  pub stray_left_so : (last : Both) (log : List ℕ) → Left o (kept_lines log) last
       → (if is_history_from last.kind [] then stray_now last.history else None) ≡ stray_in begun sum log
-  stray_left_so {last} log (kind, left) =
+  stray_left_so last log (kind, left) =
       ap (λ (t : Bool). if t then stray_now last.history else None) (kind ∙ of_kind (kept_lines log))
       ∙ by (is_history (kept_lines log))
       (subst (λ (t : Bool). MatchBool t (IsChainLeft o.history (kept_lines log) last.history)
@@ -125,7 +153,7 @@ module _ {begun : Device} {sum : ℕ} {drawn : Bool} {o : Both} (n : IsBegun beg
           (TellerLeft o.events (kept_lines log) last.events)
           → (if t then stray_now last.history else None) ≡ (if t then chain_stray begun sum log else None)
       by true h =
-          h.stray ∙ begun_stray {drawn = drawn} n.chain_starts n.chain_report n.chain_watch n.log n.lines n.stray
+          h.stray ∙ begun_stray begun sum drawn o.history n.chain_starts n.chain_report n.chain_watch n.log n.lines n.stray
           (kept_lines log)
       by false h = refl
 
@@ -144,8 +172,8 @@ module _ {begun : Device} {sum : ℕ} {drawn : Bool} {o : Both} (n : IsBegun beg
       at : Left o b.told after
       at = b.leaves after (itself after)
 
-      then : writes o b.told ≡ b.text ++ writes after []
-      then = ap (writes o) (sym (append-nil b.told)) ∙ b.then []
+      all : writes o b.told ≡ b.text ++ writes after []
+      all = broken_text b
 
       by : (t : Bool) → is_history b.told ≡ t
           → b.text ≡ tellings_text (report_new drawn)
@@ -155,18 +183,19 @@ module _ {begun : Device} {sum : ℕ} {drawn : Bool} {o : Both} (n : IsBegun beg
           let chain : IsChainLeft o.history b.told after.history
           = subst (λ (t : Bool). MatchBool t (IsChainLeft o.history b.told after.history)
           (TellerLeft o.events b.told after.events)) mine at.1 in
-          chain_so_far n.chain_starts n.chain_report n.chain_watch n.log n.lines n.stray chain
+          chain_so_far begun sum drawn o.history n.chain_starts n.chain_report n.chain_watch n.log n.lines n.stray
+          after.history b.told chain b.text
           (sym (if_yes (teller_writes o.history b.told) (teller_told o.events b.told) mine)
-          ∙ then ∙ ap (λ (l : List ℕ). b.text ++ l) (if_yes _ _ (at.0 ∙ mine)))
+          ∙ all ∙ ap (λ (l : List ℕ). b.text ++ l) (if_yes _ _ (at.0 ∙ mine)))
           ∙ sym (ap (λ es. tellings_text (report_new drawn) (told_within (watching_from begun) es)) (if_yes _ _ is))
       by false is =
           let mine : is_history_from o.kind b.told ≡ false = of_kind b.told ∙ is in
           let floor : TellerLeft o.events b.told after.events
           = subst (λ (t : Bool). MatchBool t (IsChainLeft o.history b.told after.history)
           (TellerLeft o.events b.told after.events)) mine at.1 in
-          teller_so_far n.starts n.report n.watch
+          teller_so_far begun drawn o.events n.starts n.report n.watch after.events b.told b.text
           (sym (if_no (teller_writes o.history b.told) (teller_told o.events b.told) mine)
-          ∙ then ∙ ap (λ (l : List ℕ). b.text ++ l) (if_no _ _ (at.0 ∙ mine))) floor
+          ∙ all ∙ ap (λ (l : List ℕ). b.text ++ l) (if_no _ _ (at.0 ∙ mine))) floor
           ∙ sym (ap (λ es. tellings_text (report_new drawn) (told_within (watching_from begun) es)) (if_no _ _ is))
 
       text_is : b.text ≡ tellings_text (report_new drawn)

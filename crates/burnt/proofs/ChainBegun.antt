@@ -71,7 +71,7 @@ module _ (t : ChainTeller) where
     stray = sym still_stray;
   }
 
-module _ {begun : Device} {sum : ℕ} {drawn : Bool} {t : ChainTeller} (starts : t.starts ≡ begun.own.lamps)
+module _ (begun : Device) (sum : ℕ) (drawn : Bool) (t : ChainTeller) (starts : t.starts ≡ begun.own.lamps)
     (report : t.report ≡ report_new drawn) (watch : state_of t.watch ≡ watching_from begun)
     (log_is : t.log ≡ chain_begun sum) (lines : t.lines ≡ 0) (none : t.stray ≡ None) where
   none_now : stray_now t ≡ None
@@ -90,11 +90,11 @@ module _ {begun : Device} {sum : ℕ} {drawn : Bool} {t : ChainTeller} (starts :
   begun_stray ls = (λ i. stray_left (none_now i) (lines i) (log_is i) (watch i).device ls)
 
   -- where a read fails
-  module _ {after : ChainTeller} {ls : List LogLine} (at : IsChainLeft t ls after) where
-    end : Report → Watching → List ℕ
+  module _ (after : ChainTeller) (ls : List LogLine) (at : IsChainLeft t ls after) where
+    abbrev end : Report → Watching → List ℕ
     end = chain_ended t.starts (t.lines + length (entries_of t ls)) (stray_then t ls)
 
-    last : Report
+    abbrev last : Report
     last = report_after t.report (told_within (state_of t.watch) (steps_of t ls))
 
     same_end : told_from (chain_ended after.starts after.lines (stray_now after)) after.report
@@ -103,11 +103,11 @@ module _ {begun : Device} {sum : ℕ} {drawn : Bool} {t : ChainTeller} (starts :
     same_end = (λ i. told_from (chain_ended (at.starts i) (at.lines i) (at.stray i)) (at.report i)
         (state_of after.watch) [])
 
-    pub chain_so_far : {text : List ℕ} → teller_writes t ls ≡ text ++ teller_writes after []
+    pub chain_so_far : (text : List ℕ) → teller_writes t ls ≡ text ++ teller_writes after []
         → text ≡ tellings_text (report_new drawn)
         (told_within (watching_from begun) (entry_steps begun (belonging (chain_begun sum) begun ls)))
-    chain_so_far then =
-        text_so_far end t.report (state_of t.watch) (steps_of t ls) then
+    chain_so_far text all =
+        text_so_far end t.report (state_of t.watch) (steps_of t ls) all
         (end_told after ∙ same_end
         ∙ sym (left_told t.starts (t.lines + length (entries_of t ls)) (stray_then t ls) last at.watch))
         ∙ (λ i. tellings_text (report i)
@@ -122,8 +122,8 @@ said_together (l ∷ ls) = omega (arith, said_most l, said_together ls, sum_by-c
 
 kept_many : (log : List ℕ) → length (texts_of (kept_lines log)) ≡ length (lines_of log)
 kept_many log =
-    length-map (λ (l : LogLine). l.text) (kept_lines log) ∙ length-map kept (lines_in log)
-    ∙ sym (length-map (λ (l : LogLine). l.text) (lines_in log))
+    length-map (kept_lines log) (λ (l : LogLine). l.text) ∙ length-map (lines_in log) kept
+    ∙ sym (length-map (lines_in log) (λ (l : LogLine). l.text))
 
 pub chain_untold_bytes : (log : List ℕ) → IsChainUntold log → 2 ^ 32 ≤ length log
 chain_untold_bytes log h =
@@ -131,10 +131,10 @@ chain_untold_bytes log h =
     (λ (e : 2 ^ 64 ≤ sum_by said_seconds (texts_of (kept_lines log))).
     omega (arith, e, said_together (texts_of (kept_lines log)), kept_many log, lines_fit log)) h
 
-pub chain_untold : {t : ChainTeller} → t.lines ≡ 0 → t.watch.time ≡ 0 → (log : List ℕ)
+pub chain_untold : (t : ChainTeller) → t.lines ≡ 0 → t.watch.time ≡ 0 → (log : List ℕ)
     → IsTooLong log ⊎ ChainOverflows t (kept_lines log) → IsChainUntold log
-chain_untold {t} lines time log (inl e) = inl e
-chain_untold {t} lines time log (inr (inl h)) =
-    inl (inl (omega (arith, h, lines, length-map kept (lines_in log),
-    length-map (λ (l : LogLine). l.text) (lines_in log))))
-chain_untold {t} lines time log (inr (inr h)) = inr (omega (arith, h, time))
+chain_untold t lines time log (inl e) = inl e
+chain_untold t lines time log (inr (inl h)) =
+    inl (inl (omega (arith, h, lines, length-map (lines_in log) kept,
+    length-map (lines_in log) (λ (l : LogLine). l.text))))
+chain_untold t lines time log (inr (inr h)) = inr (omega (arith, h, time))

@@ -8,7 +8,9 @@ use Rattle.record.specs.Limits.{is_lit}
 use Rattle.record.specs.declared.types.Settings.{Settings}
 use Rattle.record.specs.declared.types.Own.{Own}
 use Rattle.clock.specs.Second.{changed_where, marks_in}
+use Rattle.textio.specs.Fronts.{WritesFront}
 use Rattle.textio.specs.Lines.{LogLine, texts_of}
+use Rattle.textio.proofs.Fronts.{front_more}
 use Rattle.history.specs.Entries.{LogEntry}
 use Rattle.history.specs.declared.recorder.Recorder.{Recorder}
 use Rattle.recorded.specs.Chain.{Misfit, device_made, log_made}
@@ -28,11 +30,11 @@ use Rattle.burnt.proofs.LinesTold.{step_left, step_told, step_reported}
 -- ---- where the log ends, no more counts of the record than its settings and its own part
 
 module _ (starts : List ℕ) (n : ℕ) (stray : Option FirstStray) (r : Report) where
-  text_at_end : Settings → Own → ℕ → ℕ → Bool → List ℕ
+  abbrev text_at_end : Settings → Own → ℕ → ℕ → Bool → List ℕ
   text_at_end st o from to true = told_text r (marks_in st o) from to ++ []
   text_at_end st o from to false = []
 
-  report_at_end : ℕ → ℕ → Bool → Report
+  abbrev report_at_end : ℕ → ℕ → Bool → Report
   report_at_end from to true = report_told r from to
   report_at_end from to false = r
 
@@ -47,7 +49,7 @@ module _ (starts : List ℕ) (n : ℕ) (stray : Option FirstStray) (r : Report) 
   report_is s true = refl
   report_is s false = refl
 
-  whole_at_end : Settings → Own → ℕ → ℕ → List ℕ → List ℕ
+  abbrev whole_at_end : Settings → Own → ℕ → ℕ → List ℕ → List ℕ
   whole_at_end st o from to burnt =
       let lit = is_lit o.power && nat_lt from to in
       text_at_end st o from to lit
@@ -74,7 +76,7 @@ module _ (starts : List ℕ) (n : ℕ) (stray : Option FirstStray) (r : Report) 
 module _ (starts : List ℕ) (n : ℕ) (log : Recorder) (r : Report) (s : Watching) (l : LogLine) (ls : List LogLine)
     where
   module _ {after : Watching} {later : Recorder} {ended : Bool} (m : IsLineMade s log l after later ended) where
-    es : List LogEntry
+    abbrev pub es : List LogEntry
     es = belonging later after.device ls
 
     device : after.device ≡ device_made s.device m.entry
@@ -90,30 +92,35 @@ module _ (starts : List ℕ) (n : ℕ) (log : Recorder) (r : Report) (s : Watchi
         stray_more log s.device l ls n m.said
         ∙ sym (λ i. stray_from (n + 1) (m.log i) (device i) ls)
 
-    steps : List Step
+    abbrev pub steps : List Step
     steps = entry_steps (device_made s.device m.entry) es
 
     pub counted : n + length (m.entry ∷ es) ≡ n + 1 + length es
     counted = omega arith
 
-    pub made_told : {then : Report} → then ≡ report_after r (telling_if ended after)
+    pub made_told : {next : Report} → next ≡ report_after r (telling_if ended after)
         → chain_told_from starts None n log r s (l ∷ ls)
-        ≡ tellings_text r (telling_if ended after) ++ chain_told_from starts None (n + 1) later then after ls
-    made_told {then} told =
+        ≡ tellings_text r (telling_if ended after) ++ chain_told_from starts None (n + 1) later next after ls
+    made_told {next} told =
         let end = chain_ended starts (n + 1 + length es) (stray_from (n + 1) later after.device ls) in
         (λ i. told_from (chain_ended starts (n + length (entries i)) (stray i)) r s (entry_steps s.device (entries i)))
         ∙ (λ i. told_from
         (chain_ended starts (counted i) (stray_from (n + 1) later after.device ls)) r s
         (entry_step s.device m.entry ∷ steps))
         ∙ step_told m.watched steps r told end
-        ∙ (λ i. tellings_text r (telling_if ended after) ++ told_from end then after (entry_steps (sym device i) es))
+        ∙ (λ i. tellings_text r (telling_if ended after) ++ told_from end next after (entry_steps (sym device i) es))
 
-    pub made_reported : {then last : Report} → then ≡ report_after r (telling_if ended after)
-        → last ≡ report_after then (told_within after (entry_steps after.device es))
+    -- only some of what ended with it could be told
+    pub made_cut : {old new : Option (List ℕ)} → WritesFront old new (tellings_text r (telling_if ended after))
+        → WritesFront old new (chain_told_from starts None n log r s (l ∷ ls))
+    made_cut {old} {new} f = subst (WritesFront old new) (sym (made_told refl)) (front_more old new _ _ f)
+
+    pub made_reported : {next last : Report} → next ≡ report_after r (telling_if ended after)
+        → last ≡ report_after next (told_within after (entry_steps after.device es))
         → last ≡ report_after r (told_within s (entry_steps s.device (belonging log s.device (l ∷ ls))))
-    made_reported {then} told h =
+    made_reported {next} told h =
         step_reported m.watched steps r told
-        (h ∙ (λ i. report_after then (told_within after (entry_steps (device i) es))))
+        (h ∙ (λ i. report_after next (told_within after (entry_steps (device i) es))))
         ∙ sym (λ i. report_after r (told_within s (entry_steps s.device (entries i))))
 
     pub made_left : after_log after (entry_steps after.device es)
@@ -131,7 +138,7 @@ module _ (starts : List ℕ) (n : ℕ) (log : Recorder) (r : Report) (s : Watchi
         let said = ap seconds_of_said (line_said log s.device l m.said) in
         omega (arith, time, said, sum_by-cons said_seconds l.text (texts_of ls))
 
-  module _ {after : Watching} {why : Misfit} {then : Recorder} {last : Report}
+  module _ {after : Watching} {why : Misfit} (next : Recorder)
       (x : IsLineStray s log l after why) where
     none : belonging log s.device (l ∷ ls) ≡ []
     none = belonging_stray log s.device l ls x.told
@@ -140,7 +147,7 @@ module _ (starts : List ℕ) (n : ℕ) (log : Recorder) (r : Report) (s : Watchi
     here = stray_here log s.device l ls n x.told
 
     pub stray_told : chain_told_from starts None n log r s (l ∷ ls)
-        ≡ chain_told_from starts (Some (record { line = n + 1; why = why })) n then r after ls
+        ≡ chain_told_from starts (Some (record { line = n + 1; why = why })) n next r after ls
     stray_told =
         (λ i. told_from (chain_ended starts (n + length (none i)) (here i)) r s (entry_steps s.device (none i)))
         ∙ left_told starts (n + 0) (Some (record { line = n + 1; why = why })) r x.left

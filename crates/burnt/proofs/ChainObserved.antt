@@ -6,7 +6,9 @@ use Rattle.std.proofs.Common.{arith, length, inl, inr, sum_by, Option, Some, Non
 use Rattle.std.proofs.lemmas.List.Sums.{sum_by-cons}
 use Rattle.std.specs.Io.KnownBytes.{Appends}
 use Rattle.std.proofs.KnownBytes.{Appends-nil}
+use Rattle.textio.specs.Fronts.{WritesFront}
 use Rattle.textio.specs.Lines.{LogLine, texts_of}
+use Rattle.history.specs.declared.recorder.Recorder.{Recorder}
 use Rattle.floorlog.specs.Observing.{Observes}
 use Rattle.history.specs.Entries.{LogEntry}
 use Rattle.recorded.specs.Chain.{Misfit}
@@ -23,10 +25,10 @@ use Rattle.burnt.specs.ChainTold.{entries_left, stray_left, chain_ended, chain_t
 use Rattle.burnt.specs.ChainTelling.{stray_now, entries_of, stray_then, teller_writes, IsChainLeft, ChainOverflows}
 use Rattle.burnt.specs.declared.chained.ChainTeller.{ChainTeller}
 use Rattle.burnt.proofs.TellingsTold.{report_within_none}
-use Rattle.burnt.proofs.ChainLines.{entries, stray, made_told, made_reported, made_left, made_seconds, stray_told}
+use Rattle.burnt.proofs.ChainLines.{made_cut, entries, stray, made_told, made_reported, made_left, made_seconds, stray_told}
 
 -- what is left is as it was
-is_left_itself : (s : Watching) → IsLeft s s
+pub is_left_itself : (s : Watching) → IsLeft s s
 is_left_itself s = record { settings = refl; own = refl; time = refl; from = refl; burnt = refl }
 
 is_left_then : {s t u : Watching} → IsLeft s t → IsLeft t u → IsLeft s u
@@ -93,7 +95,16 @@ module _ (t : ChainTeller) (l : LogLine) where
   pub uncounted : 2 ^ 64 ≤ t.watch.time + said_seconds l.text → (ls : List LogLine) → ChainOverflows t (l ∷ ls)
   uncounted h ls = inr (omega (arith, h, sum_by-cons said_seconds l.text (texts_of ls)))
 
-  module _ (none_before : stray_now t ≡ None) {u : ChainTeller} (starts : u.starts ≡ t.starts) where
+  pub belongs_cut : stray_now t ≡ None → {after : Watching} {later : Recorder} {ended : Bool}
+      → IsLineMade (state_of t.watch) t.log l after later ended
+      → {old new : Option (List ℕ)} → WritesFront old new (tellings_text t.report (telling_if ended after))
+      → (ls : List LogLine) → WritesFront old new (teller_writes t (l ∷ ls))
+  belongs_cut none m {old} {new} f ls =
+      subst (λ (o : Option FirstStray). WritesFront old new
+      (chain_told_from t.starts o t.lines t.log t.report (state_of t.watch) (l ∷ ls))) (sym none)
+      (made_cut t.starts t.lines t.log t.report (state_of t.watch) l ls m f)
+
+  module _ (none_before : stray_now t ≡ None) (u : ChainTeller) (starts : u.starts ≡ t.starts) where
     -- it belongs
     module _ {ended : Bool} (lines : u.lines ≡ t.lines + 1) (none : stray_now u ≡ None)
         (m : IsLineMade (state_of t.watch) t.log l (state_of u.watch) u.log ended) where
@@ -182,7 +193,7 @@ module _ (t : ChainTeller) (l : LogLine) where
       strays_then : (ls : List LogLine) → teller_writes t (l ∷ ls) ≡ teller_writes u ls
       strays_then ls =
           (λ i. chain_told_from t.starts (none_before i) t.lines t.log t.report (state_of t.watch) (l ∷ ls))
-          ∙ stray_told t.starts t.lines t.log t.report (state_of t.watch) l ls {then = u.log} x
+          ∙ stray_told t.starts t.lines t.log t.report (state_of t.watch) l ls u.log x
           ∙ sym (λ i. chain_told_from (starts i) (here i) (lines i) u.log (report i) (state_of u.watch) ls)
 
       strays_left : (ls : List LogLine) (last : ChainTeller) → IsChainLeft u ls last → IsChainLeft t (l ∷ ls) last

@@ -33,7 +33,7 @@ module _ (s : Watching) (e : FloorEvent) (es : List FloorEvent) where
     line_counted h = omega (arith, h, sum_by-cons seconds_by e es, ap (λ (x : Watching). x.time) w.state)
 
     -- the steps that follow begin with the device that the line left
-    steps : List Step
+    abbrev steps : List Step
     steps = floor_steps (done_by s.device e) es
 
     device : after.device ≡ done_by s.device e
@@ -94,7 +94,7 @@ TellerLeft t ls last =
     (last.starts ≡ t.starts) × (last.report ≡ report_after t.report (told_within (state_of t.watch) es))
     × (state_of last.watch ≡ after_log (state_of t.watch) es)
 
-module _ {begun : Device} {drawn : Bool} {t : Teller} (starts : t.starts ≡ begun.own.lamps)
+module _ (begun : Device) (drawn : Bool) (t : Teller) (starts : t.starts ≡ begun.own.lamps)
     (report : t.report ≡ report_new drawn) (watch : state_of t.watch ≡ watching_from begun) where
   pub teller_begun : (log : List ℕ)
       → begun_text (report_new drawn) ++ teller_told t (kept_lines log) ≡ log_told begun drawn log
@@ -103,13 +103,13 @@ module _ {begun : Device} {drawn : Bool} {t : Teller} (starts : t.starts ≡ beg
       (floor_steps (watch i).device (floor_events_kept log i)))
 
   -- where a read fails
-  pub teller_so_far : {after : Teller} {ls : List LogLine} {text : List ℕ}
+  pub teller_so_far : (after : Teller) (ls : List LogLine) (text : List ℕ)
       → teller_told t ls ≡ text ++ teller_told after [] → TellerLeft t ls after
       → text ≡ tellings_text (report_new drawn)
       (told_within (watching_from begun) (floor_steps begun (map floor_event (texts_of ls))))
-  teller_so_far {after} {ls} {text} then at =
+  teller_so_far after ls text all at =
       let events = map floor_event (texts_of ls) in
-      text_so_far (totals_text t.starts) t.report (state_of t.watch) (floor_steps t.watch.tested.device events) then
+      text_so_far (totals_text t.starts) t.report (state_of t.watch) (floor_steps t.watch.tested.device events) all
       (λ i. told_from (totals_text (at.0 i)) (at.1 i) (at.2 i) [])
       ∙ (λ i. tellings_text (report i) (told_within (watch i) (floor_steps (watch i).device events)))
 

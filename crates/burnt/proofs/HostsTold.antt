@@ -1,7 +1,8 @@
 -- What is written of a log that a host recorded tells the history of the host's calls.
 -- Assumes nothing.
 use Rattle.std.proofs.Common.{ℕ, ◌+◌, ◌≤◌, ◌<◌, ◌^◌, ◌≡◌, ◌≢◌, refl, sym, subst, ap, ◌∙◌, Bool, true, false, List, []}
-use Rattle.std.proofs.Common.{◌∷◌, ◌++◌, arith, length, take, map, map-append, append-nil, take_all, slice_index_or, All}
+use Rattle.std.proofs.lemmas.List.{map-append}
+use Rattle.std.proofs.Common.{◌∷◌, ◌++◌, arith, length, take, map, append-nil, take_all, slice_index_or, All}
 use Rattle.std.proofs.Common.{◌⊎◌, inl, inr, min, Option, Some, None, option_map, if◌then◌else◌, ◌==◌}
 use Rattle.std.proofs.lemmas.List.Elements.{All-head, All-tail}
 use Rattle.text.proofs.Choices.{if_yes, if_no}
@@ -12,6 +13,7 @@ use Rattle.ours.specs.Board.{ours}
 use Rattle.demands.specs.Calls.{Call}
 use Rattle.demands.specs.CountsSeconds.{Beginning, IsAccepted, start_marks, begun_by, history_of}
 use Rattle.demands.proofs.CountsSeconds.{ours_counts_seconds}
+use Rattle.demands.proofs.HistoryTold.{begun_agrees}
 use Rattle.textio.specs.Lines.{LogLine, ended_line, last_line, lines_ended, cut_end}
 use Rattle.textio.proofs.LinesEnded.{lines_spelt}
 use Rattle.floorlog.specs.Kept.{kept_most, kept, kept_lines}
@@ -143,9 +145,10 @@ module _ (b : Beginning) (w : Wanted) (h : IsAccepted ours b w) (sum : ℕ) (dra
       let end = after_log (watching_from d) es in
       let t : StepsTold b w (history_of ours b w cs) es = entries_watched b w h cs s.es (s.calls ∙ calls) in
       let few = (settings_of_legal d (is_legal-begun_by w b h)).lamps in
-      let begun : StepsTold b w (history_of ours b w []) (entry_steps d []) = entries_watched b w h [] [] refl in
+      let counted = ap (λ s. s.lamp_count) (begun_agrees b w h).settings in
+      let eight : length w.lamps ≤ 8 = omega (arith, counted, few) in
       let count : min end.device.settings.lamp_count 8 ≡ length w.lamps
-      = omega (arith, t.count, begun.count, few) in
+      = ap (λ (n : ℕ). min n 8) t.count ∙ omega (arith, eight) in
       record {
         told = tellings (watching_from d) es;
         seconds = end.time;

@@ -1,12 +1,14 @@
 -- A log told step by step: what a step gives, and what the steps give that follow it, are what the log with it gives.
 -- Assumes nothing.
-use Rattle.std.proofs.Common.{None, Some, IfSome, ℕ, ◌≡◌, refl, sym, subst, ap, ◌∙◌, Bool, ◌&&◌, List, [], ◌∷◌, ◌++◌}
+use Rattle.std.proofs.Common.{None, Some, IfSome, ℕ, ◌≡◌, refl, sym, subst, ap, ◌∙◌, Bool, ◌&&◌, List, [], ◌∷◌, ◌++◌, append-nil}
 use Rattle.std.specs.declared.option.Option.{Option}
 use Rattle.std.specs.Io.KnownBytes.{Appends}
 use Rattle.std.proofs.KnownBytes.{Appends-trans}
 use Rattle.std.proofs.lemmas.List.{append_cancel_right}
 use Rattle.std.proofs.lemmas.Option.{IfSome_then}
 use Rattle.textio.specs.Fronts.{WritesFront}
+use Rattle.textio.specs.Lines.{LogLine}
+use Rattle.floorlog.specs.Observing.{BreaksOff}
 use Rattle.textio.proofs.Fronts.{front_then, front_more}
 use Rattle.watch.specs.Watching.{Step, Watching, dark_with, is_long}
 use Rattle.watch.specs.Telling.{told_on, telling_if, after_log}
@@ -71,3 +73,9 @@ pub begun_cut : (a old now : Option (List ℕ)) (begun : List ℕ) (told whole :
 begun_cut None old now begun told whole is f = tt
 begun_cut (Some log) old now begun told whole is f =
     subst (WritesFront old now) (is log) (front_more old now _ _ f)
+
+-- what was written of the lines that have ended, where a read fails
+pub broken_text : {S : Type 0} {output : S → List LogLine → List ℕ} {Leaves : S → List LogLine → S → Type 0} {s after : S}
+    {log left : List ℕ} {old now : Option (List ℕ)} (b : BreaksOff output Leaves s after log left old now)
+    → output s b.told ≡ b.text ++ output after []
+broken_text {output = output} {s = s} b = ap (output s) (sym (append-nil b.told)) ∙ b.then []

@@ -173,6 +173,8 @@ pub fn tell_log<R: ByteSource, W: ByteSink>(
         ChainTeller::new(begun, sum, report),
     );
     report.begin(to).map_err(Failure::Write)?;
-    observer::follow(&mut teller, from, to)?;
-    Ok(stray_of(&teller))
+    match observer::follow(&mut teller, from, to) {
+        Ok(()) => Ok(stray_of(&teller)),
+        Err(failure) => Err(failure),
+    }
 }
