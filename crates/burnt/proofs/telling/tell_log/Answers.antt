@@ -71,3 +71,8 @@ returns-in-Err-clause-err g c =
     c.new-teller.ensures.observers c.new-teller.ensures.kind in
     comes_of g.R.ByteSource.fails_with g.W.ByteSink.fails_with _ (left_in g.R.ByteSource.remaining c.args.from.now) c.in-Err.failure (too_much n)
     c.in-Err.ensures.err
+
+pub returns-in-Err-clause-short : goal.returns-in-Err-clause-short
+returns-in-Err-clause-short g c =
+    short_enough g.R.ByteSource.fails_with g.W.ByteSink.fails_with IsTooMuch (2 ^ 32) too_much_bytes
+    (left_in g.R.ByteSource.remaining c.args.from.now) _ (returns-in-Err-clause-err g c)

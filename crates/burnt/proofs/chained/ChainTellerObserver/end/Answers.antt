@@ -1,4 +1,4 @@
-use Rattle.std.proofs.Common.{sym, subst, ◌∙◌}
+use Rattle.std.proofs.Common.{arith, sym, subst, ◌∙◌}
 use Rattle.textio.specs.Fronts.{WritesText}
 use Rattle.textio.proofs.Fronts.{writes_then, writes_fails}
 use Rattle.watch.specs.States.{state_of}
@@ -24,4 +24,4 @@ returns-clause-text g c =
     (rw (c.in_ok-tell_ended.ensures.report, c.is_underway.ensures) at c.tell_end.ensures))
 
 pub returns-clause-left : goal.returns-clause-left
-returns-clause-left g c = left_itself c.args.self.now
+returns-clause-left g c = grind (arith, left_itself c.args.self.now)
