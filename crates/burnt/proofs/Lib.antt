@@ -1,2 +1,8 @@
 mod TellingsTold
 mod LinesTold
+mod FloorTold
+mod ChainLines
+mod ChainObserved
+mod ChainBegun
+mod ByKinds
+mod HostsTold

@@ -1,1 +1,5 @@
 pub mod Told
+pub mod ChainTold
+pub mod ChainTelling
+pub mod LogTold
+pub mod HistoryTold

@@ -2,7 +2,9 @@
 // the end each lamp's seconds; or, with `--page`, one HTML document that shows them.
 #![tactic(auto)]
 
+mod chained;
 mod telling;
+pub mod theorems;
 #[cfg(test)]
 mod tests;
 
@@ -49,8 +51,10 @@ impl Telling for Burnt {
         from: &mut Reader<R>,
         to: &mut W,
     ) -> Result<Ending, Failure> {
-        telling::tell_log(begun.device, page, from, to)?;
-        Ok(Ending::Whole)
+        match telling::tell_log(begun.device, begun.sum, page, from, to)? {
+            None => Ok(Ending::Whole),
+            Some(line) => Ok(Ending::Stray(line)),
+        }
     }
 }
 

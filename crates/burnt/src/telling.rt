@@ -1,20 +1,28 @@
-// A log read to its end, of which is told which lamp burnt when.
-ghost use Rattle.std.specs.Prelude.{[], ◌≡◌, ◌≢◌, ◌+◌, ◌≤◌, ◌<◌, ◌^◌, map, length, Err};
-ghost use Rattle.std.specs.Prelude.{IfErr, OnOk, IfSome};
+// What is told of a log as it is watched: its stretches as they end, and in the end each lamp's seconds.
+ghost use Rattle.std.specs.Prelude.{◌≡◌, ◌≢◌, ◌+◌, ◌≤◌, ◌<◌, ◌^◌, [], map, min, length, sum_by, if◌then◌else◌};
+ghost use Rattle.std.specs.Prelude.{None, Err, option_map};
+ghost use Rattle.std.specs.Prelude.{OnOk, IfOk, IfErr, IfSome};
 ghost use Rattle.std.specs.Io.KnownBytes.{Appends};
 ghost use Rattle.textio.specs.Fronts.{WritesFront, WritesText};
+ghost use Rattle.textio.specs.Lines.{texts_of};
 ghost use Rattle.textio.specs.Ahead.{left_in};
 ghost use Rattle.textio.specs.NextLine.{FailureComesOf, OnFailedRead};
-ghost use Rattle.watch.specs.Marking.{floor_event};
-ghost use Rattle.watch.specs.Telling.{seconds_together, telling_if, after_log};
+ghost use Rattle.floorlog.specs.Kinds.{is_history_from};
+ghost use Rattle.recorded.specs.Following.{stray_seen};
+ghost use Rattle.watch.specs.Marking.{floor_event, floor_steps, seconds_by};
+ghost use Rattle.watch.specs.Telling.{telling_if, after_log};
+ghost use Rattle.watch.specs.Watching.{watching_from, burnt_by};
 ghost use Rattle.watch.specs.States.{state_of};
-ghost use Rattle.burnt.specs.Told.{tellings_text, report_after, totals_text, told_from, log_told, IsUntold};
-ghost use Rattle.burnt.specs.Told.{told_within, IsToldSoFar};
+ghost use Rattle.burnt.specs.Told.{tellings_text, report_after, totals_text, told_from, told_within};
+ghost use Rattle.burnt.specs.LogTold.{told, stray_in, IsTooMuch, IsToldSoFar};
 
+use crate::chained::ChainTeller;
 use floorlog::kept::KeptLine;
+use floorlog::kinds::ByKind;
 use floorlog::observer;
 use floorlog::observer::Observer;
 use record::types::Device;
+use recorded::stray::StrayLine;
 use report::Report;
 use report::lamps::{LAMPS, Totals};
 use report::page::Stretch;
@@ -25,9 +33,9 @@ use textio::reader::{ByteSource, Reader};
 use textio::writer::ByteSink;
 use watch::Watch;
 
-// The stretches that ended, if any did.
+/// The stretches that ended, if any did.
 #[tactic(auto, unfolding(crate::specs::Told::tellings_text, crate::specs::Told::report_after))]
-fn tell_ended<W: ByteSink>(
+pub fn tell_ended<W: ByteSink>(
     ended: bool,
     report: &mut Report,
     watch: &Watch,
@@ -49,42 +57,56 @@ fn tell_ended<W: ByteSink>(
     report.tell(to, lit, stretch)
 }
 
-// The seconds of each lamp, in all, of a log that began with these.
-fn tell_totals<W: ByteSink>(
-    report: Report,
-    watch: &Watch,
-    starts: [u32; LAMPS],
-    to: &mut W,
-) -> io::Result<()>
-    ensures { WritesText W.fails_with (W.contents to.old) (W.contents to.new) result
-        (totals_text report starts (state_of watch.now)) }
+/// The seconds of each lamp, in all, of a log that began with these.
+pub fn totals_of(watch: &Watch, starts: [u32; LAMPS]) -> Totals
+    ensures count { result.count ≡ min watch.now.tested.device.settings.lamp_count 8 }
+    ensures starts { result.starts ≡ starts }
+    ensures burnt { result.burnt ≡ burnt_by (state_of watch.now) }
+    ensures lasts { result.lasts ≡ watch.now.tested.device.own.lamps }
 {
     let device = watch.device();
-    let totals = Totals {
+    Totals {
         count: device.settings.lamp_count.min(LAMPS),
         starts,
         burnt: watch.burnt(),
         lasts: device.own.lamps,
-    };
-    report.end(to, watch.time(), totals)
+    }
 }
 
-// A log that is watched, as it is told: its lamps had these seconds where it began.
+/// A log of the first kind that is watched, as it is told: its lamps had these seconds where it began.
 #[derive(Drop)]
-struct Teller {
+pub struct Teller {
     watch: Watch,
     report: Report,
     starts: [u32; LAMPS],
 }
 
+impl Teller {
+    /// Before a log that begins with a device.
+    pub fn new(begun: Device, report: Report) -> Teller
+        ensures watch { state_of result.watch ≡ watching_from begun }
+        ensures report { result.report ≡ report }
+        ensures starts { result.starts ≡ begun.own.lamps }
+    {
+        let starts = begun.own.lamps;
+        Teller {
+            watch: Watch::new(begun),
+            report,
+            starts,
+        }
+    }
+}
+
 impl Observer for Teller {
-    ghost output = { λ t ls. told_from t.starts t.report (state_of t.watch) (map floor_event ls) };
+    ghost output = { λ t ls. told_from (totals_text t.starts) t.report (state_of t.watch)
+        (floor_steps t.watch.tested.device (map floor_event (texts_of ls))) };
 
-    ghost leaves = { λ t ls last. (last.starts ≡ t.starts)
-        × (last.report ≡ report_after t.report (told_within (state_of t.watch) (map floor_event ls)))
-        × (state_of last.watch ≡ after_log (state_of t.watch) (map floor_event ls)) };
+    ghost leaves = { λ t ls last. let es = floor_steps t.watch.tested.device (map floor_event (texts_of ls)) in
+        (last.starts ≡ t.starts)
+        × (last.report ≡ report_after t.report (told_within (state_of t.watch) es))
+        × (state_of last.watch ≡ after_log (state_of t.watch) es) };
 
-    ghost overflows = { λ t ls. 2 ^ 64 ≤ t.watch.time + seconds_together (map floor_event ls) };
+    ghost overflows = { λ t ls. 2 ^ 64 ≤ t.watch.time + sum_by seconds_by (map floor_event (texts_of ls)) };
 
     // A line, and the stretches that ended with it.
     fn line<W: ByteSink>(&mut self, line: &KeptLine, to: &mut W) -> Result<(), Failure> {
@@ -98,40 +120,61 @@ impl Observer for Teller {
     fn end<W: ByteSink>(&mut self, to: &mut W) -> io::Result<()> {
         let mut report = self.report;
         tell_ended(self.watch.is_underway(), &mut report, &self.watch, to)?;
-        tell_totals(report, &self.watch, self.starts, to)
+        report.end(
+            to,
+            self.watch.time(),
+            totals_of(&self.watch, self.starts),
+        )
     }
 }
 
+// The first line that did not belong, if one did not.
+fn stray_of(teller: &ByKind<Teller, ChainTeller>) -> Option<StrayLine>
+    ensures { option_map stray_seen result
+        ≡ (if is_history_from teller.now.kind [] then option_map stray_seen teller.now.history.stray else None) }
+{
+    if teller.is_history() {
+        return teller.history.stray();
+    }
+    None
+}
+
 /// The log that a reader has left, which begins with a device: which lamp burnt when goes to a sink, as lines or drawn
-/// on a page, as it comes. What is told is handed on before each read, which may wait.
+/// on a page, as it comes. What is told is handed on before each read, which may wait. A log whose first line begins
+/// with `LOG ` is of the second kind: `sum` is the CRC-32 of the form that it begins with. Returns its first line that
+/// does not belong, which is told last, if there is one. Errors: those of a read or a write; `TooLong` for a log with
+/// more lines, more bytes in one, or more seconds than 64 bits count.
 pub fn tell_log<R: ByteSource, W: ByteSink>(
     begun: Device,
+    sum: u32,
     drawn: bool,
     from: &mut Reader<R>,
     to: &mut W,
-) -> Result<(), Failure>
+) -> Result<Option<StrayLine>, Failure>
     ensures whole { OnOk result (IfSome (left_in R.remaining from.old) (λ log. Appends (W.contents to.old)
-        (W.contents to.new) (log_told begun drawn log))) }
+        (W.contents to.new) (told begun sum drawn log))) }
+    ensures stray { IfOk result (λ s. IfSome (left_in R.remaining from.old) (λ log.
+        option_map stray_seen s ≡ stray_in begun sum log)) }
     ensures front { IfSome (left_in R.remaining from.old) (λ log. WritesFront (W.contents to.old)
-        (W.contents to.new) (log_told begun drawn log)) }
+        (W.contents to.new) (told begun sum drawn log)) }
     ensures none_waits { OnOk result (W.waiting to.new ≡ []) }
     ensures read { IfErr result (OnFailedRead (W.waiting to.new ≡ [])) }
     ensures broken { IfErr result (OnFailedRead (IfSome (left_in R.remaining from.old) (λ log.
         IfSome (left_in R.remaining from.new) (λ left.
-        IsToldSoFar begun drawn log left (W.contents to.old) (W.contents to.new))))) }
+        IsToldSoFar begun sum drawn log left (W.contents to.old) (W.contents to.new))))) }
     ensures err { IfErr result
-        (FailureComesOf R.fails_with W.fails_with IsUntold (left_in R.remaining from.old)) }
+        (FailureComesOf R.fails_with W.fails_with IsTooMuch (left_in R.remaining from.old)) }
     ensures short { IfSome (left_in R.remaining from.old) (λ log. length log < 2 ^ 32
         → result ≢ Err Failure.TooLong) }
 {
-    let starts = begun.own.lamps;
     let report = Report::new(drawn);
-    let watch = Watch::new(begun);
-    let mut teller = Teller {
-        watch,
-        report,
-        starts,
-    };
+    let mut teller = ByKind::new(
+        Teller::new(begun, report),
+        ChainTeller::new(begun, sum, report),
+    );
     report.begin(to).map_err(Failure::Write)?;
-    observer::follow(&mut teller, from, to)
+    match observer::follow(&mut teller, from, to) {
+        Ok(()) => Ok(stray_of(&teller)),
+        Err(failure) => Err(failure),
+    }
 }

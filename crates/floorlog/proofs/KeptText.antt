@@ -3,8 +3,8 @@
 use Rattle.std.proofs.Common.{take_all, ℕ, ◌<◌, ◌≤◌, ◌≡◌, refl, sym, ap, ◌∙◌, List, [], ◌∷◌, ⊎_elim, map, arith}
 use Rattle.std.proofs.Common.{length, take, length-take-le}
 use Rattle.text.proofs.Orders.{le_or_lt}
-use Rattle.textio.specs.Lines.{lines_of}
-use Rattle.floorlog.specs.Kept.{kept_most, kept_lines}
+use Rattle.textio.specs.Lines.{LogLine, texts_of, lines_in}
+use Rattle.floorlog.specs.Kept.{kept_most, kept, kept_lines}
 use Rattle.floorlog.specs.Events.{event, events}
 use Rattle.floorlog.proofs.Forms.{event_overlong}
 
@@ -18,10 +18,10 @@ event_of_front l =
     (le_or_lt (length l) kept_most)
 
 -- so what is kept of each line has the events of the log
-pub map_kept : {T : Type 0} (f : List ℕ → T) → ((l : List ℕ) → f (take kept_most l) ≡ f l) → (ls : List (List ℕ))
-    → map f (map (take kept_most) ls) ≡ map f ls
+pub map_kept : {T : Type 0} (f : List ℕ → T) → ((l : List ℕ) → f (take kept_most l) ≡ f l) → (ls : List LogLine)
+    → map f (texts_of (map kept ls)) ≡ map f (texts_of ls)
 map_kept f same [] = refl
-map_kept f same (l ∷ ls) = (λ i. same l i ∷ map_kept f same ls i)
+map_kept f same (l ∷ ls) = (λ i. same l.text i ∷ map_kept f same ls i)
 
-pub events_kept : (log : List ℕ) → map event (kept_lines log) ≡ events log
-events_kept log = map_kept event (λ l. event_of_front l) (lines_of log)
+pub events_kept : (log : List ℕ) → map event (texts_of (kept_lines log)) ≡ events log
+events_kept log = map_kept event (λ l. event_of_front l) (lines_in log)

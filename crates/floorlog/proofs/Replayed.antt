@@ -6,7 +6,7 @@ use Rattle.std.proofs.lemmas.List.{length-map, append_cancel_right}
 use Rattle.std.specs.declared.option.Option.{Option}
 use Rattle.std.specs.Io.KnownBytes.{Appends}
 use Rattle.record.specs.declared.types.Device.{Device}
-use Rattle.textio.specs.Lines.{IsTooLong}
+use Rattle.textio.specs.Lines.{texts_of, IsTooLong}
 use Rattle.floorlog.specs.Kept.{kept_lines}
 use Rattle.floorlog.specs.LastLine.{last_device_line}
 use Rattle.floorlog.specs.Events.{LogEvent, event}
@@ -41,13 +41,13 @@ module _ (d : Device) where
 
 -- from the start of a log on
 module _ {begun d : Device} {n : ℕ} (first : n ≡ 0) (is : d ≡ begun) where
-  pub all_printed : (log : List ℕ) → printed_from n d (map event (kept_lines log)) ≡ replay_text begun log
+  pub all_printed : (log : List ℕ) → printed_from n d (map event (texts_of (kept_lines log))) ≡ replay_text begun log
   unfolding replay_text
   all_printed log = (λ i. printed_from (first i) (is i) (events_kept log i))
 
   pub all_played : (a old new : Option (List ℕ)) (after : Device)
-      → IfSome a (λ log. Appends old new (printed_from n d (map event (kept_lines log))))
-      → IfSome a (λ log. after ≡ state_after d (map event (kept_lines log)))
+      → IfSome a (λ log. Appends old new (printed_from n d (map event (texts_of (kept_lines log)))))
+      → IfSome a (λ log. after ≡ state_after d (map event (texts_of (kept_lines log))))
       → IfSome a (λ log. IsReplayed begun log old new after)
   all_played a old new after h g = grind (arith, all_printed, events_kept)
 
@@ -57,8 +57,8 @@ module _ {begun d : Device} {n : ℕ} (first : n ≡ 0) (is : d ≡ begun) where
 -- where a read fails
 pub played_so_far : {p after : Player} {begun : Device} {log left : List ℕ} {old new : Option (List ℕ)} → p.played ≡ 0
     → p.tested.device ≡ begun
-    → BreaksOff (λ (q : Player) ls. printed_from q.played q.tested.device (map event ls))
-    (λ (q : Player) ls (last : Player). last.tested.device ≡ state_after q.tested.device (map event ls))
+    → BreaksOff (λ (q : Player) ls. printed_from q.played q.tested.device (map event (texts_of ls)))
+    (λ (q : Player) ls (last : Player). last.tested.device ≡ state_after q.tested.device (map event (texts_of ls)))
     p after log left old new
     → IsPlayedSoFar begun log left old new
 played_so_far {p} {after} {begun} {log} {left} {old} {new} first is b = record {
@@ -70,7 +70,7 @@ played_so_far {p} {after} {begun} {log} {left} {old} {new} first is b = record {
 }
   where
     es : List LogEvent
-    es = map event b.told
+    es = map event (texts_of b.told)
 
     end : List ℕ
     end = last_device_line (state_after p.tested.device es)
@@ -81,6 +81,6 @@ played_so_far {p} {after} {begun} {log} {left} {old} {new} first is b = record {
     text : lines_printed p.played p.tested.device es ≡ b.text
     text =
         append_cancel_right _ _ end
-        (ap (λ ls. printed_from p.played p.tested.device (map event ls)) (sym (append-nil b.told)) ∙ b.then []
+        (ap (λ ls. printed_from p.played p.tested.device (map event (texts_of ls))) (sym (append-nil b.told)) ∙ b.then []
         ∙ ap (λ (t : List ℕ). b.text ++ t)
         (printed_none after.tested.device after.played ∙ ap last_device_line left_at))

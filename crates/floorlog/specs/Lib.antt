@@ -1,5 +1,6 @@
 pub mod Kept
 pub mod KeptText
+pub mod Kinds
 pub mod Observing
 pub mod Outcomes
 pub mod LastLine

@@ -7,6 +7,7 @@ use Rattle.std.specs.Prelude.{ℕ, List, ◌≡◌, ◌≢◌, ◌++◌, All, ma
 use Rattle.std.specs.declared.option.Option.{Option}
 use Rattle.std.specs.Io.KnownBytes.{Appends}
 use Rattle.record.specs.declared.types.Device.{Device}
+use Rattle.textio.specs.Lines.{LogLine, texts_of}
 use Rattle.floorlog.specs.Kept.{kept_lines}
 use Rattle.floorlog.specs.Events.{event, events}
 use Rattle.floorlog.specs.Playing.{state_after, lines_printed, replay_text}
@@ -16,8 +17,8 @@ pub record IsReplayed (d : Device) (log : List ℕ) (old new : Option (List ℕ)
   pub device : after ≡ state_after d (events log)
 
 pub record IsPlayedSoFar (d : Device) (log left : List ℕ) (old new : Option (List ℕ)) : Type 0 where
-  pub told : List (List ℕ)
+  pub told : List LogLine
   pub part : List ℕ
   pub one_line : All (λ b. b ≢ 10) part
   pub lines : kept_lines log ≡ told ++ kept_lines (part ++ left)
-  pub printed : Appends old new (lines_printed 0 d (map event told))
+  pub printed : Appends old new (lines_printed 0 d (map event (texts_of told)))

@@ -3,14 +3,14 @@ ghost use Rattle.std.specs.Prelude.{[], ◌≡◌, ◌+◌, ◌≤◌, ◌++◌,
 ghost use Rattle.std.specs.Io.KnownBytes.{Keeps};
 ghost use Rattle.textio.specs.Lines.{HasEndlessLine};
 ghost use Rattle.textio.specs.Ahead.{left_in};
-ghost use Rattle.textio.specs.NextLine.{ReadsPart, IsLine, FailureComesOf, OnFailedRead};
+ghost use Rattle.textio.specs.NextLine.{ReadsPart, line_in, IsLine, FailureComesOf, OnFailedRead};
 ghost use Rattle.floorlog.specs.Kept.{kept_most};
 
 use crate::event::Event;
 use crate::line;
 use crate::line::LINE_MOST;
 use textio::lines;
-use textio::lines::Failure;
+use textio::lines::{Failure, Line};
 use textio::reader::{ByteSource, Reader};
 use textio::writer::ByteSink;
 
@@ -25,11 +25,11 @@ fn read_line<R: ByteSource, W: ByteSink>(
     from: &mut Reader<R>,
     to: &mut W,
     line: &mut [u8; ROOM],
-) -> Result<Option<usize>, Failure>
-    ensures next { IfOk result (λ held. IfSome held (λ n. IfSome (left_in R.remaining from.old) (λ log.
-        IsLine log (left_in R.remaining from.new) kept_most (take n line.new)))) }
-    ensures end { IfOk result (λ held. held ≡ None → IfSome (left_in R.remaining from.old) (λ log. log ≡ [])) }
-    ensures bound { IfOk result (λ held. IfSome held (λ n. n ≤ kept_most)) }
+) -> Result<Option<Line>, Failure>
+    ensures next { IfOk result (λ next. IfSome next (λ l. IfSome (left_in R.remaining from.old) (λ log.
+        IsLine log (left_in R.remaining from.new) kept_most (line_in line.new l)))) }
+    ensures end { IfOk result (λ next. next ≡ None → IfSome (left_in R.remaining from.old) (λ log. log ≡ [])) }
+    ensures bound { IfOk result (λ next. IfSome next (λ l. l.held ≤ kept_most)) }
     ensures keeps { Keeps (W.contents to.old) (W.contents to.new) }
     ensures err { IfErr result
         (FailureComesOf R.fails_with W.fails_with HasEndlessLine (left_in R.remaining from.old)) }
@@ -44,23 +44,24 @@ fn read_line<R: ByteSource, W: ByteSink>(
 fn put_cr(line: &mut [u8; ROOM], held: usize)
     requires { held ≤ kept_most }
     ensures line { take held line.new ≡ take held line.old }
-    ensures ended { take (held + 1) line.new ≡ take held line.old ++ codes "\r" }
+    ensures with_cr { take (held + 1) line.new ≡ take held line.old ++ codes "\r" }
 {
     line[held] = b'\r';
 }
 
-/// A line of a log, without its LF: all of it, or as much as tells that it has no form. A CR stands behind it, with
-/// which a text is received.
+/// A line of a log, without its LF: all of it, or as much as tells that it has no form; and whether an LF ended it. A CR
+/// stands behind it, with which a text is received.
 #[derive(Drop)]
 pub struct KeptLine {
     bytes: [u8; ROOM],
     held: usize,
+    ended: bool,
     ghost inside: { held ≤ 4097 },
-    ghost ended: { take (held + 1) bytes ≡ take held bytes ++ codes "\r" },
+    ghost with_cr: { take (held + 1) bytes ≡ take held bytes ++ codes "\r" },
 }
 
 impl KeptLine {
-    ghost use Rattle.floorlog.specs.KeptText.{kept_text};
+    ghost use Rattle.floorlog.specs.KeptText.{kept_text, kept_line};
     ghost use Rattle.floorlog.specs.Events.{event_said, event};
 
     /// Before a line is read.
@@ -70,6 +71,7 @@ impl KeptLine {
         KeptLine {
             bytes: [b'\r'; ROOM],
             held: 0,
+            ended: false,
         }
     }
 
@@ -78,6 +80,13 @@ impl KeptLine {
         ensures { result.now ≡ kept_text self.now }
     {
         &self.bytes[..self.held]
+    }
+
+    /// Whether an LF ended it. Only the last line of a log may have none, where it may have been cut.
+    pub fn is_ended(&self) -> bool
+        ensures { result ≡ (kept_line self.now).ended }
+    {
+        self.ended
     }
 
     /// Its event.
@@ -94,7 +103,7 @@ impl KeptLine {
         to: &mut W,
     ) -> Result<bool, Failure>
         ensures next { IfOk result (λ more. more ≡ true → IfSome (left_in R.remaining from.old) (λ log.
-            IsLine log (left_in R.remaining from.new) kept_most (kept_text self.new))) }
+            IsLine log (left_in R.remaining from.new) kept_most (kept_line self.new))) }
         ensures end { IfOk result (λ more. more ≡ false → IfSome (left_in R.remaining from.old) (λ log. log ≡ [])) }
         ensures keeps { Keeps (W.contents to.old) (W.contents to.new) }
         ensures err { IfErr result
@@ -103,12 +112,12 @@ impl KeptLine {
         ensures part { IfErr result
             (OnFailedRead (ReadsPart (left_in R.remaining from.old) (left_in R.remaining from.new))) }
     {
-        let held = read_line(from, to, &mut self.bytes);
-        self.held = match held {
-            Ok(Some(held)) => held,
-            _ => 0,
+        let next = read_line(from, to, &mut self.bytes);
+        (self.held, self.ended) = match next {
+            Ok(Some(line)) => (line.held, line.ended),
+            _ => (0, false),
         };
         put_cr(&mut self.bytes, self.held);
-        Ok(held?.is_some())
+        Ok(next?.is_some())
     }
 }

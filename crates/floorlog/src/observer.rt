@@ -3,10 +3,11 @@
 ghost use Rattle.std.specs.Prelude.{[], ◌∷◌, ◌≡◌, ℕ, List, OnOk, OnErr, IfErr, IfSome};
 ghost use Rattle.std.specs.Io.KnownBytes.{Appends};
 ghost use Rattle.textio.specs.Fronts.{WritesFront, WritesText};
+ghost use Rattle.textio.specs.Lines.{LogLine};
 ghost use Rattle.textio.specs.Ahead.{left_in};
 ghost use Rattle.textio.specs.NextLine.{FailureComesOf, OnFailedRead};
 ghost use Rattle.floorlog.specs.Kept.{kept_lines};
-ghost use Rattle.floorlog.specs.KeptText.{kept_text};
+ghost use Rattle.floorlog.specs.KeptText.{kept_line};
 ghost use Rattle.floorlog.specs.Observing.{Observes, BreaksOff, FailsOn, CannotFollow};
 
 use crate::kept::KeptLine;
@@ -17,23 +18,24 @@ use textio::writer::ByteSink;
 
 /// Who is told the lines of a log, and writes what comes of them.
 pub trait Observer {
-    /// What is written for the lines that are left, and at their end.
-    ghost output: { Self → List (List ℕ) → List ℕ };
+    /// What is written for the lines that are left, and at their end. Each line comes as it is kept, with whether an LF
+    /// ended it.
+    ghost output: { Self → List LogLine → List ℕ };
 
     /// It is left so by these lines.
-    ghost leaves: { Self → List (List ℕ) → Self → Type 0 };
+    ghost leaves: { Self → List LogLine → Self → Type 0 };
 
     /// It cannot count all that is to be counted in these lines.
-    ghost overflows: { Self → List (List ℕ) → Type 0 };
+    ghost overflows: { Self → List LogLine → Type 0 };
 
     /// A line comes.
     fn line<W: ByteSink>(&mut self, line: &KeptLine, to: &mut W) -> Result<(), Failure>
-        ensures ok { OnOk result (Observes output leaves overflows self.old self.new (kept_text line.now)
+        ensures ok { OnOk result (Observes output leaves overflows self.old self.new (kept_line line.now)
             (W.contents to.old) (W.contents to.new)) }
-        ensures front { OnErr result ((ls : List (List ℕ)) → WritesFront (W.contents to.old) (W.contents to.new)
-            (output self.old (kept_text line.now ∷ ls))) }
+        ensures front { OnErr result ((ls : List LogLine) → WritesFront (W.contents to.old) (W.contents to.new)
+            (output self.old (kept_line line.now ∷ ls))) }
         ensures err { IfErr result
-            (FailsOn W.fails_with ((ls : List (List ℕ)) → overflows self.old (kept_text line.now ∷ ls))) };
+            (FailsOn W.fails_with ((ls : List LogLine) → overflows self.old (kept_line line.now ∷ ls))) };
 
     /// No line comes any more.
     fn end<W: ByteSink>(&mut self, to: &mut W) -> io::Result<()>

@@ -1,5 +1,6 @@
 // A log played back: what its lines are answered, and in the end the line of power and lamps.
 ghost use Rattle.std.specs.Prelude.{◌≡◌, ◌+◌, ◌^◌, ◌≤◌, ◌++◌, map, length};
+ghost use Rattle.textio.specs.Lines.{texts_of};
 ghost use Rattle.textio.specs.Fronts.{WritesText};
 ghost use Rattle.floorlog.specs.KeptText.{kept_text};
 ghost use Rattle.floorlog.specs.LastLine.{last_device_line};
@@ -51,10 +52,10 @@ fn play<W: ByteSink>(t: &mut Tested, number: u64, line: &KeptLine, to: &mut W) -
 }
 
 impl Observer for Player {
-    ghost output = { λ p ls. lines_printed p.played p.tested.device (map event ls)
-        ++ last_device_line (state_after p.tested.device (map event ls)) };
+    ghost output = { λ p ls. lines_printed p.played p.tested.device (map event (texts_of ls))
+        ++ last_device_line (state_after p.tested.device (map event (texts_of ls))) };
 
-    ghost leaves = { λ p ls last. last.tested.device ≡ state_after p.tested.device (map event ls) };
+    ghost leaves = { λ p ls last. last.tested.device ≡ state_after p.tested.device (map event (texts_of ls)) };
 
     ghost overflows = { λ p ls. 2 ^ 64 ≤ p.played + length ls };
 

@@ -11,3 +11,4 @@ pub mod Unsayable
 pub mod ShownPlain
 pub mod Served
 pub mod OnlyLines
+pub mod SecondsSaid

@@ -4,18 +4,16 @@
 -- the header.
 --   Sayable es         each of the entries es can be said by a line
 --   log_text es        the lines of the entries es, one after the other
---   lines_ended g log  the lines of a log of which the first has begun with g
---   cut_end g log      what stands behind the last LF
---   entries_in log     the entry of each line
+--   entries_in log     the entry of each line that an LF ended
 --   LogPlace           where a log stands: all the bytes so far, the number of the file, the lines since its header
 --   begun_at form      where it begins
 --   past p e           where it stands after the entry e
 --   FitsAt p e         the entry e fits where the log stands
 --   IsHistory p es     each of the entries es fits where those before it leave the log
 -- Assumes nothing.
-use Rattle.std.specs.Prelude.{ℕ, ◌+◌, ◌≡◌, ◌≤◌, true, List, [], ◌∷◌, ◌++◌, map, Option, if◌then◌else◌}
-use Rattle.text.specs.Words.{◌is◌}
+use Rattle.std.specs.Prelude.{ℕ, ◌+◌, ◌≡◌, ◌≤◌, true, List, [], ◌∷◌, ◌++◌, map, Option}
 use Rattle.text.specs.InTurn.{each_in_turn}
+use Rattle.textio.specs.Lines.{lines_ended}
 use Rattle.crc32.specs.Crc.{crc32_of}
 use Rattle.history.specs.Entries.{LogEntry, header, call, stated, is_sayable_entry, IsTypedEntry, entry_line, entry_in}
 
@@ -25,14 +23,6 @@ Sayable (e ∷ es) = IsTypedEntry e × (is_sayable_entry e ≡ true) × Sayable 
 
 abbrev pub log_text : List LogEntry → List ℕ
 log_text es = each_in_turn entry_line es
-
-unfoldable pub lines_ended : List ℕ → List ℕ → List (List ℕ)
-lines_ended g [] = []
-lines_ended g (b ∷ bs) = if b is "\n" then g ∷ lines_ended [] bs else lines_ended (g ++ (b ∷ [])) bs
-
-unfoldable pub cut_end : List ℕ → List ℕ → List ℕ
-cut_end g [] = g
-cut_end g (b ∷ bs) = if b is "\n" then cut_end [] bs else cut_end (g ++ (b ∷ [])) bs
 
 abbrev pub entries_in : List ℕ → List (Option LogEntry)
 entries_in log = map entry_in (lines_ended [] log)

@@ -2,7 +2,8 @@
 // is that the theorems stand.
 ghost use Rattle.std.specs.Prelude.{◌≡◌, ◌≤◌, List, [], Some, true, ℕ, map, take, length};
 ghost use Rattle.history.specs.Entries.{LogEntry, IsTypedEntry, is_sayable_entry, entry_text, entry_in};
-ghost use Rattle.history.specs.Logs.{Sayable, log_text, entries_in, cut_end, begun_at, IsHistory};
+ghost use Rattle.textio.specs.Lines.{cut_end};
+ghost use Rattle.history.specs.Logs.{Sayable, log_text, entries_in, begun_at, IsHistory};
 ghost use Rattle.history.specs.Recording.{Asked, AreTyped, recorder_begun, entries_recorded, bytes_recorded};
 
 /// What a line says is what it was written for; no two entries have one line, and no other line says an entry, which

@@ -97,10 +97,14 @@ fn shown(name: &str) -> &str {
     name
 }
 
-fn status_of(ending: Ending) -> Status {
+// How a log ended all of which was read, and what is told of it written.
+fn ended<E: ByteSink>(ending: Ending, errors: &mut E) -> Status {
     match ending {
         Ending::Whole => Status::Done,
-        Ending::Stray => Status::Strayed,
+        Ending::Stray(line) => {
+            let _said = said::say_stray(errors, &line).is_ok();
+            Status::Strayed
+        }
     }
 }
 
@@ -116,7 +120,7 @@ fn tell_out<P: Telling, O: Opens, W: ByteSink, E: ByteSink>(
     let told = program.tell(begun, page, &mut Reader::new(Stream(&mut log)), to);
     match told {
         Ok(ending) => match cut::end_output(Ok(()), to) {
-            Ok(()) => status_of(ending),
+            Ok(()) => ended(ending, errors),
             Err(error) => unwritten(STANDARD_OUTPUT, &error, errors),
         },
         Err(failure) => {
@@ -144,7 +148,7 @@ fn tell_saved<P: Telling, O: Outside, E: ByteSink>(
     let told = program.tell(begun, page, &mut Reader::new(Stream(&mut log)), &mut to);
     match told {
         Ok(ending) => match outside.keep(to) {
-            Ok(()) => status_of(ending),
+            Ok(()) => ended(ending, errors),
             Err(error) => unwritten(name, &error, errors),
         },
         Err(failure) => {

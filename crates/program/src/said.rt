@@ -2,9 +2,12 @@
 ghost use Rattle.std.specs.Prelude.{◌++◌};
 ghost use Rattle.textio.specs.Fronts.{WritesText};
 ghost use Rattle.program.specs.Said.{unread_text, unwritten_text, refused_text, endless_text, stop_text};
+ghost use Rattle.program.specs.Said.{stray_said};
+ghost use Rattle.recorded.specs.Following.{stray_seen};
 
 use command::asked::Stop;
 use reasons::number_text;
+use recorded::stray::{StrayLine, StrayText};
 use std::io;
 use std::io::{Error, ErrorKind};
 use textio::forms::fill;
@@ -83,6 +86,17 @@ pub fn say_refused<E: ByteSink>(to: &mut E, name: &str, number: u32) -> io::Resu
 {
     put_four(to, name, ": ", number_text(number), " (")?;
     fill(to, "#)\n", &[number as u64])
+}
+
+/// Which line of a log does not belong to it, and why.
+pub fn say_stray<E: ByteSink>(to: &mut E, line: &StrayLine) -> io::Result<()>
+    ensures { WritesText E.fails_with (E.contents to.old) (E.contents to.new) result
+        (stray_said (stray_seen line.now)) }
+{
+    let mut text = StrayText::new();
+    line.put(&mut text);
+    put(to, &text)?;
+    put(to, b"; what is written is of the lines before it\n")
 }
 
 /// Why a command line asks for nothing, and in a second line how the program is called; nothing of the help, of

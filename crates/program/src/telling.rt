@@ -1,5 +1,6 @@
 // What a program makes of a log.
 use formfile::Begun;
+use recorded::stray::StrayLine;
 use textio::lines::Failure;
 use textio::reader::{ByteSource, Reader};
 use textio::writer::ByteSink;
@@ -9,8 +10,8 @@ use textio::writer::ByteSink;
 pub enum Ending {
     /// As what it begins with says.
     Whole,
-    /// A line of it did not belong to it, which the output says.
-    Stray,
+    /// This line of it did not belong to it, which the output says too.
+    Stray(StrayLine),
 }
 
 /// A program over logs.

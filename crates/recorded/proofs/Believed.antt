@@ -21,7 +21,7 @@ use Rattle.history.specs.Calls.{LogCall}
 use Rattle.history.specs.Entries.{LogEntry, header, call, stated, is_sayable_entry, IsTypedEntry, entry_text}
 use Rattle.history.specs.Entries.{entry_line, entry_in}
 use Rattle.history.specs.Shown.{device_shown}
-use Rattle.history.specs.Logs.{lines_ended}
+use Rattle.textio.specs.Lines.{lines_ended}
 use Rattle.history.specs.Recording.{cannot_follow, advanced, recorded_by, recorder_after, header_next, stated_next}
 use Rattle.history.specs.declared.recorder.Recorder.{Recorder}
 use Rattle.history.proofs.Chain.{served, refused, tried, stated_tried}
@@ -197,6 +197,8 @@ module _ (r : Recorder) (d : Device) (c : Call) (n : ℕ) (k : Small r) (t : IsT
             ∙ (λ i. Some (record {
               log = recorder_left recorder_then (after ours d c) ts;
               device = run ours (after ours d c) (step_calls ts);
+              calls = sym (if_yes (recorded_call d c ∷ recorded (after ours d c) (step_calls ts))
+                  (recorded (after ours d c) (step_calls ts)) done) i;
               replies = (ap (λ (w : List ℕ). w ∷ replies_of (after ours d c) (step_calls ts)) s.replied
                   ∙ sym (if_yes (replied_by d c ∷ replies_of (after ours d c) (step_calls ts))
                   (replies_of (after ours d c) (step_calls ts)) done)) i;
@@ -223,6 +225,8 @@ module _ (r : Recorder) (d : Device) (c : Call) (n : ℕ) (k : Small r) (t : IsT
             ∙ (λ i. Some (record {
               log = recorder_left recorder_then (after ours d c) ts;
               device = run ours (after ours d c) (step_calls ts);
+              calls = sym (if_no (recorded_call d c ∷ recorded (after ours d c) (step_calls ts))
+                  (recorded (after ours d c) (step_calls ts)) h) i;
               replies = sym (if_no (replied_by d c ∷ replies_of (after ours d c) (step_calls ts))
                   (replies_of (after ours d c) (step_calls ts)) h) i;
             }));

@@ -9,4 +9,8 @@ pub mod Illegal
 pub mod Chained
 pub mod Believed
 pub mod Kept
+pub mod Followed
 pub mod Accepted
+pub mod FollowedSays
+pub mod HostsEnd
+pub mod StrayKeeps

@@ -9,8 +9,8 @@
 --   device_made d e      the record then
 --   reply_made d e       the reply
 --   is_made d e          it belongs;    log_made r d e l   the three numbers then, where the line l says e
---   Followed             where a reader stands after some lines: the three numbers, the record, and the replies of the
---                        calls
+--   Followed             where a reader stands after some lines: the three numbers, the record, and the calls that they
+--                        say with their replies
 --   followed r d ls      where it stands after the lines ls, given without their LFs, if each belongs
 --   HoldsFor p d e       the entry e is true of the record d, where the log stands at p: a call belongs, what is stated
 --                        is shown, and a line more can be counted;    AllHold p d es   each where those before it leave
@@ -27,6 +27,7 @@ use Rattle.record.specs.declared.types.Device.{Device}
 use Rattle.ours.specs.Board.{ours}
 use Rattle.demands.specs.Calls.{after}
 use Rattle.history.specs.Lines.{number_most}
+use Rattle.history.specs.Calls.{LogCall}
 use Rattle.history.specs.Entries.{LogEntry, header, call, stated, entry_seen, entry_in}
 use Rattle.history.specs.Shown.{device_shown}
 use Rattle.history.specs.Logs.{LogPlace, past}
@@ -140,14 +141,20 @@ log_made r d e l = if is_made d e then read_past r e l else r
 pub record Followed : Type 0 where
   pub log : Recorder
   pub device : Device
+  pub calls : List LogCall
   pub replies : List (List ℕ)
 
 abbrev pub and_reply : Device → LogEntry → Followed → Followed
-and_reply d (call c) f = record { log = f.log; device = f.device; replies = reply_made d (call c) ∷ f.replies }
+and_reply d (call c) f = record {
+  log = f.log;
+  device = f.device;
+  calls = c ∷ f.calls;
+  replies = reply_made d (call c) ∷ f.replies;
+}
 and_reply d e f = f
 
 abbrev pub followed : Recorder → Device → List (List ℕ) → Option Followed
-followed r d [] = Some (record { log = r; device = d; replies = [] })
+followed r d [] = Some (record { log = r; device = d; calls = []; replies = [] })
 followed r d (l ∷ ls) =
     result_ok (entry_told r d l) >>= λ e. result_ok (made_told d e)
     >>= λ n. option_map (and_reply d e) (followed (log_made r d e l) (device_made d e) ls)

@@ -9,7 +9,8 @@
 --   IsKept r d s n        if it is a call that is served, it is recorded;   AreKept r d ss   of each
 --   HaveRoom ss           each of them has the memory that any line fits in
 --   IsTypedStep s         its numbers are those that the code's types have;   AreTypedSteps ss   of each
---   host_left r d ss      where the steps leave the host itself: the recorder, the record, and the replies of its calls
+--   host_left r d ss      where the steps leave the host itself: the recorder, the record, and its served calls with their
+--                         replies
 -- Assumes nothing.
 use Rattle.std.specs.Prelude.{ℕ, ◌≡◌, ◌≤◌, true, List, [], ◌∷◌, ◌++◌, Option, if◌then◌else◌}
 use Rattle.text.specs.Outcomes.{WrittenAs, nothing_written}
@@ -19,7 +20,7 @@ use Rattle.demands.specs.Calls.{Call, after, run}
 use Rattle.history.specs.Entries.{call}
 use Rattle.history.specs.Recording.{log_line_room, recorded_by, recorder_after, header_next, stated_by, stated_after}
 use Rattle.history.specs.declared.recorder.Recorder.{Recorder}
-use Rattle.recorded.specs.Recorded.{is_served, recorded_call, replies_of, IsTypedCall}
+use Rattle.recorded.specs.Recorded.{is_served, recorded_call, recorded, replies_of, IsTypedCall}
 use Rattle.recorded.specs.Chain.{Followed}
 
 pub data HostStep : Type 0 where
@@ -80,5 +81,6 @@ abbrev pub host_left : Recorder → Device → List (HostStep × ℕ) → Follow
 host_left r d ss = record {
   log = recorder_left r d ss;
   device = run ours d (step_calls ss);
+  calls = recorded d (step_calls ss);
   replies = replies_of d (step_calls ss);
 }

@@ -3,3 +3,4 @@ pub mod Playing
 pub mod Played
 pub mod Chain
 pub mod Hosts
+pub mod Following

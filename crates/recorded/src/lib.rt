@@ -4,4 +4,5 @@
 
 pub mod chain;
 pub mod play;
+pub mod stray;
 pub mod theorems;

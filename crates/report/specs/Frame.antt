@@ -4,8 +4,13 @@
 --   table n starts burnt lasts        "each lamp's seconds at the start, burnt, and now", of n lamps
 --   page_begun       what stands above the rows
 --   page_ended rows seconds n ..    the rows up to the end of a log of so many seconds, and what stands below them
+--   until_text seconds lines  until when a log of the second kind goes (RULES, History of a board: "that a log's end is
+--                    missing cannot be seen from it"): the seconds that it lets pass, and the lines that belong to it
+--   stray_paragraph s    what is said of the line that does not belong, if there is one
+--   page_ended_until .. lines stray    the page's end for such a log
 -- Assumes nothing.
-use Rattle.std.specs.Prelude.{ℕ, List, ◌++◌, codes}
+use Rattle.std.specs.Prelude.{ℕ, List, [], ◌∷◌, ◌++◌, codes, Option, Some, None}
+use Rattle.textio.specs.Forms.{form_filled}
 use Rattle.report.specs.LampLines.{totals_filled}
 use Rattle.report.specs.Days.{days_of, rows_opened, row_ended}
 
@@ -53,3 +58,17 @@ page_begun = head ++ hours
 unfoldable pub page_ended : ℕ → ℕ → ℕ → List ℕ → List ℕ → List ℕ → List ℕ
 page_ended rows seconds lamps starts burnt lasts = rows_opened lamps rows (days_of seconds)
     ++ (row_ended ++ (table lamps starts burnt lasts ++ codes "</body></html>\n"))
+
+abbrev pub until_text : ℕ → ℕ → List ℕ
+until_text seconds lines = form_filled
+    (codes "<p>The log goes until second #, line #. What came after that, if anything did, is not told.</p>\n")
+    (seconds ∷ lines ∷ [])
+
+abbrev pub stray_paragraph : Option (List ℕ) → List ℕ
+stray_paragraph None = []
+stray_paragraph (Some s) = codes "<p>" ++ (s ++ codes "</p>\n")
+
+unfoldable pub page_ended_until : ℕ → ℕ → ℕ → List ℕ → List ℕ → List ℕ → ℕ → Option (List ℕ) → List ℕ
+page_ended_until rows seconds lamps starts burnt lasts lines stray = rows_opened lamps rows (days_of seconds)
+    ++ (row_ended ++ (table lamps starts burnt lasts
+    ++ (until_text seconds lines ++ (stray_paragraph stray ++ codes "</body></html>\n"))))

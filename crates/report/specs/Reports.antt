@@ -4,11 +4,16 @@
 --   told_text r lit from to           what is told of a stretch of the lamps whose marks of `lit` are set
 --   report_told r from to             how the log is told on: a page has the rows of that stretch
 --   ended_text r seconds n ..         the end of a log of so many seconds, with the totals of n lamps
+--   ended_until r seconds n .. lines stray    the end of one of the second kind, of so many lines that belong to it: and
+--                                     what is said of the line that does not, if there is one
+--   stray_line s                      that as a line
+--   stray_said s                      that as the code has it
 -- Assumes nothing.
-use Rattle.std.specs.Prelude.{ℕ, Bool, true, false, List, []}
+use Rattle.std.specs.Prelude.{ℕ, Bool, true, false, List, [], ◌++◌, codes, Option, Some, None, option_map}
+use Rattle.std.specs.Borrow.{Bor}
 use Rattle.report.specs.LampLines.{stretch_lines, total_lines}
 use Rattle.report.specs.Days.{rows_drawn, stretch_drawn}
-use Rattle.report.specs.Frame.{page_begun, page_ended}
+use Rattle.report.specs.Frame.{page_begun, page_ended, page_ended_until}
 use Rattle.report.specs.declared.Report.{Report}
 use Rattle.report.specs.declared.Report.TheVariants.{Lines, Page}
 
@@ -31,3 +36,16 @@ report_told (Page rows) from to = Page (rows_drawn rows from to)
 abbrev pub ended_text : Report → ℕ → ℕ → List ℕ → List ℕ → List ℕ → List ℕ
 ended_text Lines seconds lamps starts burnt lasts = total_lines lamps starts burnt lasts
 ended_text (Page rows) seconds lamps starts burnt lasts = page_ended rows seconds lamps starts burnt lasts
+
+abbrev pub stray_line : Option (List ℕ) → List ℕ
+stray_line None = []
+stray_line (Some s) = s ++ codes "\n"
+
+abbrev pub stray_said : Option (Bor (List ℕ)) → Option (List ℕ)
+stray_said s = option_map (λ b. b.now) s
+
+abbrev pub ended_until : Report → ℕ → ℕ → List ℕ → List ℕ → List ℕ → ℕ → Option (List ℕ) → List ℕ
+ended_until Lines seconds lamps starts burnt lasts lines stray =
+    total_lines lamps starts burnt lasts ++ stray_line stray
+ended_until (Page rows) seconds lamps starts burnt lasts lines stray =
+    page_ended_until rows seconds lamps starts burnt lasts lines stray

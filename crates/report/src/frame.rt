@@ -1,10 +1,12 @@
 // What stands around the rows of the days: the head and the hours above them, the table of totals below.
 ghost use Rattle.std.specs.Prelude.{◌≤◌};
 ghost use Rattle.textio.specs.Fronts.{WritesText};
-ghost use Rattle.report.specs.Frame.{head, hours, table};
+ghost use Rattle.report.specs.Frame.{head, hours, table, until_text, stray_paragraph};
+ghost use Rattle.report.specs.Reports.{stray_said};
 
 use crate::lamps::{Totals, fill_totals};
 use std::io;
+use textio::forms::fill;
 use textio::writer::{ByteSink, put};
 
 /// The document's head, its title and a line of help.
@@ -65,4 +67,28 @@ pub fn put_table<W: ByteSink>(out: &mut W, t: Totals) -> io::Result<()>
         t,
     )?;
     put(out, b"</table>\n")
+}
+
+/// Until when a log goes: the seconds that it lets pass, and the lines that belong to it.
+pub fn put_until<W: ByteSink>(out: &mut W, seconds: u64, lines: u64) -> io::Result<()>
+    ensures { WritesText W.fails_with (W.contents out.old) (W.contents out.new) result (until_text seconds lines) }
+{
+    fill(
+        out,
+        "<p>The log goes until second #, line #. What came after that, if anything did, is not told.</p>\n",
+        &[seconds, lines],
+    )
+}
+
+/// What is said of a line that does not belong, if there is one.
+pub fn put_stray<W: ByteSink>(out: &mut W, stray: Option<&[u8]>) -> io::Result<()>
+    ensures { WritesText W.fails_with (W.contents out.old) (W.contents out.new) result
+        (stray_paragraph (stray_said stray.entry)) }
+{
+    let Some(text) = stray else {
+        return Ok(());
+    };
+    put(out, b"<p>")?;
+    put(out, text)?;
+    put(out, b"</p>\n")
 }

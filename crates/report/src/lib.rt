@@ -9,12 +9,13 @@ pub mod theorems;
 
 ghost use Rattle.std.specs.Prelude.{◌≡◌, ◌≤◌, length, OnOk, OnErr};
 ghost use Rattle.textio.specs.Fronts.{WritesText};
-ghost use Rattle.report.specs.Reports.{report_new, begun_text, report_told, told_text, ended_text};
+ghost use Rattle.report.specs.Reports.{report_new, begun_text, report_told, told_text, ended_text, ended_until};
+ghost use Rattle.report.specs.Reports.{stray_line, stray_said};
 
 use crate::lamps::Totals;
 use crate::page::Stretch;
 use std::io;
-use textio::writer::ByteSink;
+use textio::writer::{ByteSink, put};
 
 /// How a log is told: as lines, or as a page that has so many rows.
 #[derive(Clone, Copy)]
@@ -23,6 +24,27 @@ pub enum Report {
     Lines,
     /// An HTML page, on which so many rows, one a day, are begun.
     Page(u64),
+}
+
+/// How far a log of the second kind goes (RULES, History of a board).
+#[derive(Clone, Copy)]
+pub struct Until<'a> {
+    /// How many of its lines belong, from the first on.
+    pub lines: u64,
+    /// What is said of the line after them, which does not belong, if there is one: without LF.
+    pub stray: Option<&'a [u8]>,
+}
+
+// What is said of a line that does not belong, if there is one, as a line.
+fn put_stray<W: ByteSink>(out: &mut W, stray: Option<&[u8]>) -> io::Result<()>
+    ensures { WritesText W.fails_with (W.contents out.old) (W.contents out.new) result
+        (stray_line (stray_said stray.entry)) }
+{
+    let Some(text) = stray else {
+        return Ok(());
+    };
+    put(out, text)?;
+    put(out, b"\n")
 }
 
 impl Report {
@@ -72,6 +94,27 @@ impl Report {
         match self {
             Report::Lines => lamps::put_totals(out, t),
             Report::Page(rows) => page::end(out, rows, seconds, t),
+        }
+    }
+
+    /// The end of a log of the second kind, of so many seconds.
+    pub fn end_until<W: ByteSink>(
+        self,
+        out: &mut W,
+        seconds: u64,
+        t: Totals,
+        until: Until<'_>,
+    ) -> io::Result<()>
+        requires { t.count ≤ 8 }
+        ensures { WritesText W.fails_with (W.contents out.old) (W.contents out.new) result
+            (ended_until self seconds t.count t.starts t.burnt t.lasts until.entry.lines (stray_said until.entry.stray)) }
+    {
+        match self {
+            Report::Lines => {
+                lamps::put_totals(out, t)?;
+                put_stray(out, until.stray)
+            }
+            Report::Page(rows) => page::end_until(out, rows, seconds, t, until),
         }
     }
 }

@@ -4,11 +4,12 @@
 // be told from another.
 ghost use Rattle.std.specs.Prelude.{◌≡◌, ◌≤◌, length, IfOk};
 ghost use Rattle.textio.specs.Fronts.{WritesText};
-ghost use Rattle.report.specs.Days.{days_of, rows_drawn, stretch_drawn};
-ghost use Rattle.report.specs.Frame.{page_begun, page_ended};
+ghost use Rattle.report.specs.Days.{days_of, row_ended, rows_drawn, stretch_drawn};
+ghost use Rattle.report.specs.Frame.{page_begun, page_ended, page_ended_until};
+ghost use Rattle.report.specs.Reports.{stray_said};
 
 use crate::lamps::Totals;
-use crate::{days, frame};
+use crate::{Until, days, frame};
 use std::io;
 use textio::writer::{ByteSink, put};
 
@@ -60,6 +61,13 @@ pub fn draw<W: ByteSink>(out: &mut W, rows: u64, lit: &[bool], s: Stretch) -> io
     Ok(opened)
 }
 
+// The last row ends.
+fn end_row<W: ByteSink>(out: &mut W) -> io::Result<()>
+    ensures { WritesText W.fails_with (W.contents out.old) (W.contents out.new) result row_ended }
+{
+    put(out, b"</svg>\n")
+}
+
 /// The rows up to the end of a log of so many seconds, and what stands below them.
 pub fn end<W: ByteSink>(out: &mut W, rows: u64, seconds: u64, t: Totals) -> io::Result<()>
     requires { t.count ≤ 8 }
@@ -67,7 +75,27 @@ pub fn end<W: ByteSink>(out: &mut W, rows: u64, seconds: u64, t: Totals) -> io::
         (page_ended rows seconds t.count t.starts t.burnt t.lasts) }
 {
     days::open_to(out, t.count as u64, rows, days_until(seconds))?;
-    put(out, b"</svg>\n")?;
+    end_row(out)?;
     frame::put_table(out, t)?;
+    put(out, b"</body></html>\n")
+}
+
+/// The same for a log of the second kind: and until when it goes, and what is said of a line that does not belong.
+pub fn end_until<W: ByteSink>(
+    out: &mut W,
+    rows: u64,
+    seconds: u64,
+    t: Totals,
+    until: Until<'_>,
+) -> io::Result<()>
+    requires { t.count ≤ 8 }
+    ensures { WritesText W.fails_with (W.contents out.old) (W.contents out.new) result
+        (page_ended_until rows seconds t.count t.starts t.burnt t.lasts until.entry.lines (stray_said until.entry.stray)) }
+{
+    days::open_to(out, t.count as u64, rows, days_until(seconds))?;
+    end_row(out)?;
+    frame::put_table(out, t)?;
+    frame::put_until(out, seconds, until.lines)?;
+    frame::put_stray(out, until.stray)?;
     put(out, b"</body></html>\n")
 }

@@ -4,8 +4,9 @@ pub mod LengthsAdd
 pub mod Told
 pub mod ToldSpelt
 pub mod Joined
-pub mod EventsSeen
-pub mod EventTells
-pub mod LogTells
+pub mod CallsSeen
+pub mod StepTells
+pub mod StepsOfCalls
+pub mod CallsTell
 pub mod BurntAdds
 pub mod WholeLogTold

@@ -1,8 +1,7 @@
--- What is told of a lamp, by what comes: the end of the log, or an event and the rest.
+-- What is told of a lamp, by what comes: the end of the log, or a step and the rest.
 -- Assumes nothing.
 use Rattle.std.proofs.Common.{arith, ℕ, ◌≡◌, refl, ap, ◌∙◌, Bool, ◌&&◌, List, [], ◌∷◌, ◌++◌}
-use Rattle.watch.specs.Marking.{FloorEvent}
-use Rattle.watch.specs.Watching.{Watching, is_burning_in, is_long, dark_with, watched_on}
+use Rattle.watch.specs.Watching.{Step, Watching, is_burning_in, is_long, dark_with, watched_on}
 use Rattle.watch.specs.Telling.{Telling, telling_if}
 use Rattle.watch.proofs.TellingsSpelt.{tellings_none, tellings_more}
 use Rattle.stretches.specs.Stretches.{stretch_if}
@@ -23,7 +22,7 @@ module _ (k : ℕ) where
       → told_of k s [] ≡ stretch_if (is_burning_in s.device && is_marked_in s.device k && is_long s) s.from s.time
   told_none s = ap (stretches_in k) (tellings_none s) ∙ stretches_in-telling_if s (is_burning_in s.device) (is_long s)
 
-  pub told_more : (s : Watching) (e : FloorEvent) (es : List FloorEvent) → let t = watched_on s e in
+  pub told_more : (s : Watching) (e : Step) (es : List Step) → let t = watched_on s e in
       told_of k s (e ∷ es)
       ≡ stretch_if (dark_with s t.device && is_marked_in t.device k && is_long t) t.from t.time ++ told_of k t es
   told_more s e es = grind (arith, tellings_more, stretches_in-append, stretches_in-telling_if)

@@ -5,15 +5,21 @@
 ghost use Rattle.std.specs.Prelude.{Bool, List, ℕ};
 ghost use Rattle.record.specs.Wanted.{Wanted};
 ghost use Rattle.demands.specs.History.{Event};
-ghost use Rattle.stretches.specs.LogTold.{LogsWatched};
+ghost use Rattle.stretches.specs.LogTold.{LogsWatched, RecordedWatched};
 ghost use Rattle.stretches.specs.Stretches.{StretchesTell, seconds_lit, stretches_of};
 
 // Nothing is done: that these functions have their contracts is that every log is watched so, and every history told.
 
-/// What is told of a log, from any set-up or load that is accepted, is what demand 3's history of it says (RULES, Floor
-/// log).
+/// What is told of a log of the first kind, from any set-up or load that is accepted, is what demand 3's history of it
+/// says (RULES, Floor log).
 pub fn watched_logs_tell_stretches()
     ensures { LogsWatched }
+{}
+
+/// What is told of a log of the second kind that records any calls, at whatever places, from any set-up or load that is
+/// accepted, is what demand 3's history of these calls says (RULES, History of a board).
+pub fn recorded_logs_tell_stretches()
+    ensures { RecordedWatched }
 {}
 
 /// Over any history, that of no log too, and any marks that it begins with: the stretches of the lamp at place k are

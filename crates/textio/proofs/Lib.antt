@@ -1,6 +1,7 @@
+pub mod LinesEnded
+pub mod LinesSpelt
 pub mod Parts
 pub mod Known
-pub mod LinesSpelt
 pub mod LinesCounted
 pub mod Fronts
 pub mod Each

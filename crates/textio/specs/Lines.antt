@@ -1,20 +1,47 @@
 -- The lines of a log (RULES, Floor log: "A line ends with LF, the last perhaps without").
---   lines_from g log    the lines of a log of which the first has begun with g: each ends with LF, the last perhaps
---                       without
---   lines_of log        the lines of a log
+--   lines_ended g log   the lines that an LF ends, in a log of which the first has begun with g
+--   cut_end g log       what stands behind the last LF of it
+--   LogLine             a line without its LF, and whether an LF ended it
+--   end_of l            the LF that did, or nothing
+--   lines_in log        the lines of a log: those that an LF ends, and what stands behind the last LF, if anything does
+--   texts_of ls         lines without their LF;    lines_of log    those of a log
 --   count_most          so many lines, or bytes of one line, are more than are counted
 --   HasEndlessLine log  a log has a line of as many bytes
 --   IsTooLong log       a log has as many lines, or a line of as many bytes
 -- Assumes nothing.
-use Rattle.std.specs.Prelude.{ℕ, ◌≤◌, ◌⊎◌, List, [], ◌∷◌, ◌++◌, Any, length, if◌then◌else◌, ◌==◌}
+use Rattle.std.specs.Prelude.{ℕ, ◌≤◌, ◌⊎◌, Bool, true, false, List, [], ◌∷◌, ◌++◌, Any, length, map, if◌then◌else◌, ◌==◌}
+use Rattle.std.specs.Prelude.{codes}
 use Rattle.text.specs.Words.{◌is◌}
 
-unfoldable pub lines_from : List ℕ → List ℕ → List (List ℕ)
-lines_from g [] = if length g == 0 then [] else g ∷ []
-lines_from g (b ∷ bs) = if b is "\n" then g ∷ lines_from [] bs else lines_from (g ++ (b ∷ [])) bs
+unfoldable pub lines_ended : List ℕ → List ℕ → List (List ℕ)
+lines_ended g [] = []
+lines_ended g (b ∷ bs) = if b is "\n" then g ∷ lines_ended [] bs else lines_ended (g ++ (b ∷ [])) bs
+
+unfoldable pub cut_end : List ℕ → List ℕ → List ℕ
+cut_end g [] = g
+cut_end g (b ∷ bs) = if b is "\n" then cut_end [] bs else cut_end (g ++ (b ∷ [])) bs
+
+pub record LogLine : Type 0 where
+  pub text : List ℕ
+  pub ended : Bool
+
+abbrev pub end_of : LogLine → List ℕ
+end_of l = if l.ended then codes "\n" else []
+
+abbrev pub ended_line : List ℕ → LogLine
+ended_line l = record { text = l; ended = true }
+
+abbrev pub last_line : List ℕ → List LogLine
+last_line l = if length l == 0 then [] else record { text = l; ended = false } ∷ []
+
+unfoldable pub lines_in : List ℕ → List LogLine
+lines_in log = map ended_line (lines_ended [] log) ++ last_line (cut_end [] log)
+
+abbrev pub texts_of : List LogLine → List (List ℕ)
+texts_of ls = map (λ (l : LogLine). l.text) ls
 
 abbrev pub lines_of : List ℕ → List (List ℕ)
-lines_of log = lines_from [] log
+lines_of log = texts_of (lines_in log)
 
 abbrev pub count_most : ℕ
 count_most = 18446744073709551615

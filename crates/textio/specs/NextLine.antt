@@ -3,16 +3,20 @@
 --                       after them: at least `least`; what is then kept has as many bytes as there is memory
 --   ShowsPart ..        what is taken of a line at once, by how far it came
 --   ReadsPart old new   of the line that has begun a part was read, and no LF
---   IsNextLine ..       whether there is another line in a log, and what is kept of it
+--   line_in memory l    what the memory has of a line that was read
+--   IsLine ..           the first line of a log, of which so much is kept, and what is left of the log after it: its LF,
+--                       if it has one, stands between them, and behind a line without LF nothing is left
+--   IsNextLine ..       whether there is another line in a log, what is kept of it, and whether an LF ended it
 --   FailureComesOf ..   why a log is not read to its end: an error that its source gives, or the sink of what is
 --                       printed for it, or that it is so long
 --   OnFailedRead P f    P holds where the failure f is an error of the source
 -- Assumes nothing.
-use Rattle.std.specs.Prelude.{⊤, ℕ, ◌≤◌, List, [], ◌∷◌, ◌++◌, ◌≡◌, ◌≢◌, length, take, None, Some, IfSome, All}
+use Rattle.std.specs.Prelude.{⊤, ℕ, ◌≤◌, false, List, [], ◌∷◌, ◌++◌, ◌≡◌, ◌≢◌, length, take, None, Some, IfSome, All}
 use Rattle.std.specs.declared.option.Option.{Option}
 use Rattle.std.specs.declared.io.Error.{Error}
 use Rattle.std.specs.Io.KnownBytes.{Consumes, IsAtEnd, Keeps}
-use Rattle.textio.specs.Lines.{lines_of}
+use Rattle.textio.specs.Lines.{LogLine, end_of, lines_in}
+use Rattle.textio.specs.declared.lines.Line.{Line}
 use Rattle.textio.specs.declared.lines.Shown.{Shown}
 use Rattle.textio.specs.declared.lines.Shown.TheVariants.{Part, Whole, End}
 use Rattle.textio.specs.declared.lines.Failure.{Failure}
@@ -32,11 +36,13 @@ ShowsPart old new before at after (Part place) = TakesPart old new 1 (take at be
 ShowsPart old new before at after (Whole place) = TakesPart old new 0 (take at before) after place (10 ∷ [])
 ShowsPart old new before at after End = IsAtEnd old × Keeps old new × (after ≡ before)
 
-pub record IsLine (log : List ℕ) (new : Option (List ℕ)) (most : ℕ) (line : List ℕ) : Type 0 where
-  pub first : List ℕ
+pub record IsLine (log : List ℕ) (new : Option (List ℕ)) (most : ℕ) (line : LogLine) : Type 0 where
+  pub first : LogLine
   pub later : List ℕ
-  pub lines : lines_of log ≡ first ∷ lines_of later
-  pub kept : line ≡ take most first
+  pub lines : lines_in log ≡ first ∷ lines_in later
+  pub bytes : log ≡ first.text ++ (end_of first ++ later)
+  pub last : first.ended ≡ false → later ≡ []
+  pub kept : line ≡ record { text = take most first.text; ended = first.ended }
   pub left : new ≡ Some later
 
 pub record ReadsPart (old new : Option (List ℕ)) : Type 0 where
@@ -44,8 +50,11 @@ pub record ReadsPart (old new : Option (List ℕ)) : Type 0 where
   pub one_line : All (λ b. b ≢ 10) part
   pub taken : Consumes old new part
 
-abbrev pub IsNextLine : List ℕ → Option (List ℕ) → List ℕ → Option ℕ → Type 0
-IsNextLine log new memory (Some held) = IsLine log new (length memory) (take held memory)
+abbrev pub line_in : List ℕ → Line → LogLine
+line_in memory l = record { text = take l.held memory; ended = l.ended }
+
+abbrev pub IsNextLine : List ℕ → Option (List ℕ) → List ℕ → Option Line → Type 0
+IsNextLine log new memory (Some line) = IsLine log new (length memory) (line_in memory line)
 IsNextLine log new memory None = log ≡ []
 
 abbrev pub FailureComesOf : (Error → Type 0) → (Error → Type 0) → (List ℕ → Type 0) → Option (List ℕ) → Failure → Type 0

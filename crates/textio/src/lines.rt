@@ -11,6 +11,15 @@ use crate::writer::ByteSink;
 use std::io;
 use std::io::Error;
 
+/// A line that was read.
+#[derive(Clone, Copy)]
+pub struct Line {
+    /// So many of its bytes, without its LF, stand at the start of the memory.
+    pub held: usize,
+    /// Whether an LF ended it. The last line of a log may have none.
+    pub ended: bool,
+}
+
 /// Why a log is not read to its end.
 #[derive(Debug, Drop)]
 pub enum Failure {
@@ -67,18 +76,18 @@ pub fn flush_before_read<R: ByteSource, W: ByteSink>(from: &Reader<R>, to: &mut 
     Ok(())
 }
 
-/// The next line without its LF, from the start of the lent memory: its length, if there is one. Of a line that is
-/// longer than that memory only so much is kept. A read may wait, so what waits at the sink of what is printed is
+/// The next line without its LF, from the start of the lent memory: its length, if there is one, and whether an LF
+/// ended it. Of a line that is longer than that memory only so much is kept. A read may wait, so what waits at the sink of what is printed is
 /// handed on before each.
 pub fn next_line<R: ByteSource, W: ByteSink>(
     from: &mut Reader<R>,
     to: &mut W,
     line: &mut [u8],
-) -> Result<Option<usize>, Failure>
+) -> Result<Option<Line>, Failure>
     requires { 0 < length line.old }
-    ensures next { IfOk result (λ held. IfSome (left_in R.remaining from.old) (λ log.
-        IsNextLine log (left_in R.remaining from.new) line.new held)) }
-    ensures bound { IfOk result (λ held. IfSome held (λ n. n ≤ length line.new)) }
+    ensures next { IfOk result (λ next. IfSome (left_in R.remaining from.old) (λ log.
+        IsNextLine log (left_in R.remaining from.new) line.new next)) }
+    ensures bound { IfOk result (λ next. IfSome next (λ l. l.held ≤ length line.new)) }
     ensures keeps { Keeps (W.contents to.old) (W.contents to.new) }
     ensures err { IfErr result
         (FailureComesOf R.fails_with W.fails_with HasEndlessLine (left_in R.remaining from.old)) }
@@ -91,9 +100,14 @@ pub fn next_line<R: ByteSource, W: ByteSink>(
         flush_before_read(from, to).map_err(Failure::Write)?;
         match take_shown(from, line, held) {
             Ok(Shown::Part(place)) => held = place,
-            Ok(Shown::Whole(place)) => return Ok(Some(place)),
+            Ok(Shown::Whole(place)) => {
+                return Ok(Some(Line {
+                    held: place,
+                    ended: true,
+                }));
+            }
             Ok(Shown::End) if held == 0 => return Ok(None),
-            Ok(Shown::End) => return Ok(Some(held)),
+            Ok(Shown::End) => return Ok(Some(Line { held, ended: false })),
             Err(e) => return Err(Failure::Read(e)),
         }
     }

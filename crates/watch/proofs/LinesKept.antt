@@ -3,7 +3,7 @@
 use Rattle.std.proofs.Common.{take_all, ℕ, ◌<◌, ◌≤◌, ◌≡◌, sym, ap, ◌∙◌, List, map, ⊎_elim, arith, length, take}
 use Rattle.std.proofs.Common.{length-take-le, ne_eqb, None}
 use Rattle.text.proofs.Orders.{le_or_lt}
-use Rattle.textio.specs.Lines.{lines_of}
+use Rattle.textio.specs.Lines.{texts_of, lines_in}
 use Rattle.floorlog.specs.Kept.{kept_most, kept_lines}
 use Rattle.floorlog.proofs.KeptText.{event_of_front, map_kept}
 use Rattle.watch.specs.Marking.{mark_said, event_by, floor_event}
@@ -26,5 +26,5 @@ unfolding floor_event
 floor_event_of_front l = (λ i. event_by (mark_of_front l i) (event_of_front l i))
 
 -- so what is kept of each line has the events of the log
-pub floor_events_kept : (log : List ℕ) → map floor_event (kept_lines log) ≡ floor_events log
-floor_events_kept log = map_kept floor_event floor_event_of_front (lines_of log)
+pub floor_events_kept : (log : List ℕ) → map floor_event (texts_of (kept_lines log)) ≡ floor_events log
+floor_events_kept log = map_kept floor_event floor_event_of_front (lines_in log)

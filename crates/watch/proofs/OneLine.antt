@@ -1,14 +1,13 @@
--- One line of a log that is watched, by what the functions that play it give.
+-- One step of a log that is watched, by what the functions that make it give.
 -- Assumes nothing.
 use Rattle.std.proofs.Common.{ℕ, ◌+◌, ◌-◌, ◌≡◌, Bool, true, not, ◌&&◌, List, arith, nat_lt, if◌then◌else◌}
 use Rattle.record.specs.declared.types.Device.{Device}
-use Rattle.watch.specs.Marking.{FloorEvent, done_by, seconds_by}
-use Rattle.watch.specs.Watching.{Watching, is_burning_in, gained_by, watched_on, is_sound}
+use Rattle.watch.specs.Watching.{Step, Watching, is_burning_in, gained_by, watched_on, is_sound}
 use Rattle.watch.specs.States.{IsWatched}
 use Rattle.watch.proofs.Sound.{sound_after}
 
-module _ (e : FloorEvent) (s : Watching) {d : Device} (done : d ≡ done_by s.device e) where
-  module _ {t n : ℕ} (seconds : n ≡ seconds_by e) (timed : t ≡ s.time + n) {was : Bool}
+module _ (e : Step) (s : Watching) {d : Device} (done : d ≡ e.device) where
+  module _ {t n : ℕ} (seconds : n ≡ e.seconds) (timed : t ≡ s.time + n) {was : Bool}
       (before : was ≡ is_burning_in s.device) {from : ℕ}
       (begun : from ≡ (if not was && is_burning_in d then t else s.from)) {burnt : List ℕ}
       (gained : burnt ≡ (if was && not (is_burning_in d) then gained_by d (t - s.from) s.burnt else s.burnt)) where

@@ -1,4 +1,4 @@
--- A sound state: what the lamps burnt has room for what they burn; and an event leaves a sound one.
+-- A sound state: what the lamps burnt has room for what they burn; and a step leaves a sound one.
 -- Assumes nothing.
 use Rattle.std.specs.List.{list_all}
 use Rattle.std.proofs.Common.{ℕ, zero, suc, ◌+◌, ◌-◌, ◌^◌, ◌≤◌, ◌<◌, ◌≡◌, refl, sym, subst, Bool, true, false, not}
@@ -8,8 +8,8 @@ use Rattle.text.proofs.Scanning.{list_all_by_place}
 use Rattle.record.specs.declared.types.Device.{Device}
 use Rattle.clock.specs.Second.{changed_where, marks_in}
 use Rattle.clock.proofs.ChangedWhere.{length-changed_where, where_at}
-use Rattle.watch.specs.Marking.{FloorEvent, done_by, seconds_by}
-use Rattle.watch.specs.Watching.{Watching, watching_from, is_burning_in, gained_by, watched_on, sound_top, is_sound}
+use Rattle.watch.specs.Watching.{Step, Watching, watching_from, is_burning_in, gained_by, watched_on, sound_top}
+use Rattle.watch.specs.Watching.{is_sound}
 
 pub at_most : (top : ℕ) (l : List ℕ) → list_all (λ (b : ℕ). nat_le b top) l ≡ true → (k : ℕ) →
     slice_index_or l k 0 ≤ top
@@ -50,15 +50,15 @@ module _ (s : Watching) (sound : is_sound s ≡ true) where
       let was = at_most (sound_top s) s.burnt sound_burnt k in
       omega arith
 
-  pub sound_after : (e : FloorEvent) → is_sound (watched_on s e) ≡ true
+  pub sound_after : (e : Step) → is_sound (watched_on s e) ≡ true
   unfolding is_sound
   sound_after e = by (is_burning_in s.device) refl (is_burning_in d) refl
     where
       d : Device
-      d = done_by s.device e
+      d = e.device
 
       t : ℕ
-      t = s.time + seconds_by e
+      t = s.time + e.seconds
 
       begun : s.from ≤ s.time
       begun = sound_from

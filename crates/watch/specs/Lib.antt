@@ -1,4 +1,5 @@
-pub mod Marking
 pub mod Watching
+pub mod Marking
+pub mod CallSteps
 pub mod Telling
 pub mod States

@@ -8,8 +8,9 @@
 --   watched_said e    the same of an event as the code has it
 --   done_by d e       the device after it
 --   seconds_by e      the seconds that it lets pass
+--   floor_step d e    these two, as a step of the log;    floor_steps d es   the steps of the events es, from d on
 -- Assumes nothing.
-use Rattle.std.specs.Prelude.{ℕ, ◌-◌, Bool, ◌&&◌, List, length, if◌then◌else◌, ◌==◌, Option, Some, None}
+use Rattle.std.specs.Prelude.{ℕ, ◌-◌, Bool, ◌&&◌, List, [], ◌∷◌, length, if◌then◌else◌, ◌==◌, Option, Some, None}
 use Prim.Native.Char.{code}
 use Rattle.text.specs.Words.{◌is◌, ◌from◌to◌}
 use Rattle.words.specs.Bytes.{◌at◌}
@@ -19,6 +20,7 @@ use Rattle.record.specs.declared.types.Device.{Device}
 use Rattle.floorlog.specs.Events.{LogEvent, event_said, event}
 use Rattle.floorlog.specs.Doing.{event_result}
 use Rattle.floorlog.specs.Told.{seconds_of}
+use Rattle.watch.specs.Watching.{Step}
 use Rattle.watch.specs.declared.marking.WatchedEvent.{WatchedEvent}
 use Rattle.watch.specs.declared.marking.WatchedEvent.TheVariants.{Logged, Marked}
 
@@ -52,3 +54,10 @@ done_by d (marked lamp mark) = (left_by d (mark_set d lamp mark))
 abbrev pub seconds_by : FloorEvent → ℕ
 seconds_by (logged e) = seconds_of e
 seconds_by (marked lamp mark) = 0
+
+abbrev pub floor_step : Device → FloorEvent → Step
+floor_step d e = record { device = done_by d e; seconds = seconds_by e }
+
+abbrev pub floor_steps : Device → List FloorEvent → List Step
+floor_steps d [] = []
+floor_steps d (e ∷ es) = floor_step d e ∷ floor_steps (done_by d e) es

@@ -1,15 +1,62 @@
--- The state of a `Watch`, and what a line does to it.
+-- The state of a `Watch`, and what a step of a log does to it.
 --   state_of w              the state
---   IsWatched s e after t   the event e leaves `after` of the state s; t says whether it ended stretches
+--   IsWatched s e after t   the step e leaves `after` of the state s; t says whether it ended stretches
+--   IsLeft s after          no step was made: all is as it was, but perhaps the places of the record
+--   IsMade s e after r      the step e was made so, or, where r has a reason why its line does not belong, none was
+--   misfit_made r           that reason, if there is one;    misfit_seen r   of what the code's function returns
+--   LineLeaves s r l ..     what the line l of a log of the second kind leaves of the state s and of where its reader
+--                           stands, r: it belongs and is made, or it does not, and why
 -- Assumes nothing.
-use Rattle.std.specs.Prelude.{◌≡◌, Bool, ◌&&◌}
+use Rattle.std.specs.Prelude.{◌≡◌, ℕ, Bool, ◌&&◌, Result, Ok, Err, Option, Some, None}
+use Rattle.textio.specs.Lines.{LogLine}
+use Rattle.history.specs.Entries.{LogEntry}
+use Rattle.history.specs.declared.recorder.Recorder.{Recorder}
+use Rattle.recorded.specs.Chain.{Misfit, why_seen, log_made}
+use Rattle.recorded.specs.Following.{line_told}
+use Rattle.watch.specs.CallSteps.{entry_step}
+use Rattle.recorded.specs.declared.chain.Why.{Why}
 use Rattle.watch.specs.declared.Watch.{Watch}
-use Rattle.watch.specs.Marking.{FloorEvent}
-use Rattle.watch.specs.Watching.{Watching, watched_on, dark_with, is_long}
+use Rattle.watch.specs.Watching.{Step, Watching, watched_on, dark_with, is_long}
 
 abbrev pub state_of : Watch → Watching
 state_of w = record { device = w.tested.device; time = w.time; from = w.from; burnt = w.burnt }
 
-pub record IsWatched (s : Watching) (e : FloorEvent) (after : Watching) (ended : Bool) : Type 0 where
+pub record IsWatched (s : Watching) (e : Step) (after : Watching) (ended : Bool) : Type 0 where
   pub state : after ≡ watched_on s e
   pub told : ended ≡ (dark_with s after.device && is_long after)
+
+pub record IsLeft (s after : Watching) : Type 0 where
+  pub settings : after.device.settings ≡ s.device.settings
+  pub own : after.device.own ≡ s.device.own
+  pub time : after.time ≡ s.time
+  pub from : after.from ≡ s.from
+  pub burnt : after.burnt ≡ s.burnt
+
+abbrev pub IsMade : Watching → Step → Watching → Result Bool Why → Type 0
+IsMade s e after (Ok ended) = IsWatched s e after ended
+IsMade s e after (Err why) = IsLeft s after
+
+abbrev pub misfit_made : Result ℕ Misfit → Option Misfit
+misfit_made (Ok n) = None
+misfit_made (Err why) = Some why
+
+abbrev pub misfit_seen : Result Bool Why → Option Misfit
+misfit_seen (Ok ended) = None
+misfit_seen (Err why) = Some (why_seen why)
+
+-- a line belongs, and what it says was made
+pub record IsLineMade (s : Watching) (r : Recorder) (l : LogLine) (after : Watching) (later : Recorder) (ended : Bool)
+    : Type 0 where
+  pub entry : LogEntry
+  pub said : line_told r s.device l ≡ Ok entry
+  pub watched : IsWatched s (entry_step s.device entry) after ended
+  pub log : later ≡ log_made r s.device entry l.text
+
+-- it does not
+pub record IsLineStray (s : Watching) (r : Recorder) (l : LogLine) (after : Watching) (why : Misfit) : Type 0 where
+  pub told : line_told r s.device l ≡ Err why
+  pub left : IsLeft s after
+
+abbrev pub LineLeaves : Watching → Recorder → LogLine → Watching → Recorder → Result Bool Why → Type 0
+LineLeaves s r l after later (Ok ended) = IsLineMade s r l after later ended
+LineLeaves s r l after later (Err why) = IsLineStray s r l after (why_seen why)

@@ -1,13 +1,14 @@
--- A log watched for its lamps: what is kept between two lines, and what a line does. All lamps whose marks are set burn
--- at once, from warm-up on and until power is switched off, and marks change only while power is off (RULES, Lamps); so
--- one second is kept for all of them.
+-- A log watched for its lamps: what is kept between two of its steps, and what a step does. All lamps whose marks are
+-- set burn at once, from warm-up on and until power is switched off, and marks change only while power is off (RULES,
+-- Lamps); so one second is kept for all of them, and of a step no more is watched than what it leaves.
+--   Step                  a step of a log: the device after it, and the seconds that it let pass
 --   Watching              the device; the seconds gone since the log began; the second at which the lamps began to burn
 --                         last; the seconds that each lamp burnt in stretches that have ended
 --   watching_from d       before a log that begins with the device d
 --   is_burning_in d       the lamps burn, those whose marks are set
 --   gained_by d n burnt   these burnt n seconds more
---   watched_on s e        the state after the event e
---   dark_with s d         with an event that leaves d the lamps burn no longer: it ends stretches, those of the lamps
+--   watched_on s e        the state after the step e
+--   dark_with s d         with a step that leaves d the lamps burn no longer: it ends stretches, those of the lamps
 --                         whose marks are set, from `from` to `time` of the state after it
 --   is_long s             these are not empty
 --   burnt_by s            the seconds that each lamp burnt, should the log end here
@@ -18,7 +19,10 @@ use Rattle.std.specs.Prelude.{ℕ, ◌+◌, ◌-◌, Bool, not, ◌&&◌, List, 
 use Rattle.record.specs.Limits.{is_lit, lamps_most}
 use Rattle.record.specs.declared.types.Device.{Device}
 use Rattle.clock.specs.Second.{changed_where, marks_in}
-use Rattle.watch.specs.Marking.{FloorEvent, done_by, seconds_by}
+
+pub record Step : Type 0 where
+  pub device : Device
+  pub seconds : ℕ
 
 pub record Watching : Type 0 where
   pub device : Device
@@ -35,7 +39,7 @@ is_burning_in d = is_lit d.own.power
 abbrev pub gained_by : Device → ℕ → List ℕ → List ℕ
 gained_by d n burnt = changed_where (λ (b : ℕ). b + n) (marks_in d.settings d.own) burnt
 
--- what an event leaves that let n seconds pass and left the device d
+-- what a step leaves that let n seconds pass and left the device d
 abbrev pub watched_by : Watching → Device → ℕ → Watching
 watched_by s d n =
     let t = s.time + n in
@@ -46,8 +50,8 @@ watched_by s d n =
       burnt = if is_burning_in s.device && not (is_burning_in d) then gained_by d (t - s.from) s.burnt else s.burnt;
     }
 
-abbrev pub watched_on : Watching → FloorEvent → Watching
-watched_on s e = watched_by s (done_by s.device e) (seconds_by e)
+abbrev pub watched_on : Watching → Step → Watching
+watched_on s e = watched_by s e.device e.seconds
 
 abbrev pub dark_with : Watching → Device → Bool
 dark_with s d = is_burning_in s.device && not (is_burning_in d)

@@ -1,16 +1,25 @@
-//! A log of the floor watched for its lamps: which burnt when (RULES, Floor log). Its lines are those that `floorlog`
-//! plays, and `M`, which sets or clears a lamp's mark.
+//! A log watched for its lamps: which burnt when (RULES, Floor log, History of a board). The lines of one of the first
+//! kind are those that `floorlog` plays, and `M`, which sets or clears a lamp's mark; those of one of the second kind
+//! are `recorded`'s.
 #![tactic(auto)]
 
 mod marking;
 
 ghost use Rattle.std.specs.Prelude.{◌≡◌, true, not, ◌&&◌, nat_lt, if◌then◌else◌};
 ghost use Rattle.std.specs.Prelude.{ℕ, ◌+◌, ◌-◌, ◌^◌, ◌<◌, ◌≤◌, slice_index_or};
+ghost use Rattle.history.specs.Entries.{entry_seen};
+ghost use Rattle.watch.specs.CallSteps.{seconds_of_entry};
 ghost use Rattle.watch.specs.Watching.{is_burning_in, gained_by, is_sound};
 
+use device::on_legal::REPLY_ROOM;
 use floorlog::kept::KeptLine;
+use history::call::Call;
+use history::entry::Entry;
+use history::read::Bytes;
+use history::recorder::Recorder;
 use record::legality::Tested;
 use record::types::{Device, LAMPS_MOST};
+use recorded::chain::{self, Why};
 
 /// A log as it is watched: its record, tested where the log began; the seconds gone since the log began; the second at
 /// which the lamps began to burn last; and the seconds that each lamp burnt in stretches that have ended.
@@ -72,13 +81,25 @@ fn follow(
     }
 }
 
+// The seconds that what a line says lets pass.
+fn seconds_of(entry: &Entry<'_>) -> u32
+    ensures { result ≡ seconds_of_entry (entry_seen entry.now) }
+{
+    match entry {
+        Entry::Call(Call::Passes(seconds)) => *seconds,
+        _ => 0,
+    }
+}
+
 impl Watch {
-    ghost use Rattle.std.specs.Prelude.{IfSome, None};
-    ghost use Rattle.floorlog.specs.KeptText.{kept_text};
+    ghost use Rattle.std.specs.Prelude.{IfSome, None, Ok};
+    ghost use Rattle.recorded.specs.Chain.{entry_told, made_told, log_made};
+    ghost use Rattle.watch.specs.CallSteps.{entry_step, said_seconds};
+    ghost use Rattle.floorlog.specs.KeptText.{kept_text, kept_line};
     ghost use Rattle.floorlog.specs.Told.{Drives};
-    ghost use Rattle.watch.specs.Marking.{floor_event, seconds_by};
+    ghost use Rattle.watch.specs.Marking.{floor_event, floor_step, seconds_by};
     ghost use Rattle.watch.specs.Watching.{watching_from, is_burning_in, is_long, burnt_by};
-    ghost use Rattle.watch.specs.States.{state_of, IsWatched};
+    ghost use Rattle.watch.specs.States.{state_of, IsWatched, IsMade, misfit_made, misfit_seen, LineLeaves};
 
     /// Before a log that begins with a device, which need not be legal.
     pub fn new(device: Device) -> Watch
@@ -92,11 +113,11 @@ impl Watch {
         }
     }
 
-    /// A line of the log. It tells whether the line ended stretches: those of the lamps whose marks are set, from
+    /// A line of a log of the first kind. It tells whether the line ended stretches: those of the lamps whose marks are set, from
     /// `from` to `time`. None where 64 bits cannot count the seconds that are then gone: nothing is done.
     pub fn play(&mut self, line: &KeptLine) -> Option<bool>
-        ensures watched { IfSome result
-            (IsWatched (state_of self.old) (floor_event (kept_text line.now)) (state_of self.new)) }
+        ensures watched { IfSome result (IsWatched (state_of self.old)
+            (floor_step self.old.tested.device (floor_event (kept_text line.now))) (state_of self.new)) }
         ensures kept { result ≡ None → state_of self.new ≡ state_of self.old }
         ensures uncounted { result ≡ None → 2 ^ 64 ≤ self.old.time + seconds_by (floor_event (kept_text line.now)) }
         ensures places { IfSome result (λ _. Drives (seconds_by (floor_event (kept_text line.now)))
@@ -115,6 +136,69 @@ impl Watch {
             &self.tested.device,
             time,
         ))
+    }
+
+    /// A line of a log of the second kind, without its LF, and what it says, as [`chain::entry`] gave it there. It is
+    /// made again, counted and added to the sum. Returns whether it ended stretches, as [`Watch::play`] does. None
+    /// where 64 bits cannot count the seconds that are then gone: nothing is done. Errors: those of [`chain::make`]:
+    /// the line does not belong, and no more than the places of the record is changed.
+    pub fn make(
+        &mut self,
+        log: &mut Recorder,
+        entry: &Entry<'_>,
+        line: &[u8],
+    ) -> Option<Result<bool, Why>>
+        requires stands { entry_told log.old self.old.tested.device line.now ≡ Ok (entry_seen entry.now) }
+        ensures made { IfSome result (IsMade (state_of self.old)
+            (entry_step self.old.tested.device (entry_seen entry.now)) (state_of self.new)) }
+        ensures told { IfSome result (λ r. misfit_seen r
+            ≡ misfit_made (made_told self.old.tested.device (entry_seen entry.now))) }
+        ensures log { IfSome result (λ _. log.new
+            ≡ log_made log.old self.old.tested.device (entry_seen entry.now) line.now) }
+        ensures kept { result ≡ None → (state_of self.new ≡ state_of self.old) × (log.new ≡ log.old) }
+        ensures uncounted { result ≡ None → 2 ^ 64 ≤ self.old.time + seconds_of_entry (entry_seen entry.now) }
+    {
+        let seconds = seconds_of(entry);
+        let time = self.time.checked_add(seconds as u64)?;
+        let was = is_burning_in(&self.tested.device);
+        let mut reply = [0; REPLY_ROOM];
+        if let Err(why) = chain::make(log, &mut self.tested, entry, line, &mut reply) {
+            return Some(Err(why));
+        }
+        self.time = time;
+        Some(Ok(follow(
+            &mut self.from,
+            &mut self.burnt,
+            was,
+            &self.tested.device,
+            time,
+        )))
+    }
+
+    /// The next line of a log of the second kind, where its reader stands; the bytes that it says were received lie in
+    /// the room. It is read by [`chain::entry`] and made again by [`Watch::make`]. Returns whether it ended stretches.
+    /// None where 64 bits cannot count the seconds that are then gone: nothing is done. Errors: why the line does not
+    /// belong: `Unended`, for one that no LF ended, then those of [`chain::entry`], then those of [`chain::make`]; no
+    /// more than the places of the record is changed.
+    pub fn make_line(
+        &mut self,
+        log: &mut Recorder,
+        room: &mut Bytes,
+        line: &KeptLine,
+    ) -> Option<Result<bool, Why>>
+        ensures made { IfSome result (LineLeaves (state_of self.old) log.old (kept_line line.now)
+            (state_of self.new) log.new) }
+        ensures kept { result ≡ None → (state_of self.new ≡ state_of self.old) × (log.new ≡ log.old) }
+        ensures uncounted { result ≡ None → 2 ^ 64 ≤ self.old.time + said_seconds (kept_text line.now) }
+    {
+        if !line.is_ended() {
+            return Some(Err(Why::Unended));
+        }
+        room.clear();
+        match chain::entry(log, &self.tested.device, line.text(), room) {
+            Ok(entry) => self.make(log, &entry, line.text()),
+            Err(why) => Some(Err(why)),
+        }
     }
 
     /// The record as the lines left it.

@@ -1,6 +1,5 @@
 -- from the first line on, what is printed and left is what the log prints and leaves
 use Rattle.std.proofs.Common.{arith}
-use Rattle.std.proofs.lemmas.Grind.{common_steps}
 use Rattle.std.proofs.lemmas.Option.{IfSome_then}
 use Rattle.textio.specs.Ahead.{left_in}
 use Rattle.textio.specs.Lines.{count_most, IsTooLong}
@@ -21,7 +20,11 @@ pub returns-in_err-follow-clause-front : goal.returns-in_err-follow-clause-front
 returns-in_err-follow-clause-front g c = grind (arith, all_printed)
 
 pub returns-in_err-follow-clause-err : goal.returns-in_err-follow-clause-err
-returns-in_err-follow-clause-err g c = grind (arith, common_steps, same_error, comes_of, too_long)
+returns-in_err-follow-clause-err g c =
+    same_error _ c.from_residual.result _
+    (comes_of g.R.ByteSource.fails_with g.W.ByteSink.fails_with _ (left_in g.R.ByteSource.remaining c.args.from.now) _
+    (too_long c.new-player.ensures.played c.new-player.ensures.device) c.in_err-follow.ensures.err)
+    c.from_residual.ensures.1
 
 pub returns-in_err-follow-clause-short : goal.returns-in_err-follow-clause-short
 returns-in_err-follow-clause-short g c =

@@ -1,51 +1,78 @@
--- what stands before the first stretch, and then what is told of the log
-use Rattle.std.proofs.Common.{ap, refl, subst, arith, ◌^◌}
+-- what stands before the first stretch, and then what is told of the log, by the observer of its kind
+use Rattle.std.proofs.Common.{ap, refl, subst, arith, ◌^◌, List, ℕ}
 use Rattle.std.proofs.lemmas.Option.{IfSome_then}
-use Rattle.std.proofs.lemmas.Result.{on_ok_weaker, IfErr-weaker}
 use Rattle.std.specs.Io.KnownBytes.{Appends}
 use Rattle.textio.specs.Ahead.{left_in}
+use Rattle.textio.specs.Fronts.{WritesFront}
 use Rattle.textio.proofs.Failures.{comes_of, short_enough}
+use Rattle.floorlog.specs.Kept.{kept_lines}
 use Rattle.floorlog.proofs.Observing.{on_failed}
-use Rattle.report.specs.Reports.{begun_text}
-use Rattle.watch.specs.Watching.{Watching}
-use Rattle.burnt.specs.Told.{IsUntold}
-use Rattle.burnt.proofs.LinesTold.{log_whole, log_front, log_cut, told_so_far, untold, untold_bytes}
+use Rattle.report.specs.Reports.{report_new, begun_text}
+use Rattle.burnt.specs.LogTold.{told, IsTooMuch}
+use Rattle.burnt.proofs.LinesTold.{begun_whole, begun_front, begun_cut}
+use Rattle.burnt.proofs.ByKinds.{writes, begun_so, too_much_bytes, all_told, too_much, stray_left_so, told_so_far}
 use Rattle.burnt.proofs.telling.tell_log.Goals as goal
-
-pub returns-clause-whole : goal.returns-clause-whole
-returns-clause-whole g c =
-    on_ok_weaker c.follow.result
-    (log_whole c.args.drawn c.new-report.ensures c.new-watch.ensures
-    (left_in g.R.ByteSource.remaining c.args.from.now) _ _ _ (grind arith))
-    c.follow.ensures.whole
-
-pub returns-clause-front : goal.returns-clause-front
-returns-clause-front g c =
-    log_front c.args.drawn c.new-report.ensures c.new-watch.ensures (left_in g.R.ByteSource.remaining c.args.from.now)
-    _ _ _ (grind arith) c.follow.ensures.front
-
-pub returns-clause-err : goal.returns-clause-err
-returns-clause-err g c =
-    let a = left_in g.R.ByteSource.remaining c.args.from.now in
-    let first = ap (λ (s : Watching). s.time) c.new-watch.ensures in
-    IfErr-weaker c.follow.result _ _
-    (λ f h. comes_of g.R.ByteSource.fails_with g.W.ByteSink.fails_with _ a f (untold first) h) c.follow.ensures.err
-
-pub returns-clause-short : goal.returns-clause-short
-returns-clause-short g c =
-    short_enough g.R.ByteSource.fails_with g.W.ByteSink.fails_with IsUntold (2 ^ 32) untold_bytes
-    (left_in g.R.ByteSource.remaining c.args.from.now) c.follow.result (returns-clause-err g c)
 
 pub returns-in_err-map_err-clause-front : goal.returns-in_err-map_err-clause-front
 returns-in_err-map_err-clause-front g c =
-    log_cut c.args.drawn c.new-report.ensures c.new-watch.ensures (left_in g.R.ByteSource.remaining c.args.from.now) _ _
-    c.begin.ensures.front
+    let n = begun_so c.args.begun c.args.sum c.args.drawn c.new-report.ensures c.new.result c.new.ensures.watch
+    c.new.ensures.report c.new.ensures.starts c.new-2.result c.new-2.ensures.watch c.new-2.ensures.report
+    c.new-2.ensures.starts c.new-2.ensures.log c.new-2.ensures.lines c.new-2.ensures.stray c.new-teller.result
+    c.new-teller.ensures.observers c.new-teller.ensures.kind in
+    begun_cut (left_in g.R.ByteSource.remaining c.args.from.now) _ _ (begun_text (report_new c.args.drawn))
+    (λ log. writes c.new-teller.result (kept_lines log)) (told c.args.begun c.args.sum c.args.drawn) (all_told n)
+    (subst (WritesFront _ _) (ap begun_text c.new-report.ensures) c.begin.ensures.front)
 
-pub returns-clause-broken : goal.returns-clause-broken
-returns-clause-broken g c =
-    IfErr-weaker c.follow.result _ _
-    (λ f h. on_failed f (λ p. IfSome_then (left_in g.R.ByteSource.remaining c.args.from.now) p
+pub returns-in-Ok-clause-front : goal.returns-in-Ok-clause-front
+returns-in-Ok-clause-front g c =
+    let n = begun_so c.args.begun c.args.sum c.args.drawn c.new-report.ensures c.new.result c.new.ensures.watch
+    c.new.ensures.report c.new.ensures.starts c.new-2.result c.new-2.ensures.watch c.new-2.ensures.report
+    c.new-2.ensures.starts c.new-2.ensures.log c.new-2.ensures.lines c.new-2.ensures.stray c.new-teller.result
+    c.new-teller.ensures.observers c.new-teller.ensures.kind in
+    begun_front (left_in g.R.ByteSource.remaining c.args.from.now) _ _ _ (begun_text (report_new c.args.drawn))
+    (λ log. writes c.new-teller.result (kept_lines log)) (told c.args.begun c.args.sum c.args.drawn) (all_told n)
+    (subst (Appends _ _) (ap begun_text c.new-report.ensures) (grind arith)) c.follow.ensures.front
+
+pub returns-in-Err-clause-front : goal.returns-in-Err-clause-front
+returns-in-Err-clause-front g c =
+    let n = begun_so c.args.begun c.args.sum c.args.drawn c.new-report.ensures c.new.result c.new.ensures.watch
+    c.new.ensures.report c.new.ensures.starts c.new-2.result c.new-2.ensures.watch c.new-2.ensures.report
+    c.new-2.ensures.starts c.new-2.ensures.log c.new-2.ensures.lines c.new-2.ensures.stray c.new-teller.result
+    c.new-teller.ensures.observers c.new-teller.ensures.kind in
+    begun_front (left_in g.R.ByteSource.remaining c.args.from.now) _ _ _ (begun_text (report_new c.args.drawn))
+    (λ log. writes c.new-teller.result (kept_lines log)) (told c.args.begun c.args.sum c.args.drawn) (all_told n)
+    (subst (Appends _ _) (ap begun_text c.new-report.ensures) (grind arith)) c.follow.ensures.front
+
+pub returns-in-Ok-clause-whole : goal.returns-in-Ok-clause-whole
+returns-in-Ok-clause-whole g c =
+    let n = begun_so c.args.begun c.args.sum c.args.drawn c.new-report.ensures c.new.result c.new.ensures.watch
+    c.new.ensures.report c.new.ensures.starts c.new-2.result c.new-2.ensures.watch c.new-2.ensures.report
+    c.new-2.ensures.starts c.new-2.ensures.log c.new-2.ensures.lines c.new-2.ensures.stray c.new-teller.result
+    c.new-teller.ensures.observers c.new-teller.ensures.kind in
+    begun_whole (left_in g.R.ByteSource.remaining c.args.from.now) _ _ _ (begun_text (report_new c.args.drawn))
+    (λ log. writes c.new-teller.result (kept_lines log)) (told c.args.begun c.args.sum c.args.drawn) (all_told n)
+    (subst (Appends _ _) (ap begun_text c.new-report.ensures) (grind arith)) c.in-Ok.ensures.whole
+
+pub returns-in-Err-clause-broken : goal.returns-in-Err-clause-broken
+returns-in-Err-clause-broken g c =
+    let n = begun_so c.args.begun c.args.sum c.args.drawn c.new-report.ensures c.new.result c.new.ensures.watch
+    c.new.ensures.report c.new.ensures.starts c.new-2.result c.new-2.ensures.watch c.new-2.ensures.report
+    c.new-2.ensures.starts c.new-2.ensures.log c.new-2.ensures.lines c.new-2.ensures.stray c.new-teller.result
+    c.new-teller.ensures.observers c.new-teller.ensures.kind in
+    on_failed c.in-Err.failure (λ p. IfSome_then (left_in g.R.ByteSource.remaining c.args.from.now) p
     (λ log q. IfSome_then (left_in g.R.ByteSource.remaining c.follow.new.from) q
-    (λ left b. told_so_far refl c.new-report.ensures c.new-watch.ensures
-    (subst (Appends _ _) (ap begun_text c.new-report.ensures) (grind arith)) b))) h)
-    c.follow.ensures.broken
+    (λ left b. told_so_far n (subst (Appends _ _) (ap begun_text c.new-report.ensures) (grind arith)) b))) c.in-Err.ensures.broken
+
+pub returns-in-Err-clause-err : goal.returns-in-Err-clause-err
+returns-in-Err-clause-err g c =
+    let n = begun_so c.args.begun c.args.sum c.args.drawn c.new-report.ensures c.new.result c.new.ensures.watch
+    c.new.ensures.report c.new.ensures.starts c.new-2.result c.new-2.ensures.watch c.new-2.ensures.report
+    c.new-2.ensures.starts c.new-2.ensures.log c.new-2.ensures.lines c.new-2.ensures.stray c.new-teller.result
+    c.new-teller.ensures.observers c.new-teller.ensures.kind in
+    comes_of g.R.ByteSource.fails_with g.W.ByteSink.fails_with _ (left_in g.R.ByteSource.remaining c.args.from.now) c.in-Err.failure (too_much n)
+    c.in-Err.ensures.err
+
+pub returns-in-Err-clause-short : goal.returns-in-Err-clause-short
+returns-in-Err-clause-short g c =
+    short_enough g.R.ByteSource.fails_with g.W.ByteSink.fails_with IsTooMuch (2 ^ 32) too_much_bytes
+    (left_in g.R.ByteSource.remaining c.args.from.now) _ (returns-in-Err-clause-err g c)

@@ -4,7 +4,7 @@ use Rattle.std.proofs.lemmas.Option.{IfSome_then}
 use Rattle.std.proofs.lemmas.Result.{on_ok_weaker}
 use Rattle.textio.specs.Ahead.{left_in}
 use Rattle.textio.proofs.Fronts.{same_error}
-use Rattle.floorlog.specs.KeptText.{kept_text}
+use Rattle.floorlog.specs.KeptText.{kept_line}
 use Rattle.floorlog.proofs.Observing.{begun, flushed, so_far, observed, broken, breaks, on_failed, ended, left_so}
 use Rattle.floorlog.proofs.observer.follow.Goals as goal
 
@@ -15,7 +15,7 @@ pub loop-preserved : goal.loop-preserved
 loop-preserved g c =
     let next = c.in_ok-read.ensures.next c.if-not-branch.false in
     IfSome_then (left_in g.R.ByteSource.remaining c.args.from.now) c.loop.invariant
-    (λ log u. observed (flushed u c.read.ensures.keeps) _ (kept_text c.read.new.self) next c.in_ok-line.ensures.ok)
+    (λ log u. observed (flushed u c.read.ensures.keeps) _ (kept_line c.read.new.self) next c.in_ok-line.ensures.ok)
 
 pub returns-in_err-read-clause-front : goal.returns-in_err-read-clause-front
 returns-in_err-read-clause-front g c = grind (arith, so_far)
@@ -31,13 +31,16 @@ returns-then-not-branch-clause-left g c =
     (λ log u. left_so u none _ h)) (grind arith)
 
 pub returns-then-not-branch-clause-front : goal.returns-then-not-branch-clause-front
-returns-then-not-branch-clause-front g c = grind (arith, IfSome_then, ended, flushed)
+returns-then-not-branch-clause-front g c =
+    let none = c.in_ok-read.ensures.end c.if-not-branch.true in
+    IfSome_then (left_in g.R.ByteSource.remaining c.args.from.now) c.loop.invariant
+    (λ log u. (ended (flushed u c.read.ensures.keeps) none c.end.ensures.text).front)
 
 pub returns-in_err-line-clause-front : goal.returns-in_err-line-clause-front
 returns-in_err-line-clause-front g c =
     let next = c.in_ok-read.ensures.next c.if-not-branch.false in
     IfSome_then (left_in g.R.ByteSource.remaining c.args.from.now) c.loop.invariant
-    (λ log u. broken (flushed u c.read.ensures.keeps) _ (kept_text c.read.new.self) next c.in_err-line.ensures.front)
+    (λ log u. broken (flushed u c.read.ensures.keeps) _ (kept_line c.read.new.self) next c.in_err-line.ensures.front)
 
 pub returns-clause-front : goal.returns-clause-front
 returns-clause-front g c = grind (arith, so_far)

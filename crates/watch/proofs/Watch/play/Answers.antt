@@ -1,7 +1,7 @@
 -- The line's event is played, and moves the light on.
 use Rattle.std.proofs.Common.{◌≡◌, ◌+◌, ◌∙◌, refl, ap, sym, arith}
 use Rattle.floorlog.specs.KeptText.{kept_text}
-use Rattle.watch.specs.Marking.{floor_event, done_by, seconds_by}
+use Rattle.watch.specs.Marking.{floor_event, floor_step, done_by, seconds_by}
 use Rattle.watch.specs.States.{state_of}
 use Rattle.watch.proofs.LineLeaves.{driven}
 use Rattle.watch.proofs.Sound.{sound_from, burnt_fits}
@@ -32,7 +32,7 @@ invariant_of-self-2 c =
     let seconds = c.seconds_of-seconds.ensures ∙ ap seconds_by c.read-event.ensures in
     let timed : c.in_ok-time.time ≡ c.args.self.now.time + c.seconds_of-seconds.result = omega arith in
     record {
-      sound = stays_sound e s done seconds timed c.is_burning_in-was.ensures c.follow.ensures.from
+      sound = stays_sound (floor_step s.device e) s done seconds timed c.is_burning_in-was.ensures c.follow.ensures.from
           c.follow.ensures.burnt c.args.self.now.sound;
     }
 
@@ -43,7 +43,7 @@ returns-clause-watched c =
     let done = c.call.ensures ∙ ap (done_by s.device) c.read-event.ensures in
     let seconds = c.seconds_of-seconds.ensures ∙ ap seconds_by c.read-event.ensures in
     let timed : c.in_ok-time.time ≡ c.args.self.now.time + c.seconds_of-seconds.result = omega arith in
-    line_watched e s done seconds timed c.is_burning_in-was.ensures c.follow.ensures.from c.follow.ensures.burnt
+    line_watched (floor_step s.device e) s done seconds timed c.is_burning_in-was.ensures c.follow.ensures.from c.follow.ensures.burnt
     c.follow.ensures.told
 
 pub returns-clause-places : goal.returns-clause-places

@@ -1,16 +1,17 @@
 -- the line is played, and what ended with it told
-use Rattle.std.proofs.Common.{map, ◌∙◌, arith, List, ℕ}
+use Rattle.std.proofs.Common.{map, ◌∙◌, arith, List}
+use Rattle.textio.specs.Lines.{LogLine, texts_of}
 use Rattle.textio.proofs.Failures.{both_mapped}
 use Rattle.floorlog.specs.KeptText.{kept_text}
 use Rattle.watch.specs.Marking.{floor_event}
 use Rattle.watch.specs.States.{state_of}
-use Rattle.burnt.proofs.LinesTold.{line_uncounted, line_counted, line_told, line_cut, line_left, line_reported}
+use Rattle.burnt.proofs.FloorTold.{line_uncounted, line_counted, line_told, line_cut, line_left, line_reported}
 use Rattle.burnt.proofs.telling.TellerObserver.line.Goals as goal
 
 pub returns-in_default-clause-err : goal.returns-in_default-clause-err
 returns-in_default-clause-err g c =
     let s = state_of c.args.self.now.watch in
-    λ ls. line_uncounted s (floor_event (kept_text c.args.line.now)) (map floor_event ls)
+    λ ls. line_uncounted s (floor_event (kept_text c.args.line.now)) (map floor_event (texts_of ls))
     (c.play.ensures.uncounted c.in_default.is)
 
 pub returns-clause-ok : goal.returns-clause-ok
@@ -23,19 +24,19 @@ returns-clause-ok g c =
     (λ reported written. record {
       text = _;
       written = written;
-      then = λ ls. line_told s e (map floor_event ls) watched t.starts t.report reported;
+      then = λ ls. line_told s e (map floor_event (texts_of ls)) watched t.starts t.report reported;
       leaves = λ ls last h. (
         h.0,
-        line_reported s e (map floor_event ls) watched t.starts t.report reported h.1,
-        h.2 ∙ line_left s e (map floor_event ls) watched,
+        line_reported s e (map floor_event (texts_of ls)) watched t.starts t.report reported h.1,
+        h.2 ∙ line_left s e (map floor_event (texts_of ls)) watched,
       );
-      overflows = λ ls h. line_counted s e (map floor_event ls) watched h;
+      overflows = λ ls h. line_counted s e (map floor_event (texts_of ls)) watched h;
     })
 
 pub returns-clause-front : goal.returns-clause-front
 returns-clause-front g c =
     let t = c.args.self.now in
     let e = floor_event (kept_text c.args.line.now) in
-    let cut = λ (ls : List (List ℕ)). line_cut (state_of t.watch) e (map floor_event ls) c.in-Some.ensures.watched
-    t.starts t.report c.tell_ended.ensures.text.front in
+    let cut = λ (ls : List LogLine). line_cut (state_of t.watch) e (map floor_event (texts_of ls))
+    c.in-Some.ensures.watched t.starts t.report c.tell_ended.ensures.text.front in
     grind (arith, cut)

@@ -1,4 +1,4 @@
--- One event of a watched log, by what is seen of it: what is told of a lamp is what demand 3's history has of it.
+-- One step of a watched log, by what is seen of it: what is told of a lamp is what demand 3's history has of it.
 -- Assumes nothing.
 use Rattle.std.proofs.Common.{ℕ, zero, suc, ◌+◌, ◌≤◌, ◌≡◌, refl, Bool, false, not, ◌&&◌, List, ◌++◌, arith}
 use Rattle.std.proofs.Common.{slice_index_or, replicate, nat_lt, ◌==◌, le-ltb, if◌then◌else◌}
@@ -8,16 +8,16 @@ use Rattle.demands.specs.History.{Stage, next_stage, stage_is_burning, stage_fro
 use Rattle.stretches.specs.Stretches.{Stretch, stretch_if, is_lit_then, seconds_lit_from}
 use Rattle.stretches.proofs.Joined.{joined, since_none, joined-append, ends_here, cooling_dim}
 use Rattle.stretches.proofs.Joined.{stage_is_burning-stage_from, seconds_lit_from-append}
-use Rattle.stretches.proofs.EventsSeen.{Seen, nothing, time, power, mark}
+use Rattle.stretches.proofs.CallsSeen.{Seen, nothing, time, power, mark}
 
 -- a second counts for one exactly if it is lit
 pub one_is : (b : Bool) → ((if b then 1 else 0) == 1) ≡ b
 one_is b = grind arith
 
--- ---- one event, by what is seen of it
+-- ---- one step, by what is seen of it
 
 module _ (w : Wanted) (k : ℕ) where
-  -- what is told with an event after which the clock stands at h, and what follows it
+  -- what is told with a step after which the clock stands at h, and what follows it
   abbrev turned : Stage → Stage → List Bool → ℕ → ℕ → List Bool → List Stretch
   turned g h ms f t ls =
       let b = stage_is_burning g in

@@ -1,0 +1,117 @@
+-- A log of the first kind told line by line.
+-- Assumes nothing.
+use Rattle.std.proofs.Common.{ℕ, ◌+◌, ◌^◌, ◌≤◌, ◌≡◌, refl, sym, subst, ap, ◌∙◌, List, [], ◌∷◌, ◌++◌, map, ◌⊎◌, ⊎_elim}
+use Rattle.std.proofs.Common.{arith, length, inl, inr, sum_by, Bool}
+use Rattle.std.specs.declared.option.Option.{Option}
+use Rattle.std.proofs.lemmas.List.Sums.{sum_by-cons}
+use Rattle.record.specs.declared.types.Device.{Device}
+use Rattle.textio.specs.Fronts.{WritesFront}
+use Rattle.textio.specs.Lines.{LogLine, texts_of, lines_of, IsTooLong}
+use Rattle.textio.proofs.LinesCounted.{lines_fit, too_long_bytes}
+use Rattle.textio.proofs.Fronts.{front_more}
+use Rattle.floorlog.specs.Kept.{kept_lines}
+use Rattle.watch.specs.Marking.{FloorEvent, floor_event, floor_step, floor_steps, done_by, seconds_by}
+use Rattle.watch.specs.Watching.{Step, Watching, watching_from}
+use Rattle.watch.specs.Telling.{floor_events, telling_if, after_log}
+use Rattle.watch.specs.States.{IsWatched, state_of}
+use Rattle.watch.proofs.LinesKept.{floor_events_kept}
+use Rattle.watch.proofs.TellingsSpelt.{after_none, seconds_most_lem}
+use Rattle.report.specs.Reports.{report_new, begun_text}
+use Rattle.report.specs.declared.Report.{Report}
+use Rattle.burnt.specs.Told.{tellings_text, report_after, told_from, told_within, totals_text, log_told, IsUntold}
+use Rattle.burnt.specs.declared.telling.Teller.{Teller}
+use Rattle.burnt.proofs.TellingsTold.{report_within_none}
+use Rattle.burnt.proofs.LinesTold.{step_left, step_told, step_reported, text_so_far}
+
+module _ (s : Watching) (e : FloorEvent) (es : List FloorEvent) where
+  -- the seconds of a line cannot be counted
+  pub line_uncounted : 2 ^ 64 ≤ s.time + seconds_by e → 2 ^ 64 ≤ s.time + sum_by seconds_by (e ∷ es)
+  line_uncounted h = omega (arith, h, sum_by-cons seconds_by e es)
+
+  module _ {after : Watching} {ended : Bool} (w : IsWatched s (floor_step s.device e) after ended) where
+    pub line_counted : 2 ^ 64 ≤ after.time + sum_by seconds_by es → 2 ^ 64 ≤ s.time + sum_by seconds_by (e ∷ es)
+    line_counted h = omega (arith, h, sum_by-cons seconds_by e es, ap (λ (x : Watching). x.time) w.state)
+
+    -- the steps that follow begin with the device that the line left
+    abbrev steps : List Step
+    steps = floor_steps (done_by s.device e) es
+
+    device : after.device ≡ done_by s.device e
+    device = ap (λ (x : Watching). x.device) w.state
+
+    same : floor_steps after.device es ≡ steps
+    same = ap (λ (d : Device). floor_steps d es) device
+
+    pub line_left : after_log after (floor_steps after.device es) ≡ after_log s (floor_steps s.device (e ∷ es))
+    line_left = ap (after_log after) same ∙ step_left w steps
+
+    module _ (starts : List ℕ) (r : Report) where
+      pub line_told : {then : Report} → then ≡ report_after r (telling_if ended after)
+          → told_from (totals_text starts) r s (floor_steps s.device (e ∷ es))
+          ≡ tellings_text r (telling_if ended after)
+          ++ told_from (totals_text starts) then after (floor_steps after.device es)
+      line_told {then} told =
+          step_told w steps r told (totals_text starts)
+          ∙ ap (λ (l : List Step). tellings_text r (telling_if ended after)
+          ++ told_from (totals_text starts) then after l) (sym same)
+
+      pub line_reported : {then last : Report} → then ≡ report_after r (telling_if ended after)
+          → last ≡ report_after then (told_within after (floor_steps after.device es))
+          → last ≡ report_after r (told_within s (floor_steps s.device (e ∷ es)))
+      line_reported {then} told h =
+          step_reported w steps r told
+          (h ∙ ap (λ (l : List Step). report_after then (told_within after l)) same)
+
+      -- only some of what ended with it could be told
+      pub line_cut : {old new : Option (List ℕ)} → WritesFront old new (tellings_text r (telling_if ended after))
+          → WritesFront old new (told_from (totals_text starts) r s (floor_steps s.device (e ∷ es)))
+      line_cut {old} {new} f =
+          subst (WritesFront old new) (sym (line_told refl)) (front_more old new _ _ f)
+
+-- a log that cannot be told has as many bytes
+pub untold_bytes : (log : List ℕ) → IsUntold log → 2 ^ 32 ≤ length log
+untold_bytes log h =
+    ⊎_elim (λ (e : IsTooLong log). omega (arith, too_long_bytes log e))
+    (λ (e : 2 ^ 64 ≤ sum_by seconds_by (floor_events log)).
+    omega (arith, e, seconds_most_lem (lines_of log), lines_fit log)) h
+
+-- from the start of a log on
+pub untold : {t : ℕ} → t ≡ 0 → (log : List ℕ)
+    → IsTooLong log ⊎ (2 ^ 64 ≤ t + sum_by seconds_by (map floor_event (texts_of (kept_lines log)))) → IsUntold log
+untold {t} first log h =
+    ⊎_elim (λ (e : IsTooLong log). inl e)
+    (λ (e : 2 ^ 64 ≤ t + sum_by seconds_by (map floor_event (texts_of (kept_lines log)))).
+    inr (omega (arith, e, first, ap (sum_by seconds_by) (floor_events_kept log)))) h
+
+abbrev pub teller_told : Teller → List LogLine → List ℕ
+teller_told t ls =
+    told_from (totals_text t.starts) t.report (state_of t.watch)
+    (floor_steps t.watch.tested.device (map floor_event (texts_of ls)))
+
+abbrev pub TellerLeft : Teller → List LogLine → Teller → Type 0
+TellerLeft t ls last =
+    let es = floor_steps t.watch.tested.device (map floor_event (texts_of ls)) in
+    (last.starts ≡ t.starts) × (last.report ≡ report_after t.report (told_within (state_of t.watch) es))
+    × (state_of last.watch ≡ after_log (state_of t.watch) es)
+
+module _ (begun : Device) (drawn : Bool) (t : Teller) (starts : t.starts ≡ begun.own.lamps)
+    (report : t.report ≡ report_new drawn) (watch : state_of t.watch ≡ watching_from begun) where
+  pub teller_begun : (log : List ℕ)
+      → begun_text (report_new drawn) ++ teller_told t (kept_lines log) ≡ log_told begun drawn log
+  teller_begun log =
+      (λ i. begun_text (report_new drawn) ++ told_from (totals_text (starts i)) (report i) (watch i)
+      (floor_steps (watch i).device (floor_events_kept log i)))
+
+  -- where a read fails
+  pub teller_so_far : (after : Teller) (ls : List LogLine) (text : List ℕ)
+      → teller_told t ls ≡ text ++ teller_told after [] → TellerLeft t ls after
+      → text ≡ tellings_text (report_new drawn)
+      (told_within (watching_from begun) (floor_steps begun (map floor_event (texts_of ls))))
+  teller_so_far after ls text all at =
+      let events = map floor_event (texts_of ls) in
+      text_so_far (totals_text t.starts) t.report (state_of t.watch) (floor_steps t.watch.tested.device events) all
+      (λ i. told_from (totals_text (at.0 i)) (at.1 i) (at.2 i) [])
+      ∙ (λ i. tellings_text (report i) (told_within (watch i) (floor_steps (watch i).device events)))
+
+pub teller_itself : (t : Teller) → TellerLeft t [] t
+teller_itself t = (refl, sym (report_within_none t.report (state_of t.watch)), sym (after_none (state_of t.watch)))

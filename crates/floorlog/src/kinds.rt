@@ -1,0 +1,109 @@
+// A log of either kind observed: its first line tells which it is.
+ghost use Rattle.std.specs.Prelude.{◌≡◌, ◌∷◌, [], List, MatchBool, if◌then◌else◌};
+ghost use Rattle.textio.specs.Lines.{LogLine};
+ghost use Rattle.floorlog.specs.KeptText.{kept_line};
+ghost use Rattle.floorlog.specs.Kinds.{begins_history, is_history_from};
+
+use crate::kept::KeptLine;
+use crate::observer::Observer;
+use std::io;
+use textio::lines::Failure;
+use textio::writer::ByteSink;
+
+/// Of which kind a log is.
+#[derive(Clone, Copy)]
+pub enum Kind {
+    /// No line has come yet.
+    Unbegun,
+    /// The first kind: events at place 0, one a line.
+    Events,
+    /// The second kind: the history of a board.
+    History,
+}
+
+/// Two observers, of which the first line of a log chooses one: that of histories, if it begins with `LOG `.
+#[derive(Drop)]
+pub struct ByKind<A, B> {
+    /// The observer of a log of the first kind.
+    pub events: A,
+    /// The observer of a history.
+    pub history: B,
+    kind: Kind,
+}
+
+#[tactic(auto, unfolding(crate::specs::Kinds::begins_history))]
+fn begins_history(line: &[u8]) -> bool
+    ensures { result ≡ begins_history line.now }
+{
+    match line {
+        [b'L', b'O', b'G', b' ', ..] => true,
+        _ => false,
+    }
+}
+
+impl Kind {
+    // Whether the log is a history, where this is its next line.
+    fn is_history(self, line: &KeptLine) -> bool
+        ensures { (ls : List LogLine) → result ≡ is_history_from self (kept_line line.now ∷ ls) }
+    {
+        match self {
+            Kind::Unbegun => begins_history(line.text()),
+            Kind::Events => false,
+            Kind::History => true,
+        }
+    }
+}
+
+impl<A: Observer, B: Observer> ByKind<A, B> {
+    /// Before the first line.
+    pub fn new(events: A, history: B) -> ByKind<A, B>
+        ensures observers { (result.events ≡ events) × (result.history ≡ history) }
+        ensures kind { result.kind ≡ Kind.Unbegun }
+    {
+        ByKind {
+            events,
+            history,
+            kind: Kind::Unbegun,
+        }
+    }
+
+    /// Whether the log is a history. Before its first line it is none.
+    pub fn is_history(&self) -> bool
+        ensures { result ≡ is_history_from self.now.kind [] }
+    {
+        match self.kind {
+            Kind::History => true,
+            _ => false,
+        }
+    }
+}
+
+impl<A: Observer, B: Observer> Observer for ByKind<A, B> {
+    ghost output = { λ o ls.
+        if is_history_from o.kind ls then B.output o.history ls else A.output o.events ls };
+
+    ghost leaves = { λ o ls last. (is_history_from last.kind [] ≡ is_history_from o.kind ls)
+        × MatchBool (is_history_from o.kind ls) (B.leaves o.history ls last.history)
+            (A.leaves o.events ls last.events) };
+
+    ghost overflows = { λ o ls.
+        MatchBool (is_history_from o.kind ls) (B.overflows o.history ls) (A.overflows o.events ls) };
+
+    fn line<W: ByteSink>(&mut self, line: &KeptLine, to: &mut W) -> Result<(), Failure> {
+        if self.kind.is_history(line) {
+            self.kind = Kind::History;
+            self.history.line(line, to)
+        } else {
+            self.kind = Kind::Events;
+            self.events.line(line, to)
+        }
+    }
+
+    fn end<W: ByteSink>(&mut self, to: &mut W) -> io::Result<()> {
+        if self.is_history() {
+            self.history.end(to)
+        } else {
+            self.events.end(to)
+        }
+    }
+}

@@ -1,0 +1,8 @@
+use Rattle.textio.proofs.Fronts.{writes_then, writes_fails}
+use Rattle.report.proofs.put_stray.Goals as goal
+
+pub returns-in_err-put : goal.returns-in_err-put
+returns-in_err-put g c = rw c.in-Some.is (writes_fails _ c.in_err-put.ensures c.from_residual.ensures)
+
+pub returns : goal.returns
+returns g c = rw c.in-Some.is (writes_then c.in_ok-put.ensures c.put-2.ensures)
