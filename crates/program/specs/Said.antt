@@ -3,7 +3,7 @@
 --   unwritten_text n cause   that the file n cannot be written
 --   refused_text n c     that the form in the file n does not load, with the number c
 --   endless_text n       that the log n is longer than can be counted
---   stray_said s         which line of a log does not belong to it, and why
+--   stray_warning s         which line of a log does not belong to it, and why
 --   UnbegunSaid ..       what is said of a form in the file n that begins nothing: that it cannot be read, for some cause
 --                        (UnreadSaid), or with which number it does not load
 --   stop_text s usage    why a command line asks for nothing, and how the program is called
@@ -18,7 +18,7 @@ use Rattle.stored.specs.Told.{load_error_number}
 use Rattle.formfile.specs.declared.NotBegun.{NotBegun}
 use Rattle.formfile.specs.declared.NotBegun.TheVariants.{Unread, Refused}
 use Rattle.reasons.specs.Reasons.{number_text}
-use Rattle.recorded.specs.Following.{Stray, stray_text}
+use Rattle.recorded.specs.Following.{FirstStray, stray_text}
 use Rattle.command.specs.declared.asked.Stop.{Stop}
 use Rattle.command.specs.declared.asked.Stop.TheVariants.{Help, Version, Unknown, Alone, Twice, NoForm, NoMemory}
 
@@ -34,8 +34,8 @@ refused_text n c = (n ++ (codes ": " ++ (number_text c ++ codes " ("))) ++ form_
 abbrev pub endless_text : List ℕ → List ℕ
 endless_text n = n ++ (codes ": more lines, bytes or seconds" ++ (codes " than can be counted" ++ codes "\n"))
 
-abbrev pub stray_said : Stray → List ℕ
-stray_said s = stray_text s ++ codes "; what is written is of the lines before it\n"
+abbrev pub stray_warning : FirstStray → List ℕ
+stray_warning s = stray_text s ++ codes "; what is written is of the lines before it\n"
 
 abbrev pub with_usage : List ℕ → List ℕ → List ℕ → List ℕ
 with_usage word why usage = word ++ (why ++ (codes "\n" ++ usage))

@@ -2,7 +2,7 @@
 ghost use Rattle.std.specs.Prelude.{◌++◌};
 ghost use Rattle.textio.specs.Fronts.{WritesText};
 ghost use Rattle.program.specs.Said.{unread_text, unwritten_text, refused_text, endless_text, stop_text};
-ghost use Rattle.program.specs.Said.{stray_said};
+ghost use Rattle.program.specs.Said.{stray_warning};
 ghost use Rattle.recorded.specs.Following.{stray_seen};
 
 use command::asked::Stop;
@@ -91,7 +91,7 @@ pub fn say_refused<E: ByteSink>(to: &mut E, name: &str, number: u32) -> io::Resu
 /// Which line of a log does not belong to it, and why.
 pub fn say_stray<E: ByteSink>(to: &mut E, line: &StrayLine) -> io::Result<()>
     ensures { WritesText E.fails_with (E.contents to.old) (E.contents to.new) result
-        (stray_said (stray_seen line.now)) }
+        (stray_warning (stray_seen line.now)) }
 {
     let mut text = StrayText::new();
     line.put(&mut text);
