@@ -134,7 +134,7 @@ history_from (l ∷ ls) r d p f k h =
 accepted_from : (es : List LogEntry) (r : Recorder) (d : Device) (p : LogPlace) → At r p → Sayable es → IsHistory p es
     → AllHold p d es
     → (f : Followed) × (followed r d (map entry_text es) ≡ Some f)
-accepted_from [] r d p k s h m = (record { log = r; device = d; replies = [] }, refl)
+accepted_from [] r d p k s h m = (record { log = r; device = d; calls = []; replies = [] }, refl)
 accepted_from (e ∷ es) r d p k (typed, ok, s) (fits, h) (holds, m) =
     let (there, (n, made)) = made_if p d e holds in
     let log : log_made r d e (entry_text e) ≡ read_past r e (entry_text e) = if_yes _ _ there in
