@@ -61,16 +61,35 @@ pub record Begun (o : Players) (d : Device) (sum : ℕ) : Type 0 where
   pub lines : o.history.lines ≡ 0
   pub stray : o.history.stray ≡ None
 
+pub begins : {o : Players} {p : Player} {h : HistoryPlayer} {d : Device} {sum : ℕ} → (o.events ≡ p) × (o.history ≡ h)
+    → o.kind ≡ Unbegun
+    → p.tested.device ≡ d
+    → p.played ≡ 0
+    → h.tested.device ≡ d
+    → h.log ≡ chain_begun sum
+    → h.lines ≡ 0
+    → h.stray ≡ None
+    → Begun o d sum
+begins same kind events played device log lines stray = record {
+  kind = kind;
+  played = ap (λ (p : Player). p.played) same.0 ∙ played;
+  events = ap (λ (p : Player). p.tested.device) same.0 ∙ events;
+  device = ap (λ (h : HistoryPlayer). h.tested.device) same.1 ∙ device;
+  log = ap (λ (h : HistoryPlayer). h.log) same.1 ∙ log;
+  lines = ap (λ (h : HistoryPlayer). h.lines) same.1 ∙ lines;
+  stray = ap (λ (h : HistoryPlayer). h.stray) same.1 ∙ stray;
+}
+
 -- each part of what a choice makes
 if_parts : {A : Type 0} (t : Bool) {a b x y : A} → a ≡ x → b ≡ y → (if t then a else b) ≡ (if t then x else y)
 if_parts true p q = p
 if_parts false p q = q
 
-match_true : {P Q : Type 0} {t : Bool} → t ≡ true → MatchBool t P Q → P
-match_true {P} {Q} e h = subst (λ (t : Bool). MatchBool t P Q) e h
+match_true : (P Q : Type 0) {t : Bool} → t ≡ true → MatchBool t P Q → P
+match_true P Q e h = subst (λ (t : Bool). MatchBool t P Q) e h
 
-match_false : {P Q : Type 0} {t : Bool} → t ≡ false → MatchBool t P Q → Q
-match_false {P} {Q} e h = subst (λ (t : Bool). MatchBool t P Q) e h
+match_false : (P Q : Type 0) {t : Bool} → t ≡ false → MatchBool t P Q → Q
+match_false P Q e h = subst (λ (t : Bool). MatchBool t P Q) e h
 
 match_by : {P Q : Type 0} (t : Bool) → P → Q → MatchBool t P Q
 match_by true p q = p
@@ -91,14 +110,15 @@ module _ {o : Players} {d : Device} {sum : ℕ} (b : Begun o d sum) where
       else events_print o.events (kept_lines log)) b.kind
       ∙ if_parts (is_history (kept_lines log)) (history_prints (kept_lines log)) (all_printed b.played b.events log)
 
-  module _ {last : Players} (log : List ℕ) (left : PlayersLeft o (kept_lines log) last) where
+  module _ (last : Players) (log : List ℕ) (left : PlayersLeft o (kept_lines log) last) where
     kind_is : is_history_from last.kind [] ≡ is_history (kept_lines log)
     kind_is = left.0 ∙ ap (λ (k : Kind). is_history_from k (kept_lines log)) b.kind
 
     pub stray_found : is_history_from last.kind [] ≡ true
         → option_map stray_seen last.history.stray ≡ log_stray d sum log
     stray_found h =
-        (match_true (sym left.0 ∙ h) left.1).stray ∙ history_strays (kept_lines log)
+        (match_true (IsHistoryLeft o.history (kept_lines log) last.history)
+        (EventsLeft o.events (kept_lines log) last.events) (sym left.0 ∙ h) left.1).stray ∙ history_strays (kept_lines log)
         ∙ sym (if_yes _ _ (sym kind_is ∙ h))
 
     pub none_found : is_history_from last.kind [] ≡ false → option_map stray_seen None ≡ log_stray d sum log
@@ -153,7 +173,8 @@ module _ {o : Players} {d : Device} {sum : ℕ} (b : Begun o d sum) where
 
       text_is : (t : Bool) → is_history k.told ≡ t → k.text ≡ lines_text d sum k.told
       text_is true h =
-          let m = match_true (kind_o ∙ h) left_at.1 in
+          let m = match_true (IsHistoryLeft o.history k.told at.history) (EventsLeft o.events k.told at.events)
+          (kind_o ∙ h) left_at.1 in
           let es = belonging (chain_begun sum) d k.told in
           let stray = stray_from 0 (chain_begun sum) d k.told in
           let shows : last_device_line at.history.tested.device ≡ last_device_line (device_after d es) =
@@ -170,7 +191,8 @@ module _ {o : Players} {d : Device} {sum : ℕ} (b : Begun o d sum) where
           ∙ if_yes _ _ (kind_o ∙ h) ∙ history_prints k.told ∙ history_text_is 0 (chain_begun sum) d k.told)
           ∙ sym (if_yes _ _ h)
       text_is false h =
-          let m = match_false (kind_o ∙ h) left_at.1 in
+          let m = match_false (IsHistoryLeft o.history k.told at.history) (EventsLeft o.events k.told at.events)
+          (kind_o ∙ h) left_at.1 in
           let es = map event (texts_of k.told) in
           let at_end : players_print at [] ≡ last_device_line (state_after d es) =
           if_no _ _ (left_at.0 ∙ kind_o ∙ h)

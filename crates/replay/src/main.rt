@@ -5,6 +5,8 @@
 
 mod logs;
 mod playing;
+#[cfg(test)]
+mod tests;
 
 use crc32::crc32;
 use floorlog::cut;
