@@ -1,24 +1,23 @@
 -- A line of a history as the player plays it: what it prints and leaves, by whether it belongs.
 -- Assumes nothing.
-use Rattle.std.proofs.Common.{ℕ, ◌+◌, ◌≤◌, ◌≡◌, refl, sym, ap, ◌∙◌, subst, true, List, [], ◌∷◌, ◌++◌, take, Result, Ok, Err}
+use Rattle.std.proofs.Common.{ℕ, ◌+◌, ◌≡◌, refl, sym, ap, ◌∙◌, true, List, [], ◌∷◌, ◌++◌, take, Result, Ok, Err}
 use Rattle.std.proofs.Common.{Option, Some, None}
 use Rattle.text.specs.Words.{over}
 use Rattle.textio.specs.Lines.{LogLine}
 use Rattle.record.specs.declared.types.Device.{Device}
-use Rattle.record.specs.declared.types.Settings.{Settings}
-use Rattle.record.specs.declared.types.Own.{Own}
 use Rattle.floorlog.specs.LastLine.{last_line_of, last_device_line}
 use Rattle.history.specs.Entries.{LogEntry}
 use Rattle.history.specs.declared.recorder.Recorder.{Recorder}
 use Rattle.recorded.specs.Chain.{why_seen, entry_told, made_told, made_seen, device_made, reply_made, log_made}
-use Rattle.recorded.specs.Following.{line_told, belonging, FirstStray, stray_from}
+use Rattle.recorded.specs.Following.{FirstStray}
 use Rattle.recorded.specs.declared.chain.Why.{Why}
-use Rattle.recorded.proofs.Followed.{belonging_none, stray_none, belonging_more, stray_more, belonging_stray, stray_here}
+use Rattle.recorded.proofs.Followed.{belonging_none, stray_none, belonging_more, stray_more, belonging_stray}
+use Rattle.recorded.proofs.Followed.{stray_here}
 use Rattle.recorded.proofs.Followed.{line_belongs, line_stray}
 use Rattle.recorded.proofs.StrayKeeps.{KeepsOwn, stray_keeps}
-use Rattle.replay.specs.HistoryText.{reply_line, device_after, stray_line, end_text_of}
-use Rattle.replay.specs.HistoryMade.{LineMade, LineStray, IsMade}
-use Rattle.replay.specs.HistoryPlaying.{entries_then, stray_then, printed_then}
+use Rattle.replay.specs.HistoryText.{replied_line, device_after, stray_ending, end_text_of}
+use Rattle.replay.specs.HistoryMade.{LineMade, LineStray, IsMadeAgain}
+use Rattle.replay.specs.HistoryPlaying.{entries_then, stray_with, printed_then}
 use Rattle.replay.proofs.Made.{made_long, made_fills}
 use Rattle.replay.proofs.HistoryPlayed.{device_after_none, device_after_more, history_text_none, history_text_more}
 use Rattle.replay.proofs.HistoryPlayed.{history_text_stray}
@@ -30,7 +29,7 @@ pub made_so : (r : Recorder) (d : Device) (l : LogLine) (e : LogEntry) → l.end
     → log ≡ log_made r d e l.text
     → after ≡ device_made d e
     → new ≡ over (reply_made d e) old
-    → IsMade r d l res log after new
+    → IsMadeAgain r d l res log after new
 made_so r d l e ended told (Ok n) log after old new made log_is device put = record {
   entry = e;
   told = line_belongs r d l ended told (sym made);
@@ -58,7 +57,7 @@ module _ (n : ℕ) (r : Recorder) (d : Device) where
   printed_none None = history_text_none n r d
   printed_none (Some s) = refl
 
-  pub stray_left_none : (s : Option FirstStray) → s ≡ stray_then s n r d []
+  pub stray_left_none : (s : Option FirstStray) → s ≡ stray_with s n r d []
   stray_left_none None = sym (stray_none r d n)
   stray_left_none (Some s) = refl
 
@@ -74,19 +73,21 @@ module _ (n : ℕ) (r : Recorder) (d : Device) where
     -- a line that belongs
     module _ {k : ℕ} {m : List ℕ} (h : LineMade r d l k log after m) (ls : List LogLine) where
       pub line_prints : printed_then s n r d (l ∷ ls)
-          ≡ reply_line number (take k m) ++ printed_then s number log after ls
+          ≡ replied_line number (take k m) ++ printed_then s number log after ls
       line_prints =
           ap (λ (t : Option FirstStray). printed_then t n r d (l ∷ ls)) none
           ∙ history_text_more n r d l ls h.told
-          ∙ (λ i. reply_line (sym next i) (sym h.reply i) ++ printed_then None (sym next i) (sym h.log_is i) (sym h.device i) ls)
-          ∙ ap (λ (t : Option FirstStray). reply_line number (take k m) ++ printed_then t number log after ls) (sym none)
+          ∙ (λ i. replied_line (sym next i) (sym h.reply i)
+          ++ printed_then None (sym next i) (sym h.log_is i) (sym h.device i) ls)
+          ∙ ap (λ (t : Option FirstStray). replied_line number (take k m) ++ printed_then t number log after ls)
+          (sym none)
 
-      pub line_strays : stray_then s n r d (l ∷ ls) ≡ stray_then s number log after ls
+      pub line_strays : stray_with s n r d (l ∷ ls) ≡ stray_with s number log after ls
       line_strays =
-          ap (λ (t : Option FirstStray). stray_then t n r d (l ∷ ls)) none
+          ap (λ (t : Option FirstStray). stray_with t n r d (l ∷ ls)) none
           ∙ stray_more r d l ls n h.told
-          ∙ (λ i. stray_then None (sym next i) (sym h.log_is i) (sym h.device i) ls)
-          ∙ ap (λ (t : Option FirstStray). stray_then t number log after ls) (sym none)
+          ∙ (λ i. stray_with None (sym next i) (sym h.log_is i) (sym h.device i) ls)
+          ∙ ap (λ (t : Option FirstStray). stray_with t number log after ls) (sym none)
 
       pub line_leaves : device_after d (entries_then s r d (l ∷ ls)) ≡ device_after after (entries_then s log after ls)
       line_leaves =
@@ -106,11 +107,11 @@ module _ (n : ℕ) (r : Recorder) (d : Device) {s : Option FirstStray} (none : s
   stray_prints =
       ap (λ (t : Option FirstStray). printed_then t n r d (l ∷ ls)) none
       ∙ history_text_stray n r d l ls h.told
-      ∙ (λ i. same_last d after h.settings h.own i ++ stray_line (Some (found_at (sym next i) why)))
+      ∙ (λ i. same_last d after h.settings h.own i ++ stray_ending (Some (found_at (sym next i) why)))
 
-  pub stray_is : Some (found_at number why) ≡ stray_then s n r d (l ∷ ls)
+  pub stray_is : Some (found_at number why) ≡ stray_with s n r d (l ∷ ls)
   stray_is =
-      sym (ap (λ (t : Option FirstStray). stray_then t n r d (l ∷ ls)) none
+      sym (ap (λ (t : Option FirstStray). stray_with t n r d (l ∷ ls)) none
       ∙ stray_here r d l ls n h.told ∙ (λ i. Some (found_at (sym next i) why)))
 
   pub stray_leaves : last_device_line (device_after after [])

@@ -1,8 +1,8 @@
 -- A log of either kind from its start on: what is printed, which line does not belong, and what is so far.
 -- Assumes nothing.
-use Rattle.std.proofs.Common.{ℕ, ◌+◌, ◌^◌, ◌≤◌, ◌≡◌, refl, sym, ap, ◌∙◌, subst, Bool, true, false, List, [], ◌∷◌, ◌++◌, map}
-use Rattle.std.proofs.Common.{append-nil, append_assoc, arith, length, ◌⊎◌, ⊎_elim, inl, inr, if◌then◌else◌, MatchBool}
-use Rattle.std.proofs.Common.{Option, Some, None, option_map}
+use Rattle.std.proofs.Common.{ℕ, ◌+◌, ◌^◌, ◌≤◌, ◌≡◌, refl, sym, ap, ◌∙◌, subst, Bool, true, false, List, [], ◌++◌, map}
+use Rattle.std.proofs.Common.{append-nil, arith, length, ◌⊎◌, ⊎_elim, inl, if◌then◌else◌, MatchBool}
+use Rattle.std.proofs.Common.{Option, None, option_map}
 use Rattle.std.proofs.lemmas.List.{length-map, append_cancel_right}
 use Rattle.std.specs.Io.KnownBytes.{Appends}
 use Rattle.text.proofs.Choices.{if_yes, if_no}
@@ -12,19 +12,17 @@ use Rattle.floorlog.specs.Kept.{kept, kept_lines}
 use Rattle.floorlog.specs.Kinds.{is_history, is_history_from}
 use Rattle.floorlog.specs.LastLine.{last_device_line}
 use Rattle.floorlog.specs.Events.{event}
-use Rattle.floorlog.specs.Playing.{state_after, lines_printed, replay_text}
+use Rattle.floorlog.specs.Playing.{state_after}
 use Rattle.floorlog.specs.Observing.{BreaksOff}
 use Rattle.floorlog.specs.declared.kinds.Kind.{Kind}
 use Rattle.floorlog.specs.declared.kinds.Kind.TheVariants.{Unbegun}
 use Rattle.floorlog.specs.declared.kinds.ByKind.{ByKind}
 use Rattle.floorlog.specs.declared.playing.Player.{Player}
 use Rattle.floorlog.proofs.Replayed.{printed_from, all_printed, printed_none, state_none}
-use Rattle.history.specs.declared.recorder.Recorder.{Recorder}
-use Rattle.recorded.specs.Following.{chain_begun, belonging, FirstStray, stray_seen, stray_from}
-use Rattle.recorded.specs.declared.stray.StrayLine.{StrayLine}
-use Rattle.replay.specs.HistoryText.{entries_text, device_after, stray_line, end_text_of}
-use Rattle.replay.specs.LogText.{log_text, log_stray, lines_text, IsPrintedSoFar}
-use Rattle.replay.specs.HistoryPlaying.{entries_then, stray_then, printed_then, player_prints, IsHistoryLeft}
+use Rattle.recorded.specs.Following.{chain_begun, belonging, stray_seen, stray_from}
+use Rattle.replay.specs.HistoryText.{device_after, stray_ending, end_text_of}
+use Rattle.replay.specs.LogText.{any_log_text, log_stray, lines_text, IsPrintedSoFar}
+use Rattle.replay.specs.HistoryPlaying.{entries_then, stray_with, printed_then, player_prints, IsHistoryLeft}
 use Rattle.replay.specs.declared.playing.HistoryPlayer.{HistoryPlayer}
 use Rattle.replay.proofs.HistoryPlayed.{history_text_is}
 use Rattle.replay.proofs.LinesPlayed.{printed_none as history_printed_none, stray_left_none, device_left_none}
@@ -100,11 +98,11 @@ module _ {o : Players} {d : Device} {sum : ℕ} (b : Begun o d sum) where
   history_prints ls = (λ i. printed_then (option_map stray_seen (b.stray i)) (b.lines i) (b.log i) (b.device i) ls)
 
   history_strays : (ls : List LogLine)
-      → stray_then (option_map stray_seen o.history.stray) o.history.lines o.history.log o.history.tested.device ls
+      → stray_with (option_map stray_seen o.history.stray) o.history.lines o.history.log o.history.tested.device ls
       ≡ stray_from 0 (chain_begun sum) d ls
-  history_strays ls = (λ i. stray_then (option_map stray_seen (b.stray i)) (b.lines i) (b.log i) (b.device i) ls)
+  history_strays ls = (λ i. stray_with (option_map stray_seen (b.stray i)) (b.lines i) (b.log i) (b.device i) ls)
 
-  pub all_text : (log : List ℕ) → players_print o (kept_lines log) ≡ log_text d sum log
+  pub all_text : (log : List ℕ) → players_print o (kept_lines log) ≡ any_log_text d sum log
   all_text log =
       ap (λ (k : Kind). if is_history_from k (kept_lines log) then player_prints o.history (kept_lines log)
       else events_print o.events (kept_lines log)) b.kind
@@ -118,7 +116,8 @@ module _ {o : Players} {d : Device} {sum : ℕ} (b : Begun o d sum) where
         → option_map stray_seen last.history.stray ≡ log_stray d sum log
     stray_found h =
         (match_true (IsHistoryLeft o.history (kept_lines log) last.history)
-        (EventsLeft o.events (kept_lines log) last.events) (sym left.0 ∙ h) left.1).stray ∙ history_strays (kept_lines log)
+        (EventsLeft o.events (kept_lines log) last.events) (sym left.0 ∙ h) left.1).stray
+        ∙ history_strays (kept_lines log)
         ∙ sym (if_yes _ _ (sym kind_is ∙ h))
 
     pub none_found : is_history_from last.kind [] ≡ false → option_map stray_seen None ≡ log_stray d sum log
@@ -131,7 +130,8 @@ module _ {o : Players} {d : Device} {sum : ℕ} (b : Begun o d sum) where
     where
       many : (m : ℕ) → m ≡ 0 → 2 ^ 64 ≤ m + length (kept_lines log) → IsTooLong log
       many m none e = 
-          inl (omega (arith, e, none, length-map (lines_in log) kept, length-map (lines_in log) (λ (l : LogLine). l.text)))
+          inl (omega (arith, e, none, length-map (lines_in log) kept,
+          length-map (lines_in log) (λ (l : LogLine). l.text)))
 
       by : (t : Bool) → MatchBool t (2 ^ 64 ≤ o.history.lines + length (kept_lines log))
           (2 ^ 64 ≤ o.events.played + length (kept_lines log)) → IsTooLong log
@@ -185,7 +185,7 @@ module _ {o : Players} {d : Device} {sum : ℕ} (b : Begun o d sum) where
           if_yes _ _ (left_at.0 ∙ kind_o ∙ h)
           ∙ history_printed_none at.history.lines at.history.log at.history.tested.device
           (option_map stray_seen at.history.stray)
-          ∙ (λ i. shows i ++ stray_line (found i)) in
+          ∙ (λ i. shows i ++ stray_ending (found i)) in
           append_cancel_right _ _ (end_text_of (device_after d es) stray)
           (ap (λ (t : List ℕ). k.text ++ t) (sym at_end) ∙ ends
           ∙ if_yes _ _ (kind_o ∙ h) ∙ history_prints k.told ∙ history_text_is 0 (chain_begun sum) d k.told)

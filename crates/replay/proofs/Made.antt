@@ -1,7 +1,7 @@
 -- The reply of what a line says, made again, is as long as is told, and fits in the memory for it.
 -- Assumes nothing.
-use Rattle.std.proofs.Common.{ℕ, ◌≤◌, ◌≡◌, refl, sym, ap, ◌∙◌, Bool, true, false, List, arith, length, take, Result, Ok, Err}
-use Rattle.std.proofs.Common.{length-take, replicate, [], subst}
+use Rattle.std.proofs.Common.{ℕ, ◌≤◌, ◌≡◌, refl, sym, ap, ◌∙◌, true, List, arith, length, take, Result, Ok}
+use Rattle.std.proofs.Common.{length-take, [], subst}
 use Rattle.text.proofs.Choices.{if_yes}
 use Rattle.std.proofs.lemmas.List.{length-replicate}
 use Rattle.std.proofs.Math.Seq.{take-append_seam}
@@ -26,9 +26,13 @@ pub record IsLong (s : List ℕ) (n : ℕ) : Type 0 where
 lent_long : (r : Lent Device) → Inside reply_memory r → IsLong (take r.length r.memory) r.length
 lent_long r i =
     let room : length reply_memory ≡ reply_room = length-replicate {A = ℕ} reply_room 0 in
-    record { length_is = omega (arith, length-take r.length r.memory, i.room, i.fits); inside = omega (arith, i.fits, room) }
+    record {
+      length_is = omega (arith, length-take r.length r.memory, i.room, i.fits);
+      inside = omega (arith, i.fits, room);
+    }
 
-replied_long : (d : Device) (c : LogCall) → IsLong (replied_by d (played_call c)) (gave_by ours d (played_call c)).length
+replied_long : (d : Device) (c : LogCall)
+    → IsLong (replied_by d (played_call c)) (gave_by ours d (played_call c)).length
 replied_long d (opens p random) = lent_long _ (stays_inside d (played_call (opens p random)))
 replied_long d (receives p bs) = lent_long _ (stays_inside d (played_call (receives p bs))).0
 replied_long d (closes p) = record { length_is = refl; inside = omega arith }

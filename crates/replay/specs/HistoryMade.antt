@@ -2,7 +2,7 @@
 --   LineMade r d l n ..    the line l, which belongs where the reader stands at r and d, is made again: the reader then
 --                          stands at log and after, and its reply fills the first n bytes of the memory
 --   LineStray r d l why after   it does not belong, and no more than the places of the record is changed
---   IsMade r d l told ..   one or the other, as is told
+--   IsMadeAgain r d l told ..   one or the other, as is told
 -- Assumes nothing.
 use Rattle.std.specs.Prelude.{ℕ, ◌≡◌, ◌≤◌, List, take, Result, Ok, Err}
 use Rattle.textio.specs.Lines.{LogLine}
@@ -28,6 +28,6 @@ pub record LineStray (r : Recorder) (d : Device) (l : LogLine) (why : Why) (afte
   pub settings : after.settings ≡ d.settings
   pub own : after.own ≡ d.own
 
-abbrev pub IsMade : Recorder → Device → LogLine → Result ℕ Why → Recorder → Device → List ℕ → Type 0
-IsMade r d l (Ok n) log after memory = LineMade r d l n log after memory
-IsMade r d l (Err why) log after memory = LineStray r d l why after
+abbrev pub IsMadeAgain : Recorder → Device → LogLine → Result ℕ Why → Recorder → Device → List ℕ → Type 0
+IsMadeAgain r d l (Ok n) log after memory = LineMade r d l n log after memory
+IsMadeAgain r d l (Err why) log after memory = LineStray r d l why after

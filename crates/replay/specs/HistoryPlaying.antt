@@ -1,6 +1,6 @@
 -- What a `HistoryPlayer` prints of the lines that are left of a history, and how they leave it.
 --   entries_then s r d ls  what the lines ls say that belong, where s is a line before them that did not;
---   stray_then s n r d ls  and the first that does not
+--   stray_with s n r d ls  and the first that does not
 --   printed_then s n r d ls   what is printed for them
 --   player_prints p ls     this, for the player p
 --   IsHistoryLeft p ls last     they leave it so
@@ -19,9 +19,9 @@ abbrev pub entries_then : Option FirstStray → Recorder → Device → List Log
 entries_then (Some s) r d ls = []
 entries_then None r d ls = belonging r d ls
 
-abbrev pub stray_then : Option FirstStray → ℕ → Recorder → Device → List LogLine → Option FirstStray
-stray_then (Some s) n r d ls = Some s
-stray_then None n r d ls = stray_from n r d ls
+abbrev pub stray_with : Option FirstStray → ℕ → Recorder → Device → List LogLine → Option FirstStray
+stray_with (Some s) n r d ls = Some s
+stray_with None n r d ls = stray_from n r d ls
 
 abbrev pub printed_then : Option FirstStray → ℕ → Recorder → Device → List LogLine → List ℕ
 printed_then (Some s) n r d ls = end_text_of d (Some s)
@@ -32,7 +32,7 @@ player_prints p ls = printed_then (option_map stray_seen p.stray) p.lines p.log 
 
 pub record IsHistoryLeft (p : HistoryPlayer) (ls : List LogLine) (last : HistoryPlayer) : Type 0 where
   pub stray : option_map stray_seen last.stray
-      ≡ stray_then (option_map stray_seen p.stray) p.lines p.log p.tested.device ls
+      ≡ stray_with (option_map stray_seen p.stray) p.lines p.log p.tested.device ls
   pub shows : last_device_line last.tested.device
       ≡ last_device_line (device_after p.tested.device
       (entries_then (option_map stray_seen p.stray) p.log p.tested.device ls))

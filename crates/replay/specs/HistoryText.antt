@@ -1,11 +1,11 @@
 -- What `replay` prints for the history of a board (RULES, History of a board): for each line that belongs its number
 -- and its reply, headers and stated lines too; after them one line with power and lamp seconds, as these lines left the
 -- record; and last, if a line does not belong, which and why.
---   reply_line n s          the line n was replied s: its number, a space, the reply without CR or `-` for none, LF
+--   replied_line n s          the line n was replied s: its number, a space, the reply without CR or `-` for none, LF
 --   entries_text n d es     this for each of the entries es, from the record d on, where n lines came before
 --   device_after d es       the record after them
---   stray_line s            which line does not belong, and why, if one does not
---   history_text n r d ls   what is printed for the lines ls, where n lines came before and the reader stands at r and d
+--   stray_ending s            which line does not belong, and why, if one does not
+--   history_text n r d ls   what is printed for the lines ls, where n came before and the reader stands at r and d
 --   recorded_text d sum log what is printed for a history that begins with the record d, of which the form has that sum
 --   recorded_stray d sum log   its first line that does not belong
 -- Assumes nothing.
@@ -21,23 +21,23 @@ use Rattle.history.specs.declared.recorder.Recorder.{Recorder}
 use Rattle.recorded.specs.Chain.{device_made, reply_made}
 use Rattle.recorded.specs.Following.{chain_begun, belonging, FirstStray, stray_from, stray_text}
 
-abbrev pub reply_line : ℕ → List ℕ → List ℕ
-reply_line n s = long_digits n ++ codes " " ++ reply_text s ++ codes "\n"
+abbrev pub replied_line : ℕ → List ℕ → List ℕ
+replied_line n s = long_digits n ++ codes " " ++ reply_text s ++ codes "\n"
 
 unfoldable pub entries_text : ℕ → Device → List LogEntry → List ℕ
 entries_text n d [] = []
-entries_text n d (e ∷ es) = reply_line (n + 1) (reply_made d e) ++ entries_text (n + 1) (device_made d e) es
+entries_text n d (e ∷ es) = replied_line (n + 1) (reply_made d e) ++ entries_text (n + 1) (device_made d e) es
 
 unfoldable pub device_after : Device → List LogEntry → Device
 device_after d [] = d
 device_after d (e ∷ es) = device_after (device_made d e) es
 
-abbrev pub stray_line : Option FirstStray → List ℕ
-stray_line None = []
-stray_line (Some s) = stray_text s ++ codes "\n"
+abbrev pub stray_ending : Option FirstStray → List ℕ
+stray_ending None = []
+stray_ending (Some s) = stray_text s ++ codes "\n"
 
 abbrev pub end_text_of : Device → Option FirstStray → List ℕ
-end_text_of d stray = last_device_line d ++ stray_line stray
+end_text_of d stray = last_device_line d ++ stray_ending stray
 
 unfoldable pub history_text : ℕ → Recorder → Device → List LogLine → List ℕ
 history_text n r d ls =

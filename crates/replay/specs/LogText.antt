@@ -1,5 +1,5 @@
 -- What `replay` prints for a log of either kind (RULES, Floor log and History of a board).
---   log_text d sum log     all of it, for a log that begins with the record d, of which the form has that sum
+--   any_log_text d sum log     all of it, for a log that begins with the record d, of which the form has that sum
 --   log_stray d sum log    the first line of a history that does not belong; a log of the first kind has none
 --   lines_text d sum ls    what is printed for lines, before what stands at the end
 --   IsPrintedSoFar d sum log left ..   the sink got what is printed for each line that has ended in what was read of
@@ -16,8 +16,8 @@ use Rattle.floorlog.specs.Playing.{lines_printed, replay_text}
 use Rattle.recorded.specs.Following.{chain_begun, belonging, FirstStray}
 use Rattle.replay.specs.HistoryText.{entries_text, recorded_text, recorded_stray}
 
-abbrev pub log_text : Device → ℕ → List ℕ → List ℕ
-log_text d sum log = if is_history (kept_lines log) then recorded_text d sum log else replay_text d log
+abbrev pub any_log_text : Device → ℕ → List ℕ → List ℕ
+any_log_text d sum log = if is_history (kept_lines log) then recorded_text d sum log else replay_text d log
 
 abbrev pub log_stray : Device → ℕ → List ℕ → Option FirstStray
 log_stray d sum log = if is_history (kept_lines log) then recorded_stray d sum log else None

@@ -6,7 +6,7 @@ ghost use Rattle.textio.specs.Fronts.{WritesFront};
 ghost use Rattle.textio.specs.Ahead.{left_in};
 ghost use Rattle.textio.specs.NextLine.{FailureComesOf, OnFailedRead};
 ghost use Rattle.recorded.specs.Following.{stray_seen};
-ghost use Rattle.replay.specs.LogText.{log_text, log_stray, IsPrintedSoFar};
+ghost use Rattle.replay.specs.LogText.{any_log_text, log_stray, IsPrintedSoFar};
 
 use crate::playing::HistoryPlayer;
 use floorlog::kinds::ByKind;
@@ -29,11 +29,11 @@ pub fn replay_log<R: ByteSource, W: ByteSink>(
     to: &mut W,
 ) -> Result<Option<StrayLine>, Failure>
     ensures whole { OnOk result (IfSome (left_in R.remaining from.old) (λ log.
-        Appends (W.contents to.old) (W.contents to.new) (log_text begun sum log))) }
+        Appends (W.contents to.old) (W.contents to.new) (any_log_text begun sum log))) }
     ensures stray { IfOk result (λ stray. IfSome (left_in R.remaining from.old) (λ log.
         option_map stray_seen stray ≡ log_stray begun sum log)) }
     ensures front { IfSome (left_in R.remaining from.old) (λ log.
-        WritesFront (W.contents to.old) (W.contents to.new) (log_text begun sum log)) }
+        WritesFront (W.contents to.old) (W.contents to.new) (any_log_text begun sum log)) }
     ensures none_waits { OnOk result (W.waiting to.new ≡ []) }
     ensures read { IfErr result (OnFailedRead (W.waiting to.new ≡ [])) }
     ensures broken { IfErr result (OnFailedRead (IfSome (left_in R.remaining from.old) (λ log.

@@ -1,12 +1,12 @@
 // The history of a board played back: what its lines are answered, up to the first that does not belong, then the line
 // of power and lamps, and which line does not belong.
-ghost use Rattle.std.specs.Prelude.{◌≡◌, ◌+◌, ◌^◌, ◌≤◌, [], None, length, take, option_map};
+ghost use Rattle.std.specs.Prelude.{◌≡◌, ◌+◌, ◌^◌, ◌≤◌, None, length, take, option_map};
 ghost use Rattle.textio.specs.Fronts.{WritesText};
 ghost use Rattle.device.specs.Calls.{reply_room};
 ghost use Rattle.floorlog.specs.KeptText.{kept_line};
 ghost use Rattle.recorded.specs.Following.{chain_begun, stray_seen};
-ghost use Rattle.replay.specs.HistoryText.{reply_line, stray_line, end_text_of};
-ghost use Rattle.replay.specs.HistoryMade.{IsMade};
+ghost use Rattle.replay.specs.HistoryText.{replied_line, stray_ending};
+ghost use Rattle.replay.specs.HistoryMade.{IsMadeAgain};
 
 use device::on_legal::REPLY_ROOM;
 use floorlog::kept::KeptLine;
@@ -72,7 +72,7 @@ fn make(
     room: &mut Bytes,
     reply: &mut [u8; REPLY_ROOM],
 ) -> Result<usize, Why>
-    ensures { IsMade log.old t.old.device (kept_line line.now) result log.new t.new.device reply.new }
+    ensures { IsMadeAgain log.old t.old.device (kept_line line.now) result log.new t.new.device reply.new }
 {
     if !line.is_ended() {
         return Err(Why::Unended);
@@ -92,7 +92,7 @@ fn print<W: ByteSink>(
 ) -> io::Result<()>
     requires { length ≤ reply_room }
     ensures { WritesText W.fails_with (W.contents to.old) (W.contents to.new) result
-        (reply_line number (take length reply.now)) }
+        (replied_line number (take length reply.now)) }
 {
     let mut out = Printed::new();
     Outcome::Served(length).put_line(number, reply, &mut out);
@@ -101,7 +101,7 @@ fn print<W: ByteSink>(
 
 fn print_stray<W: ByteSink>(stray: Option<StrayLine>, to: &mut W) -> io::Result<()>
     ensures { WritesText W.fails_with (W.contents to.old) (W.contents to.new) result
-        (stray_line (option_map stray_seen stray)) }
+        (stray_ending (option_map stray_seen stray)) }
 {
     let Some(line) = stray else {
         return Ok(());

@@ -1,6 +1,6 @@
 -- a line that no LF ended does not belong, nor one that says nothing that stands there; what it says is made again
-use Rattle.std.proofs.Common.{◌≡◌, refl, sym, ap, ◌∙◌, List, ℕ, Ok, true, false}
-use Rattle.floorlog.specs.KeptText.{kept_text, kept_line}
+use Rattle.std.proofs.Common.{refl, sym, ap, ◌∙◌, List, ℕ, true, false}
+use Rattle.floorlog.specs.KeptText.{kept_line}
 use Rattle.history.specs.Entries.{entry_seen}
 use Rattle.recorded.specs.Chain.{entry_told, log_made}
 use Rattle.recorded.proofs.Followed.{line_unended, line_misfit}

@@ -1,7 +1,6 @@
 -- the line is one more that belongs, or the first that does not
-use Rattle.std.proofs.Common.{◌≡◌, ◌+◌, sym, ap, ◌∙◌, subst, arith, List, [], None, Option, option_map, Result, Ok, Err, OnErr}
+use Rattle.std.proofs.Common.{◌≡◌, ◌+◌, sym, ap, ◌∙◌, subst, arith, [], None, option_map, Result, Ok, Err, OnErr}
 use Rattle.std.proofs.KnownBytes.{Appends-nil}
-use Rattle.textio.specs.Lines.{LogLine}
 use Rattle.textio.specs.Fronts.{WritesFront}
 use Rattle.textio.proofs.Failures.{both_mapped}
 use Rattle.textio.proofs.Fronts.{front_more}
