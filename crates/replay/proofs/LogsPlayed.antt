@@ -129,9 +129,14 @@ module _ {o : Players} {d : Device} {sum : ℕ} (b : Begun o d sum) where
       (λ (e : PlayersOverflow o (kept_lines log)). by (is_history_from o.kind (kept_lines log)) e) h
     where
       many : (m : ℕ) → m ≡ 0 → 2 ^ 64 ≤ m + length (kept_lines log) → IsTooLong log
-      many m none e = 
-          inl (omega (arith, e, none, length-map (lines_in log) kept,
-          length-map (lines_in log) (λ (l : LogLine). l.text)))
+      many m none e =
+          inl (omega (
+            arith,
+            e,
+            none,
+            length-map (lines_in log) kept,
+            length-map (lines_in log) (λ (l : LogLine). l.text),
+          ))
 
       by : (t : Bool) → MatchBool t (2 ^ 64 ≤ o.history.lines + length (kept_lines log))
           (2 ^ 64 ≤ o.events.played + length (kept_lines log)) → IsTooLong log

@@ -48,5 +48,9 @@ pub fn replay_log<R: ByteSource, W: ByteSink>(
     let history = HistoryPlayer::new(begun, sum);
     let mut players = ByKind::new(events, history);
     observer::follow(&mut players, from, to)?;
-    Ok(if players.is_history() { players.history.stray() } else { None })
+    Ok(if players.is_history() {
+        players.history.stray()
+    } else {
+        None
+    })
 }

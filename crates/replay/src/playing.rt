@@ -24,8 +24,8 @@ use textio::lines::Failure;
 use textio::writer;
 use textio::writer::ByteSink;
 
-/// A history as it is played: its record, tested where the history began; where its reader stands; how many of its lines
-/// belong; and the first that does not, after which none is played.
+/// A history as it is played: its record, tested where the history began; where its reader stands; how many of its
+/// lines belong; and the first that does not, after which none is played.
 #[derive(Drop)]
 pub struct HistoryPlayer {
     tested: Tested,
