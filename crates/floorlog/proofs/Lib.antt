@@ -11,6 +11,6 @@ pub mod EventSeconds
 pub mod KeptText
 mod NextKept
 pub mod Observing
-mod Replayed
+pub mod Replayed
 pub mod Samples
 pub mod Settled

@@ -81,6 +81,7 @@ played_so_far {p} {after} {begun} {log} {left} {old} {new} first is b = record {
     text : lines_printed p.played p.tested.device es ≡ b.text
     text =
         append_cancel_right _ _ end
-        (ap (λ ls. printed_from p.played p.tested.device (map event (texts_of ls))) (sym (append-nil b.told)) ∙ b.then []
+        (ap (λ ls. printed_from p.played p.tested.device (map event (texts_of ls))) (sym (append-nil b.told))
+        ∙ b.then []
         ∙ ap (λ (t : List ℕ). b.text ++ t)
         (printed_none after.tested.device after.played ∙ ap last_device_line left_at))

@@ -131,7 +131,7 @@ pub fn seconds_of(event: &Event<'_>) -> u32
 }
 
 /// An event, and its printed line.
-#[tactic(auto, using(crate::proofs::Outcomes::line_lengths), unfolding(crate::specs::Doing::printed_line))]
+#[tactic(auto, unfolding(crate::specs::Doing::printed_line))]
 pub fn print(t: &mut Tested, number: u64, event: &Event<'_>, out: &mut Printed)
     requires { out.old.items ≡ [] }
     ensures printed { out.new.items
@@ -140,8 +140,5 @@ pub fn print(t: &mut Tested, number: u64, event: &Event<'_>, out: &mut Printed)
 {
     let mut reply = [0; REPLY_ROOM];
     let outcome = call(t, event, &mut reply);
-    numbers::put_long(number, out);
-    out.push(b' ');
-    outcome.put(&reply, out);
-    out.push(b'\n');
+    outcome.put_line(number, &reply, out);
 }

@@ -49,8 +49,8 @@ fn put_cr(line: &mut [u8; ROOM], held: usize)
     line[held] = b'\r';
 }
 
-/// A line of a log, without its LF: all of it, or as much as tells that it has no form; and whether an LF ended it. A CR
-/// stands behind it, with which a text is received.
+/// A line of a log, without its LF: all of it, or as much as tells that it has no form; and whether an LF ended it. A
+/// CR stands behind it, with which a text is received.
 #[derive(Drop)]
 pub struct KeptLine {
     bytes: [u8; ROOM],

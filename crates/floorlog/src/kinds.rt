@@ -84,7 +84,7 @@ impl<A: Observer, B: Observer> Observer for ByKind<A, B> {
 
     ghost leaves = { λ o ls last. (is_history_from last.kind [] ≡ is_history_from o.kind ls)
         × MatchBool (is_history_from o.kind ls) (B.leaves o.history ls last.history)
-            (A.leaves o.events ls last.events) };
+        (A.leaves o.events ls last.events) };
 
     ghost overflows = { λ o ls.
         MatchBool (is_history_from o.kind ls) (B.overflows o.history ls) (A.overflows o.events ls) };

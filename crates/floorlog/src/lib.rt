@@ -7,7 +7,7 @@ pub mod cut;
 pub mod event;
 pub mod kept;
 pub mod kinds;
-mod last;
+pub mod last;
 pub mod line;
 pub mod observer;
 pub mod outcome;

@@ -1,5 +1,6 @@
 // What an event of a log comes to, and how it is printed (RULES, Floor log).
-ghost use Rattle.std.specs.Prelude.{◌≡◌, ◌+◌, ◌≤◌, ◌++◌, length};
+ghost use Rattle.std.specs.Prelude.{◌≡◌, ◌+◌, ◌≤◌, ◌++◌, [], codes, length};
+ghost use Rattle.numbers.specs.Decimal.{long_digits};
 ghost use Rattle.arrayvec.specs.ArrayVec.{array_vec_len};
 ghost use Rattle.device.specs.Calls.{reply_room};
 ghost use Rattle.floorlog.specs.Outcomes.{outcome_text, IsReplyWithin, reply_text, refusal_shown, printed_most};
@@ -70,5 +71,18 @@ impl Outcome {
             Outcome::AlreadyOpen => put_refusal(5, out),
             Outcome::NoSuch => out.push(b'?'),
         }
+    }
+    /// Puts the printed line with that number: the number, a space, what is printed for it, and LF.
+    #[tactic(auto, using(crate::proofs::Outcomes::line_lengths))]
+    pub fn put_line(self, number: u64, memory: &[u8; REPLY_ROOM], out: &mut Printed)
+        requires empty { out.old.items ≡ [] }
+        requires within { IsReplyWithin self reply_room }
+        ensures { out.new.items
+            ≡ long_digits number ++ codes " " ++ outcome_text self memory.now ++ codes "\n" }
+    {
+        numbers::put_long(number, out);
+        out.push(b' ');
+        self.put(memory, out);
+        out.push(b'\n');
     }
 }

@@ -2,6 +2,11 @@
 // of power and lamps, from the sample set-up or from that of a stored form.
 #![tactic(auto)]
 
+mod logs;
+mod playing;
+#[cfg(test)]
+mod tests;
+
 use formfile::Begun;
 use program::about::About;
 use program::outside::System;
@@ -44,8 +49,10 @@ impl Telling for Replay {
         from: &mut Reader<R>,
         to: &mut W,
     ) -> Result<Ending, Failure> {
-        let _player = floorlog::replay(begun.device, from, to)?;
-        Ok(Ending::Whole)
+        match logs::replay_log(begun.device, begun.sum, from, to)? {
+            None => Ok(Ending::Whole),
+            Some(line) => Ok(Ending::Stray(line)),
+        }
     }
 }
 

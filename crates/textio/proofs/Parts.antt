@@ -117,7 +117,14 @@ module _ (old new : Option (List ℕ)) (memory : List ℕ) where
             ∙ append-nil p.part in
             let none : later ≡ [] = keeps ∙ end in
             let long : 0 < length p.part =
-            omega (arith, some, ap length p.kept, length-take held memory, length-take (length memory) p.part, p.inside) in record {
+            omega (
+              arith,
+              some,
+              ap length p.kept,
+              length-take held memory,
+              length-take (length memory) p.part,
+              p.inside,
+            ) in record {
               first = record { text = p.part; ended = false };
               later = later;
               lines = ap lines_in e ∙ lines_last p.part p.one_line long

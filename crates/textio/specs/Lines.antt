@@ -9,7 +9,8 @@
 --   HasEndlessLine log  a log has a line of as many bytes
 --   IsTooLong log       a log has as many lines, or a line of as many bytes
 -- Assumes nothing.
-use Rattle.std.specs.Prelude.{ℕ, ◌≤◌, ◌⊎◌, Bool, true, false, List, [], ◌∷◌, ◌++◌, Any, length, map, if◌then◌else◌, ◌==◌}
+use Rattle.std.specs.Prelude.{ℕ, ◌≤◌, ◌⊎◌, Bool, true, false, List, [], ◌∷◌, ◌++◌, Any, length, map, if◌then◌else◌}
+use Rattle.std.specs.Prelude.{◌==◌}
 use Rattle.std.specs.Prelude.{codes}
 use Rattle.text.specs.Words.{◌is◌}
 

@@ -77,8 +77,8 @@ pub fn flush_before_read<R: ByteSource, W: ByteSink>(from: &Reader<R>, to: &mut 
 }
 
 /// The next line without its LF, from the start of the lent memory: its length, if there is one, and whether an LF
-/// ended it. Of a line that is longer than that memory only so much is kept. A read may wait, so what waits at the sink of what is printed is
-/// handed on before each.
+/// ended it. Of a line that is longer than that memory only so much is kept. A read may wait, so what waits at the sink
+/// of what is printed is handed on before each.
 pub fn next_line<R: ByteSource, W: ByteSink>(
     from: &mut Reader<R>,
     to: &mut W,

@@ -1,0 +1,4 @@
+pub mod Made
+pub mod HistoryPlayed
+pub mod LinesPlayed
+pub mod LogsPlayed

@@ -1,0 +1,4 @@
+pub mod HistoryText
+pub mod LogText
+pub mod HistoryMade
+pub mod HistoryPlaying
