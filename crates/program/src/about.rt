@@ -1,7 +1,7 @@
 // What a program says of itself.
 
 /// The version of the C face that these programs belong to, and the kit that they are proved with.
-pub const VERSION: &str = "11 (rattle-kit-13f logic dac8208d650f15bf)\n";
+pub const VERSION: &str = "12 (rattle-kit-13f logic dac8208d650f15bf)\n";
 
 /// What a program says of itself. Each text ends with LF.
 #[derive(Clone, Copy)]
