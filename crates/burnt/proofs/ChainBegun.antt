@@ -135,6 +135,11 @@ pub chain_untold : (t : ChainTeller) → t.lines ≡ 0 → t.watch.time ≡ 0 �
     → IsTooLong log ⊎ ChainOverflows t (kept_lines log) → IsChainUntold log
 chain_untold t lines time log (inl e) = inl e
 chain_untold t lines time log (inr (inl h)) =
-    inl (inl (omega (arith, h, lines, length-map (lines_in log) kept,
-    length-map (lines_in log) (λ (l : LogLine). l.text))))
+    inl (inl (omega (
+      arith,
+      h,
+      lines,
+      length-map (lines_in log) kept,
+      length-map (lines_in log) (λ (l : LogLine). l.text),
+    )))
 chain_untold t lines time log (inr (inr h)) = inr (omega (arith, h, time))

@@ -36,10 +36,10 @@ steps_in d sum ls =
     else floor_steps d (map floor_event (texts_of ls))
 
 pub record IsToldSoFar (d : Device) (sum : ℕ) (drawn : Bool) (log left : List ℕ) (old new : Option (List ℕ)) : Type 0
-    where
-  pub lines_told : List LogLine
-  pub part : List ℕ
-  pub one_line : All (λ b. b ≢ 10) part
-  pub lines : kept_lines log ≡ lines_told ++ kept_lines (part ++ left)
-  pub printed : let r = report_new drawn in Appends old new (begun_text r
-      ++ tellings_text r (told_within (watching_from d) (steps_in d sum lines_told)))
+  where
+    pub lines_told : List LogLine
+    pub part : List ℕ
+    pub one_line : All (λ b. b ≢ 10) part
+    pub lines : kept_lines log ≡ lines_told ++ kept_lines (part ++ left)
+    pub printed : let r = report_new drawn in Appends old new (begun_text r
+        ++ tellings_text r (told_within (watching_from d) (steps_in d sum lines_told)))

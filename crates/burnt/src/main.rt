@@ -5,9 +5,9 @@
 
 mod chained;
 mod telling;
-pub mod theorems;
 #[cfg(test)]
 mod tests;
+pub mod theorems;
 
 use floorlog::cut;
 use record::types::Device;

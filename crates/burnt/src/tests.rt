@@ -115,8 +115,9 @@ fn four_places_and_a_password(rt: HostRuntime) {
         let mut to = Taken::new(most, 64);
         let told = tell_log(secured(), SUM, false, &mut recorded(log, most), &mut to);
         assert!(rt; matches!(told, Ok(None)));
-        assert!(rt; to.text()
-            == b"lamp 1 from 100 to 130\nlamp 1 start 0 burnt 30 now 30\n".as_slice());
+        assert!(rt;
+            to.text() == b"lamp 1 from 100 to 130\nlamp 1 start 0 burnt 30 now 30\n".as_slice()
+        );
     }
 }
 
@@ -133,8 +134,7 @@ fn a_log_that_was_cut(rt: HostRuntime) {
         }
         _ => assert!(rt; false),
     }
-    assert!(rt; to.text()
-        == b"lamp 1 start 0 burnt 0 now 0\n! line 3: no line end\n".as_slice());
+    assert!(rt; to.text() == b"lamp 1 start 0 burnt 0 now 0\n! line 3: no line end\n".as_slice());
 }
 
 // It is not told at all.
@@ -144,6 +144,5 @@ fn a_log_of_another_form(rt: HostRuntime) {
     let log = b"LOG 2 1 0a1b2c3e\nO 0 498e4a67\nT 5\n";
     let told = tell_log(secured(), SUM, false, &mut recorded(log, 9), &mut to);
     assert!(rt; matches!(told, Ok(Some(_))));
-    assert!(rt; to.text()
-        == b"lamp 1 start 0 burnt 0 now 0\n! line 1: another sum\n".as_slice());
+    assert!(rt; to.text() == b"lamp 1 start 0 burnt 0 now 0\n! line 1: another sum\n".as_slice());
 }
