@@ -1,8 +1,8 @@
 -- A log of the second kind told line by line: one that belongs, and one that does not.
 -- Assumes nothing.
-use Rattle.std.proofs.Common.{ℕ, suc, ◌+◌, ◌-◌, ◌^◌, ◌≤◌, ◌≡◌, refl, sym, subst, ap, ◌∙◌, Bool, true, false, ◌&&◌}
+use Rattle.std.proofs.Common.{ℕ, ◌+◌, ◌-◌, ◌≡◌, refl, sym, subst, ap, ◌∙◌, Bool, true, false, ◌&&◌}
 use Rattle.std.proofs.Common.{List, [], ◌∷◌, ◌++◌, arith, length, min, nat_lt, if◌then◌else◌, sum_by}
-use Rattle.std.proofs.Common.{Option, Some, None, option_map, Result, Ok, Err}
+use Rattle.std.proofs.Common.{Option, Some, None, option_map}
 use Rattle.std.proofs.lemmas.List.Sums.{sum_by-cons}
 use Rattle.record.specs.Limits.{is_lit}
 use Rattle.record.specs.declared.types.Settings.{Settings}
@@ -13,12 +13,12 @@ use Rattle.textio.specs.Lines.{LogLine, texts_of}
 use Rattle.textio.proofs.Fronts.{front_more}
 use Rattle.history.specs.Entries.{LogEntry}
 use Rattle.history.specs.declared.recorder.Recorder.{Recorder}
-use Rattle.recorded.specs.Chain.{Misfit, device_made, log_made}
-use Rattle.recorded.specs.Following.{line_told, belonging, FirstStray, stray_from, stray_text}
+use Rattle.recorded.specs.Chain.{Misfit, device_made}
+use Rattle.recorded.specs.Following.{belonging, FirstStray, stray_from, stray_text}
 use Rattle.recorded.proofs.Followed.{line_said, belonging_more, belonging_stray, stray_more, stray_here}
 use Rattle.watch.specs.CallSteps.{said_seconds, seconds_of_said, entry_step, entry_steps}
 use Rattle.watch.specs.Watching.{Step, Watching, is_burning_in, is_long}
-use Rattle.watch.specs.Telling.{telling_if, told_at_end, after_log}
+use Rattle.watch.specs.Telling.{telling_if, after_log}
 use Rattle.watch.specs.States.{IsLeft, IsLineMade, IsLineStray}
 use Rattle.report.specs.Reports.{report_told, told_text, ended_until}
 use Rattle.report.specs.declared.Report.{Report}
@@ -103,7 +103,8 @@ module _ (starts : List ℕ) (n : ℕ) (log : Recorder) (r : Report) (s : Watchi
           ≡ tellings_text r (telling_if ended after) ++ chain_told_from starts None (n + 1) later next after ls
       made_told {next} told =
           let end = chain_ended starts (n + 1 + length es) (stray_from (n + 1) later after.device ls) in
-          (λ i. told_from (chain_ended starts (n + length (entries i)) (stray i)) r s (entry_steps s.device (entries i)))
+          (λ i. told_from (chain_ended starts (n + length (entries i)) (stray i)) r s
+          (entry_steps s.device (entries i)))
           ∙ (λ i. told_from
           (chain_ended starts (counted i) (stray_from (n + 1) later after.device ls)) r s
           (entry_step s.device m.entry ∷ steps))

@@ -1,9 +1,11 @@
 -- What `burnt` writes of a log of either kind.
---   told d sum drawn log     what is written of a whole log that begins with the device d, of which the form has that sum
+--   told d sum drawn log     what is written of a whole log that begins with the device d, of which the form has that
+--                            sum
 --   stray_in d sum log       its first line that does not belong; none does in a log of the first kind
 --   IsTooMuch log            it can't be told to its end
 --   steps_in d sum ls        the steps of its lines ls, from the first on
---   IsToldSoFar d sum drawn log left ..   the sink got what is told by the lines that have ended in what was read of the
+--   IsToldSoFar d sum drawn log left ..   the sink got what is told by the lines that have ended in what was read of
+--                                         the
 --                            log, where this is left
 -- Assumes nothing.
 use Rattle.std.specs.Prelude.{ℕ, ◌≡◌, ◌≢◌, Bool, List, ◌++◌, All, map, if◌then◌else◌, MatchBool, Option, None}
