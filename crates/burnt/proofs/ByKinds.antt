@@ -1,8 +1,8 @@
 -- A log of either kind, as the observer of its kind tells it.
 -- Assumes nothing.
-use Rattle.std.proofs.Common.{ℕ, ◌+◌, ◌^◌, ◌≤◌, ◌≡◌, refl, sym, subst, ap, ◌∙◌, Bool, true, false, List, [], ◌∷◌, ◌++◌}
-use Rattle.std.proofs.Common.{arith, length, ◌⊎◌, inl, inr, map, if◌then◌else◌, sum_by, MatchBool}
-use Rattle.std.proofs.Common.{Option, Some, None, option_map}
+use Rattle.std.proofs.Common.{ℕ, ◌+◌, ◌^◌, ◌≤◌, ◌≡◌, refl, sym, subst, ap, ◌∙◌, Bool, true, false, List, [], ◌++◌}
+use Rattle.std.proofs.Common.{length, ◌⊎◌, inl, inr, map, if◌then◌else◌, sum_by, MatchBool}
+use Rattle.std.proofs.Common.{Option, None}
 use Rattle.std.specs.Io.KnownBytes.{Appends}
 use Rattle.std.proofs.KnownBytes.{Appends-trans}
 use Rattle.text.proofs.Choices.{if_yes, if_no}
@@ -13,15 +13,15 @@ use Rattle.floorlog.specs.Kinds.{is_history, is_history_from}
 use Rattle.floorlog.specs.Observing.{BreaksOff}
 use Rattle.floorlog.specs.declared.kinds.ByKind.{ByKind}
 use Rattle.floorlog.specs.declared.kinds.Kind.TheVariants.{Unbegun}
-use Rattle.recorded.specs.Following.{chain_begun, FirstStray, stray_seen}
-use Rattle.watch.specs.Marking.{floor_event, floor_steps, seconds_by}
+use Rattle.recorded.specs.Following.{chain_begun}
+use Rattle.watch.specs.Marking.{floor_event, seconds_by}
 use Rattle.watch.specs.Watching.{Watching, watching_from}
 use Rattle.watch.specs.States.{state_of}
 use Rattle.report.specs.Reports.{report_new, begun_text}
 use Rattle.report.specs.declared.Report.{Report}
 use Rattle.burnt.specs.Told.{tellings_text, told_within, log_told, IsUntold}
 use Rattle.burnt.specs.ChainTold.{chain_told, chain_stray, IsChainUntold}
-use Rattle.burnt.specs.ChainTelling.{stray_now, stray_then, teller_writes, IsChainLeft, ChainOverflows}
+use Rattle.burnt.specs.ChainTelling.{stray_now, teller_writes, IsChainLeft, ChainOverflows}
 use Rattle.burnt.specs.LogTold.{told, stray_in, steps_in, IsTooMuch, IsToldSoFar}
 use Rattle.burnt.specs.declared.telling.Teller.{Teller}
 use Rattle.burnt.specs.declared.chained.ChainTeller.{ChainTeller}
@@ -117,7 +117,8 @@ module _ {begun : Device} {sum : ℕ} {drawn : Bool} {o : Both} (n : IsBegun beg
           → begun_text (report_new drawn)
           ++ (if t then teller_writes o.history (kept_lines log) else teller_told o.events (kept_lines log))
           ≡ (if t then chain_told begun sum drawn log else log_told begun drawn log)
-      by true = chain_begins begun sum drawn o.history n.chain_starts n.chain_report n.chain_watch n.log n.lines n.stray log
+      by true =
+          chain_begins begun sum drawn o.history n.chain_starts n.chain_report n.chain_watch n.log n.lines n.stray log
       by false = teller_begun begun drawn o.events n.starts n.report n.watch log
 
   pub too_much : (log : List ℕ) → IsTooLong log ⊎ Overflows o (kept_lines log) → IsTooMuch log
@@ -153,7 +154,8 @@ module _ {begun : Device} {sum : ℕ} {drawn : Bool} {o : Both} (n : IsBegun beg
           (TellerLeft o.events (kept_lines log) last.events)
           → (if t then stray_now last.history else None) ≡ (if t then chain_stray begun sum log else None)
       by true h =
-          h.stray ∙ begun_stray begun sum drawn o.history n.chain_starts n.chain_report n.chain_watch n.log n.lines n.stray
+          h.stray
+          ∙ begun_stray begun sum drawn o.history n.chain_starts n.chain_report n.chain_watch n.log n.lines n.stray
           (kept_lines log)
       by false h = refl
 

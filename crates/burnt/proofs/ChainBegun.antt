@@ -1,6 +1,6 @@
 -- A log of the second kind from its beginning, and where a read of it fails.
 -- Assumes nothing.
-use Rattle.std.proofs.Common.{ℕ, ◌+◌, ◌*◌, ◌^◌, ◌≤◌, ◌≡◌, refl, sym, subst, ap, ◌∙◌, Bool, List, [], ◌∷◌, ◌++◌, map}
+use Rattle.std.proofs.Common.{ℕ, ◌+◌, ◌*◌, ◌^◌, ◌≤◌, ◌≡◌, refl, sym, subst, ap, ◌∙◌, Bool, List, [], ◌∷◌, ◌++◌}
 use Rattle.std.proofs.Common.{arith, length, inl, inr, ◌⊎◌, ⊎_elim, sum_by, Option, Some, None, option_map}
 use Rattle.std.proofs.lemmas.List.{length-map}
 use Rattle.std.proofs.lemmas.List.Sums.{sum_by-cons}
@@ -9,8 +9,6 @@ use Rattle.clock.specs.Passing.{seconds_most}
 use Rattle.textio.specs.Lines.{LogLine, texts_of, lines_in, lines_of, IsTooLong}
 use Rattle.textio.proofs.LinesCounted.{lines_fit, too_long_bytes}
 use Rattle.floorlog.specs.Kept.{kept, kept_lines}
-use Rattle.history.specs.Calls.{LogCall}
-use Rattle.history.specs.Entries.{LogEntry, header, call, stated, entry_in}
 use Rattle.recorded.specs.Following.{chain_begun, FirstStray, belonging}
 use Rattle.recorded.proofs.Followed.{belonging_none, stray_none}
 use Rattle.watch.specs.CallSteps.{entry_steps, said_seconds}
@@ -135,6 +133,11 @@ pub chain_untold : (t : ChainTeller) → t.lines ≡ 0 → t.watch.time ≡ 0 �
     → IsTooLong log ⊎ ChainOverflows t (kept_lines log) → IsChainUntold log
 chain_untold t lines time log (inl e) = inl e
 chain_untold t lines time log (inr (inl h)) =
-    inl (inl (omega (arith, h, lines, length-map (lines_in log) kept,
-    length-map (lines_in log) (λ (l : LogLine). l.text))))
+    inl (inl (omega (
+      arith,
+      h,
+      lines,
+      length-map (lines_in log) kept,
+      length-map (lines_in log) (λ (l : LogLine). l.text),
+    )))
 chain_untold t lines time log (inr (inr h)) = inr (omega (arith, h, time))

@@ -25,7 +25,8 @@ use Rattle.burnt.specs.ChainTold.{entries_left, stray_left, chain_ended, chain_t
 use Rattle.burnt.specs.ChainTelling.{stray_now, entries_of, stray_then, teller_writes, IsChainLeft, ChainOverflows}
 use Rattle.burnt.specs.declared.chained.ChainTeller.{ChainTeller}
 use Rattle.burnt.proofs.TellingsTold.{report_within_none}
-use Rattle.burnt.proofs.ChainLines.{made_cut, entries, stray, made_told, made_reported, made_left, made_seconds, stray_told}
+use Rattle.burnt.proofs.ChainLines.{made_cut, entries, stray, made_told, made_reported, made_left, made_seconds}
+use Rattle.burnt.proofs.ChainLines.{stray_told}
 
 -- what is left is as it was
 pub is_left_itself : (s : Watching) → IsLeft s s

@@ -1,9 +1,9 @@
 -- What is written of a log that a host recorded tells the history of the host's calls.
 -- Assumes nothing.
-use Rattle.std.proofs.Common.{ℕ, ◌+◌, ◌≤◌, ◌<◌, ◌^◌, ◌≡◌, ◌≢◌, refl, sym, subst, ap, ◌∙◌, Bool, true, false, List, []}
+use Rattle.std.proofs.Common.{ℕ, ◌+◌, ◌≤◌, ◌<◌, ◌^◌, ◌≡◌, refl, sym, subst, ap, ◌∙◌, Bool, true, false, List, []}
 use Rattle.std.proofs.lemmas.List.{map-append}
-use Rattle.std.proofs.Common.{◌∷◌, ◌++◌, arith, length, take, map, append-nil, take_all, slice_index_or, All}
-use Rattle.std.proofs.Common.{◌⊎◌, inl, inr, min, Option, Some, None, option_map, if◌then◌else◌, ◌==◌}
+use Rattle.std.proofs.Common.{◌∷◌, ◌++◌, arith, length, take, map, append-nil, take_all, All}
+use Rattle.std.proofs.Common.{min, Option, Some, None, option_map, ◌==◌}
 use Rattle.std.proofs.lemmas.List.Elements.{All-head, All-tail}
 use Rattle.text.proofs.Choices.{if_yes, if_no}
 use Rattle.record.specs.Wanted.{Wanted}
@@ -11,25 +11,23 @@ use Rattle.record.specs.declared.types.Device.{Device}
 use Rattle.record.proofs.LegalTold.{settings_of_legal}
 use Rattle.ours.specs.Board.{ours}
 use Rattle.demands.specs.Calls.{Call}
-use Rattle.demands.specs.CountsSeconds.{Beginning, IsAccepted, start_marks, begun_by, history_of}
+use Rattle.demands.specs.CountsSeconds.{Beginning, IsAccepted, begun_by, history_of}
 use Rattle.demands.proofs.CountsSeconds.{ours_counts_seconds}
 use Rattle.demands.proofs.HistoryTold.{begun_agrees}
 use Rattle.textio.specs.Lines.{LogLine, ended_line, last_line, lines_ended, cut_end}
 use Rattle.textio.proofs.LinesEnded.{lines_spelt}
 use Rattle.floorlog.specs.Kept.{kept_most, kept, kept_lines}
 use Rattle.history.specs.Entries.{LogEntry}
-use Rattle.history.specs.declared.recorder.Recorder.{Recorder}
 use Rattle.recorded.specs.Recorded.{recorded}
-use Rattle.recorded.specs.Playing.{entry_calls}
-use Rattle.recorded.specs.Chain.{unended, Followed, followed}
-use Rattle.recorded.specs.Following.{chain_begun, belonging, FirstStray, stray_from, stray_text, line_told}
+use Rattle.recorded.specs.Chain.{Followed, followed}
+use Rattle.recorded.specs.Following.{chain_begun, belonging, FirstStray, stray_from, stray_text}
 use Rattle.recorded.specs.Hosts.{HostStep, host_log, step_calls, host_left, AreKept, AreTypedSteps}
 use Rattle.recorded.proofs.Believed.{believed, front_believed}
 use Rattle.recorded.proofs.Followed.{belonging_none, stray_none, line_unended, belonging_stray, stray_here}
 use Rattle.recorded.proofs.FollowedSays.{Says, followed_says}
 use Rattle.recorded.proofs.HostsEnd.{host_log_ends}
 use Rattle.watch.specs.CallSteps.{entry_steps}
-use Rattle.watch.specs.Watching.{Watching, watching_from, burnt_by}
+use Rattle.watch.specs.Watching.{watching_from, burnt_by}
 use Rattle.watch.specs.Telling.{tellings, after_log}
 use Rattle.stretches.specs.LogTold.{StepsTold}
 use Rattle.stretches.proofs.CallsTell.{is_legal-begun_by}

@@ -1,6 +1,7 @@
 -- A log told step by step: what a step gives, and what the steps give that follow it, are what the log with it gives.
 -- Assumes nothing.
-use Rattle.std.proofs.Common.{None, Some, IfSome, ℕ, ◌≡◌, refl, sym, subst, ap, ◌∙◌, Bool, ◌&&◌, List, [], ◌∷◌, ◌++◌, append-nil}
+use Rattle.std.proofs.Common.{None, Some, IfSome, ℕ, ◌≡◌, sym, subst, ap, ◌∙◌, Bool, ◌&&◌, List, [], ◌∷◌, ◌++◌}
+use Rattle.std.proofs.Common.{append-nil}
 use Rattle.std.specs.declared.option.Option.{Option}
 use Rattle.std.specs.Io.KnownBytes.{Appends}
 use Rattle.std.proofs.KnownBytes.{Appends-trans}
@@ -14,7 +15,6 @@ use Rattle.watch.specs.Watching.{Step, Watching, dark_with, is_long}
 use Rattle.watch.specs.Telling.{told_on, telling_if, after_log}
 use Rattle.watch.specs.States.{IsWatched}
 use Rattle.watch.proofs.TellingsSpelt.{after_more}
-use Rattle.report.specs.Reports.{begun_text}
 use Rattle.report.specs.declared.Report.{Report}
 use Rattle.burnt.specs.Told.{tellings_text, report_after, told_from, told_within}
 use Rattle.burnt.proofs.TellingsTold.{told_more, told_end, report_within}
@@ -75,7 +75,8 @@ begun_cut (Some log) old now begun told whole is f =
     subst (WritesFront old now) (is log) (front_more old now _ _ f)
 
 -- what was written of the lines that have ended, where a read fails
-pub broken_text : {S : Type 0} {output : S → List LogLine → List ℕ} {Leaves : S → List LogLine → S → Type 0} {s after : S}
+pub broken_text : {S : Type 0} {output : S → List LogLine → List ℕ} {Leaves : S → List LogLine → S → Type 0}
+    {s after : S}
     {log left : List ℕ} {old now : Option (List ℕ)} (b : BreaksOff output Leaves s after log left old now)
     → output s b.told ≡ b.text ++ output after []
 broken_text {output = output} {s = s} b = ap (output s) (sym (append-nil b.told)) ∙ b.then []

@@ -2,7 +2,8 @@
 -- not belong, and then of that one.
 --   entries_left s r d ls    what the lines ls say that belong, where s is a line before them that did not;
 --   stray_left s n r d ls    and the first that does not
---   chain_ended starts n stray r s   what stands at the end of a log that began with these seconds of its lamps and leaves
+--   chain_ended starts n stray r s   what stands at the end of a log that began with these seconds of its lamps and
+--                                    leaves
 --                            the state s, n lines of which belong
 --   chain_told_from ..       what is written of the lines ls
 --   chain_told d sum drawn log    what is written of a whole log that begins with the device d, on a page or as lines

@@ -1,13 +1,16 @@
 -- What `burnt` writes of a log that a host recorded, beside demand 3's history of the calls that the host made (RULES,
 -- History of a board).
---   HistoryTold b w hs drawn t    the text t tells the history hs, as lines or on a page: stretches as they end, and then
+--   HistoryTold b w hs drawn t    the text t tells the history hs, as lines or on a page: stretches as they end, and
+--                                 then
 --                                 each lamp's seconds at the start, burnt and now; until when it goes, on a page; and a
 --                                 line that does not belong, if one does not
---   HostsTold                     that is so of all that a host writes, however its board began: each line belongs; and of
---                                 what is left of it, cut at any byte, for a front of what the host did: then no more than
+--   HostsTold                     that is so of all that a host writes, however its board began: each line belongs;
+--                                 and of
+--                                 what is left of it, cut at any byte, for a front of what the host did: then no more
+--                                 than
 --                                 the last line does not belong, for want of its LF
 -- Assumes nothing.
-use Rattle.std.specs.Prelude.{ℕ, ◌+◌, ◌≤◌, ◌<◌, ◌^◌, ◌≡◌, ◌⊎◌, Bool, List, ◌++◌, length, take, slice_index_or}
+use Rattle.std.specs.Prelude.{ℕ, ◌≤◌, ◌<◌, ◌^◌, ◌≡◌, Bool, List, ◌++◌, length, take, slice_index_or}
 use Rattle.std.specs.Prelude.{Option, Some, None, option_map}
 use Rattle.record.specs.Wanted.{Wanted}
 use Rattle.ours.specs.Board.{ours}
@@ -32,7 +35,8 @@ pub record HistoryTold (b : Beginning) (w : Wanted) (hs : List Event) (drawn : B
   pub burnt : List ℕ
   pub lasts : List ℕ
   pub written : let r = report_new drawn in text ≡ begun_text r ++ (tellings_text r told
-      ++ ended_until (report_after r told) seconds (length w.lamps) starts burnt lasts lines (option_map stray_text stray))
+      ++ ended_until (report_after r told) seconds (length w.lamps) starts burnt lasts lines
+      (option_map stray_text stray))
   -- of each lamp its stretches in the history
   pub stretches : (k : ℕ) → k < length w.lamps → StretchesTell w (start_marks b w) k hs (stretches_in k told)
   -- its seconds at the start, which are those of the settings

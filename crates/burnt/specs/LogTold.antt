@@ -1,9 +1,11 @@
 -- What `burnt` writes of a log of either kind.
---   told d sum drawn log     what is written of a whole log that begins with the device d, of which the form has that sum
+--   told d sum drawn log     what is written of a whole log that begins with the device d, of which the form has that
+--                            sum
 --   stray_in d sum log       its first line that does not belong; none does in a log of the first kind
 --   IsTooMuch log            it can't be told to its end
 --   steps_in d sum ls        the steps of its lines ls, from the first on
---   IsToldSoFar d sum drawn log left ..   the sink got what is told by the lines that have ended in what was read of the
+--   IsToldSoFar d sum drawn log left ..   the sink got what is told by the lines that have ended in what was read of
+--                                         the
 --                            log, where this is left
 -- Assumes nothing.
 use Rattle.std.specs.Prelude.{ℕ, ◌≡◌, ◌≢◌, Bool, List, ◌++◌, All, map, if◌then◌else◌, MatchBool, Option, None}
@@ -36,10 +38,10 @@ steps_in d sum ls =
     else floor_steps d (map floor_event (texts_of ls))
 
 pub record IsToldSoFar (d : Device) (sum : ℕ) (drawn : Bool) (log left : List ℕ) (old new : Option (List ℕ)) : Type 0
-    where
-  pub lines_told : List LogLine
-  pub part : List ℕ
-  pub one_line : All (λ b. b ≢ 10) part
-  pub lines : kept_lines log ≡ lines_told ++ kept_lines (part ++ left)
-  pub printed : let r = report_new drawn in Appends old new (begun_text r
-      ++ tellings_text r (told_within (watching_from d) (steps_in d sum lines_told)))
+  where
+    pub lines_told : List LogLine
+    pub part : List ℕ
+    pub one_line : All (λ b. b ≢ 10) part
+    pub lines : kept_lines log ≡ lines_told ++ kept_lines (part ++ left)
+    pub printed : let r = report_new drawn in Appends old new (begun_text r
+        ++ tellings_text r (told_within (watching_from d) (steps_in d sum lines_told)))

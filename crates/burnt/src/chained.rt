@@ -126,13 +126,6 @@ impl Observer for ChainTeller {
     fn end<W: ByteSink>(&mut self, to: &mut W) -> io::Result<()> {
         let mut report = self.report;
         tell_ended(self.watch.is_underway(), &mut report, &self.watch, to)?;
-        tell_end(
-            report,
-            &self.watch,
-            self.starts,
-            self.lines,
-            self.stray,
-            to,
-        )
+        tell_end(report, &self.watch, self.starts, self.lines, self.stray, to)
     }
 }

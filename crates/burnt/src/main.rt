@@ -4,9 +4,9 @@
 
 mod chained;
 mod telling;
-pub mod theorems;
 #[cfg(test)]
 mod tests;
+pub mod theorems;
 
 use formfile::Begun;
 use program::about::About;

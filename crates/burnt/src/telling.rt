@@ -120,11 +120,7 @@ impl Observer for Teller {
     fn end<W: ByteSink>(&mut self, to: &mut W) -> io::Result<()> {
         let mut report = self.report;
         tell_ended(self.watch.is_underway(), &mut report, &self.watch, to)?;
-        report.end(
-            to,
-            self.watch.time(),
-            totals_of(&self.watch, self.starts),
-        )
+        report.end(to, self.watch.time(), totals_of(&self.watch, self.starts))
     }
 }
 

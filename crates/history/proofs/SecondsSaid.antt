@@ -1,14 +1,14 @@
 -- A line says no more seconds than a call lets pass.
 -- Assumes nothing.
-use Rattle.std.proofs.Common.{ℕ, ◌≤◌, ◌≡◌, refl, sym, ap, subst, ◌∙◌, Bool, true, false, List, [], ◌∷◌, arith, Option, Some, None}
+use Rattle.std.proofs.Common.{ℕ, ◌≤◌, ◌≡◌, refl, sym, ap, subst, ◌∙◌, Bool, true, false, List, Option, Some, None}
 use Rattle.std.proofs.Common.{length, ◌&&◌, nat_le, leb-true, if◌then◌else◌}
 use Rattle.std.specs.List.{list_all}
 use Rattle.numbers.specs.Decimal.{digits, is_digit, decimal_value}
 use Rattle.text.proofs.Choices.{both_right}
 use Rattle.words.specs.Codec.{◌>>=◌}
-use Rattle.history.specs.Calls.{LogCall, passes}
+use Rattle.history.specs.Calls.{passes}
 use Rattle.history.specs.Lines.{number_most, is_shortest, call_text, decimal_in, passing_in, kind_in, call_in}
-use Rattle.history.specs.Entries.{LogEntry, call, entry_text, entry_in}
+use Rattle.history.specs.Entries.{call, entry_text, entry_in}
 use Rattle.history.proofs.OnlyLines.{only_line}
 
 abbrev is_read : List ℕ → Bool

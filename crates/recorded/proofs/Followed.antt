@@ -1,6 +1,7 @@
 -- A log followed, by what its next line is: one that belongs, or one that does not.
 -- Assumes nothing.
-use Rattle.std.proofs.Common.{ℕ, ◌+◌, ◌≡◌, refl, sym, ap, ◌∙◌, Bool, true, false, List, [], ◌∷◌, Option, Some, None, Result, Ok, Err}
+use Rattle.std.proofs.Common.{ℕ, ◌+◌, ◌≡◌, refl, sym, ap, ◌∙◌, Bool, true, false, List, [], ◌∷◌, Some, None, Result}
+use Rattle.std.proofs.Common.{Ok, Err}
 use Rattle.std.proofs.Common.{length-append}
 use Rattle.numbers.proofs.Digits.{digits_at_most_10, long_at_most_20}
 use Rattle.textio.specs.Lines.{LogLine}
@@ -10,7 +11,7 @@ use Rattle.history.specs.Entries.{LogEntry, entry_in}
 use Rattle.history.specs.declared.recorder.Recorder.{Recorder}
 use Rattle.recorded.specs.Chain.{Misfit, unended, entry_told, made_told, device_made, log_made}
 use Rattle.recorded.proofs.Chained.{entry_said}
-use Rattle.recorded.specs.Following.{as_made, and_made, line_told, said_then, belonging, FirstStray, stray_or, stray_from}
+use Rattle.recorded.specs.Following.{as_made, and_made, line_told, said_then, belonging, stray_or, stray_from}
 
 pub ruleset stray_lengths =
     (digits_at_most_10, long_at_most_20, length-append)

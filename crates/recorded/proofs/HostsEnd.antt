@@ -1,18 +1,14 @@
 -- What a host records ends with a line's end: nothing stands behind its last LF.
 -- Assumes nothing.
-use Rattle.std.specs.List.{list_all}
 use Rattle.std.proofs.lemmas.List.Elements.{All-nil}
 use Rattle.std.proofs.Common.{ℕ, ◌≡◌, ◌≢◌, refl, ap, ◌∙◌, Bool, true, false, List, [], ◌∷◌, ◌++◌, append_assoc, codes}
-use Prim.Native.Char.{code}
 use Rattle.text.specs.Outcomes.{WrittenAs}
 use Rattle.text.proofs.Choices.{if_yes, if_no}
 use Rattle.record.specs.declared.types.Device.{Device}
-use Rattle.demands.specs.Calls.{Call}
 use Rattle.textio.specs.Lines.{cut_end}
 use Rattle.textio.proofs.LinesEnded.{cut_last, cut_later}
 use Rattle.history.specs.Entries.{LogEntry, call, is_sayable_entry, entry_text, entry_line}
-use Rattle.history.specs.Shown.{device_shown}
-use Rattle.history.specs.Recording.{header_next, stated_next}
+use Rattle.history.specs.Recording.{header_next}
 use Rattle.history.specs.declared.recorder.Recorder.{Recorder}
 use Rattle.history.proofs.Chain.{Tried, served, refused, tried, stated_tried}
 use Rattle.history.proofs.Logs.{no_lf}
@@ -21,7 +17,8 @@ use Rattle.recorded.specs.Recorded.{is_served, recorded_call}
 use Rattle.recorded.specs.Hosts.{HostStep, begins, makes, states, step_written, recorder_by, device_by, host_log}
 
 -- a line that was written, or none
-line_end : (e : LogEntry) (more : List ℕ) → is_sayable_entry e ≡ true → cut_end [] (entry_line e ++ more) ≡ cut_end [] more
+line_end : (e : LogEntry) (more : List ℕ) → is_sayable_entry e ≡ true
+    → cut_end [] (entry_line e ++ more) ≡ cut_end [] more
 line_end e more h =
     ap (cut_end []) (append_assoc (entry_text e) (codes "\n") more)
     ∙ cut_later [] (entry_text e) more (no_lf (entry_text e) (entry_no_lf e h))

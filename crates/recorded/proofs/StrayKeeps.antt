@@ -1,7 +1,7 @@
 -- A line that does not belong changes no more of a record than its places.
 --   KeepsOwn e    the record e has the settings of d, and all that is not of a place
 -- Assumes nothing.
-use Rattle.std.proofs.Common.{ℕ, ◌≡◌, refl, sym, subst, Bool, true, false, ◌&&◌, arith, Result, Ok, Err}
+use Rattle.std.proofs.Common.{◌≡◌, refl, sym, subst, Bool, true, false, ◌&&◌, arith, Err}
 use Rattle.record.specs.declared.types.Device.{Device}
 use Rattle.device.specs.Calls.{reply_room}
 use Rattle.device.proofs.Untouched.{opening_keeps_settings, opening_keeps_own}

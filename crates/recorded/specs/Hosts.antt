@@ -9,7 +9,8 @@
 --   IsKept r d s n        if it is a call that is served, it is recorded;   AreKept r d ss   of each
 --   HaveRoom ss           each of them has the memory that any line fits in
 --   IsTypedStep s         its numbers are those that the code's types have;   AreTypedSteps ss   of each
---   host_left r d ss      where the steps leave the host itself: the recorder, the record, and its served calls with their
+--   host_left r d ss      where the steps leave the host itself: the recorder, the record, and its served calls with
+--                         their
 --                         replies
 -- Assumes nothing.
 use Rattle.std.specs.Prelude.{ℕ, ◌≡◌, ◌≤◌, true, List, [], ◌∷◌, ◌++◌, Option, if◌then◌else◌}

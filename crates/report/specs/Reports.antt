@@ -4,7 +4,8 @@
 --   told_text r lit from to           what is told of a stretch of the lamps whose marks of `lit` are set
 --   report_told r from to             how the log is told on: a page has the rows of that stretch
 --   ended_text r seconds n ..         the end of a log of so many seconds, with the totals of n lamps
---   ended_until r seconds n .. lines stray    the end of one of the second kind, of so many lines that belong to it: and
+--   ended_until r seconds n .. lines stray    the end of one of the second kind, of so many lines that belong to it:
+--                                             and
 --                                     what is said of the line that does not, if there is one
 --   stray_line s                      that as a line
 --   stray_said s                      that as the code has it

@@ -107,7 +107,8 @@ impl Report {
     ) -> io::Result<()>
         requires { t.count ≤ 8 }
         ensures { WritesText W.fails_with (W.contents out.old) (W.contents out.new) result
-            (ended_until self seconds t.count t.starts t.burnt t.lasts until.entry.lines (stray_said until.entry.stray)) }
+            (ended_until self seconds t.count t.starts t.burnt t.lasts until.entry.lines
+            (stray_said until.entry.stray)) }
     {
         match self {
             Report::Lines => {

@@ -90,7 +90,8 @@ pub fn end_until<W: ByteSink>(
 ) -> io::Result<()>
     requires { t.count ≤ 8 }
     ensures { WritesText W.fails_with (W.contents out.old) (W.contents out.new) result
-        (page_ended_until rows seconds t.count t.starts t.burnt t.lasts until.entry.lines (stray_said until.entry.stray)) }
+        (page_ended_until rows seconds t.count t.starts t.burnt t.lasts until.entry.lines
+        (stray_said until.entry.stray)) }
 {
     days::open_to(out, t.count as u64, rows, days_until(seconds))?;
     end_row(out)?;

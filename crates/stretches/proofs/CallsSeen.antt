@@ -1,8 +1,10 @@
 -- What someone outside sees of a call.
---   Seen g n xs         what is seen of a call that lets n seconds pass: nothing; its seconds; a power set; a mark, in a
+--   Seen g n xs         what is seen of a call that lets n seconds pass: nothing; its seconds; a power set; a mark,
+--                       in a
 --                       stage that is off
 -- Assumes nothing.
-use Rattle.std.proofs.Common.{ℕ, ◌≡◌, refl, sym, ap, subst, ◌∙◌, Bool, true, false, List, [], ◌∷◌, arith, replicate, ◌==◌}
+use Rattle.std.proofs.Common.{ℕ, ◌≡◌, refl, sym, ap, subst, ◌∙◌, Bool, true, false, List, [], ◌∷◌, arith, replicate}
+use Rattle.std.proofs.Common.{◌==◌}
 use Rattle.std.proofs.Common.{ne_eqb}
 use Rattle.std.specs.Prelude.{Result as Outcome, if◌then◌else◌}
 use Rattle.text.specs.Outcomes.{outcome_number}

@@ -10,17 +10,17 @@ use Rattle.record.proofs.Calls.{set_up_in_range}
 use Rattle.record.proofs.Started.{started_legal, set_up_started}
 use Rattle.stored.proofs.Results.{accepted_legal}
 use Rattle.ours.specs.Board.{ours}
-use Rattle.demands.specs.Calls.{Call, after}
+use Rattle.demands.specs.Calls.{Call}
 use Rattle.demands.specs.History.{Event, Streams, history, Stage, stage_is_burning, stage_from, marks_after}
 use Rattle.demands.specs.History.{streams_after, seen}
 use Rattle.demands.specs.CountsSeconds.{Beginning, start_marks, begun_by, IsAccepted, history_of}
 use Rattle.demands.proofs.Agrees.{Agrees, lit_shown, Then}
 use Rattle.demands.proofs.HistoryTold.{noted, begun_agrees}
 use Rattle.demands.proofs.KeepsRunning.{stays_legal}
-use Rattle.watch.specs.CallSteps.{call_step, call_steps, seconds_of_call}
+use Rattle.watch.specs.CallSteps.{call_step, call_steps}
 use Rattle.watch.specs.Watching.{Step, Watching, watching_from, is_burning_in, watched_on}
-use Rattle.stretches.specs.Stretches.{Stretch, stretch_if, stretches_of, is_lit_then, seconds_lit_from}
-use Rattle.stretches.specs.Stretches.{seconds_lit, StretchesTell}
+use Rattle.stretches.specs.Stretches.{Stretch, stretch_if, is_lit_then, seconds_lit_from}
+use Rattle.stretches.specs.Stretches.{StretchesTell}
 use Rattle.stretches.specs.LogTold.{is_marked_in, told_of}
 use Rattle.stretches.proofs.Joined.{joined}
 use Rattle.stretches.proofs.CallsSeen.{Seen, seen_of_call}

@@ -67,7 +67,8 @@ calls_leave (c ∷ cs) s =
 
 -- ---- a log of the second kind
 
-pub entries_are_steps : (es : List LogEntry) (d : Device) → StepsOf d (entry_steps d es) (map played_call (entry_calls es))
+pub entries_are_steps : (es : List LogEntry) (d : Device)
+    → StepsOf d (entry_steps d es) (map played_call (entry_calls es))
 entries_are_steps [] d = no_step
 entries_are_steps (header f s t ∷ es) d = no_call (entries_are_steps es d)
 entries_are_steps (call c ∷ es) d = a_call (played_call c) (entries_are_steps es (after ours d (played_call c)))

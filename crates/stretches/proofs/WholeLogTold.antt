@@ -1,7 +1,8 @@
 -- What is told of a whole log is, of each lamp, its stretches in demand 3's history of its calls, what it burnt, and
 -- what it has now.
 -- Assumes nothing.
-use Rattle.std.proofs.Common.{[], ◌∷◌, refl, ℕ, ◌≡◌, sym, ap, subst, ◌∙◌, Bool, true, false, List, arith, length, slice_index_or, map}
+use Rattle.std.proofs.Common.{[], ◌∷◌, refl, ℕ, ◌≡◌, sym, ap, subst, ◌∙◌, true, false, List, arith, length}
+use Rattle.std.proofs.Common.{slice_index_or, map}
 use Rattle.record.specs.Legal.{is_legal}
 use Rattle.record.specs.Wanted.{Wanted}
 use Rattle.record.specs.declared.types.Device.{Device}
@@ -20,12 +21,13 @@ use Rattle.history.specs.Entries.{LogEntry}
 use Rattle.recorded.specs.Recorded.{recorded}
 use Rattle.recorded.specs.Playing.{played_call, entry_calls}
 use Rattle.recorded.proofs.Histories.{history_back}
-use Rattle.watch.specs.CallSteps.{call_steps, entry_steps}
+use Rattle.watch.specs.CallSteps.{entry_steps}
 use Rattle.watch.specs.Watching.{Step, Watching, watching_from, burnt_by}
 use Rattle.watch.specs.Telling.{Telling, floor_events, log_steps}
 use Rattle.stretches.specs.Stretches.{StretchesTell}
 use Rattle.stretches.specs.LogTold.{calls_of, stretches_in, StepsTold, log_history}
-use Rattle.stretches.proofs.StepsOfCalls.{StepsOf, same_told, same_left, calls_leave, entries_are_steps, events_are_steps}
+use Rattle.stretches.proofs.StepsOfCalls.{StepsOf, same_told, same_left, calls_leave, entries_are_steps}
+use Rattle.stretches.proofs.StepsOfCalls.{events_are_steps}
 use Rattle.stretches.proofs.CallsTell.{is_legal-begun_by, call_stretches_tell}
 use Rattle.stretches.proofs.BurntAdds.{burnt_told}
 

@@ -1,8 +1,8 @@
 -- A line of a log of the second kind says no more seconds than a call lets pass.
 -- Assumes nothing.
-use Rattle.std.proofs.Common.{ℕ, ◌≤◌, ◌≡◌, refl, sym, ap, subst, arith, List, Option, Some, None}
+use Rattle.std.proofs.Common.{ℕ, ◌≤◌, ◌≡◌, refl, arith, List, Option, Some, None}
 use Rattle.clock.specs.Passing.{seconds_most}
-use Rattle.history.specs.Calls.{LogCall, opens, receives, passes, closes, marks, reports, enables}
+use Rattle.history.specs.Calls.{opens, receives, passes, closes, marks, reports, enables}
 use Rattle.history.specs.Entries.{LogEntry, header, call, stated, entry_in}
 use Rattle.history.proofs.SecondsSaid.{passing_most}
 use Rattle.watch.specs.CallSteps.{seconds_of_said, said_seconds}

@@ -1,4 +1,5 @@
--- The steps of a board's calls, at whatever place, and of a log of the second kind (RULES, History of a board), of which
+-- The steps of a board's calls, at whatever place, and of a log of the second kind (RULES, History of a board), of
+-- which
 -- only a call can leave another record or let seconds pass.
 --   seconds_of_call c    the seconds that a call lets pass
 --   call_step d c        the step of the call c, lent the device d;    call_steps d cs   the steps of the calls cs

@@ -113,7 +113,8 @@ impl Watch {
         }
     }
 
-    /// A line of a log of the first kind. It tells whether the line ended stretches: those of the lamps whose marks are set, from
+    /// A line of a log of the first kind. It tells whether the line ended stretches: those of the lamps whose marks
+    /// are set, from
     /// `from` to `time`. None where 64 bits cannot count the seconds that are then gone: nothing is done.
     pub fn play(&mut self, line: &KeptLine) -> Option<bool>
         ensures watched { IfSome result (IsWatched (state_of self.old)

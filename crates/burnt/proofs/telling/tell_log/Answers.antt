@@ -1,5 +1,5 @@
 -- what stands before the first stretch, and then what is told of the log, by the observer of its kind
-use Rattle.std.proofs.Common.{ap, refl, subst, arith, ◌^◌, List, ℕ}
+use Rattle.std.proofs.Common.{ap, subst, arith, ◌^◌}
 use Rattle.std.proofs.lemmas.Option.{IfSome_then}
 use Rattle.std.specs.Io.KnownBytes.{Appends}
 use Rattle.textio.specs.Ahead.{left_in}
@@ -10,7 +10,7 @@ use Rattle.floorlog.proofs.Observing.{on_failed}
 use Rattle.report.specs.Reports.{report_new, begun_text}
 use Rattle.burnt.specs.LogTold.{told, IsTooMuch}
 use Rattle.burnt.proofs.LinesTold.{begun_whole, begun_front, begun_cut}
-use Rattle.burnt.proofs.ByKinds.{writes, begun_so, too_much_bytes, all_told, too_much, stray_left_so, told_so_far}
+use Rattle.burnt.proofs.ByKinds.{writes, begun_so, too_much_bytes, all_told, too_much, told_so_far}
 use Rattle.burnt.proofs.telling.tell_log.Goals as goal
 
 pub returns-in_err-map_err-clause-front : goal.returns-in_err-map_err-clause-front
@@ -61,7 +61,8 @@ returns-in-Err-clause-broken g c =
     c.new-teller.ensures.observers c.new-teller.ensures.kind in
     on_failed c.in-Err.failure (λ p. IfSome_then (left_in g.R.ByteSource.remaining c.args.from.now) p
     (λ log q. IfSome_then (left_in g.R.ByteSource.remaining c.follow.new.from) q
-    (λ left b. told_so_far n (subst (Appends _ _) (ap begun_text c.new-report.ensures) (grind arith)) b))) c.in-Err.ensures.broken
+    (λ left b. told_so_far n (subst (Appends _ _) (ap begun_text c.new-report.ensures) (grind arith)) b)))
+    c.in-Err.ensures.broken
 
 pub returns-in-Err-clause-err : goal.returns-in-Err-clause-err
 returns-in-Err-clause-err g c =
@@ -69,7 +70,8 @@ returns-in-Err-clause-err g c =
     c.new.ensures.report c.new.ensures.starts c.new-2.result c.new-2.ensures.watch c.new-2.ensures.report
     c.new-2.ensures.starts c.new-2.ensures.log c.new-2.ensures.lines c.new-2.ensures.stray c.new-teller.result
     c.new-teller.ensures.observers c.new-teller.ensures.kind in
-    comes_of g.R.ByteSource.fails_with g.W.ByteSink.fails_with _ (left_in g.R.ByteSource.remaining c.args.from.now) c.in-Err.failure (too_much n)
+    comes_of g.R.ByteSource.fails_with g.W.ByteSink.fails_with _ (left_in g.R.ByteSource.remaining c.args.from.now)
+    c.in-Err.failure (too_much n)
     c.in-Err.ensures.err
 
 pub returns-in-Err-clause-short : goal.returns-in-Err-clause-short

@@ -1,12 +1,11 @@
 -- What the line says is made again, and moves the light on; a line that does not belong moves nothing.
 use Rattle.std.proofs.Common.{◌≡◌, ◌+◌, sym, subst, ◌∙◌, arith}
-use Rattle.record.specs.declared.types.Device.{Device}
 use Rattle.history.specs.Entries.{entry_seen}
 use Rattle.recorded.specs.Chain.{why_seen}
 use Rattle.watch.specs.CallSteps.{entry_step}
 use Rattle.watch.specs.States.{state_of}
 use Rattle.watch.proofs.Sound.{sound_from, burnt_fits}
-use Rattle.watch.proofs.OneLine.{line_watched, stays_sound}
+use Rattle.watch.proofs.OneLine.{stays_sound}
 use Rattle.recorded.proofs.StrayKeeps.{KeepsOwn, stray_keeps}
 use Rattle.watch.proofs.Strays.{is_left, left_sound}
 use Rattle.watch.proofs.Watch.make.Goals as goal

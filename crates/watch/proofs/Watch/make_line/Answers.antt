@@ -1,8 +1,8 @@
 -- A line that no LF ended, one that says nothing that stands there, and one that does.
-use Rattle.std.proofs.Common.{◌≡◌, sym, ap, ◌∙◌, List, ℕ, Ok, Err, Result, false, true}
+use Rattle.std.proofs.Common.{◌≡◌, sym, ap, ◌∙◌, Ok, false, true}
 use Rattle.floorlog.specs.KeptText.{kept_text, kept_line}
-use Rattle.history.specs.Entries.{LogEntry, entry_seen}
-use Rattle.recorded.specs.Chain.{Misfit, why_seen, entry_told}
+use Rattle.history.specs.Entries.{entry_seen}
+use Rattle.recorded.specs.Chain.{entry_told}
 use Rattle.watch.specs.States.{state_of}
 use Rattle.watch.proofs.Strays.{unended_strays, misfit_strays, line_made}
 use Rattle.watch.proofs.Watch.make_line.Goals as goal

@@ -43,7 +43,8 @@ returns-clause-watched c =
     let done = c.call.ensures ∙ ap (done_by s.device) c.read-event.ensures in
     let seconds = c.seconds_of-seconds.ensures ∙ ap seconds_by c.read-event.ensures in
     let timed : c.in_ok-time.time ≡ c.args.self.now.time + c.seconds_of-seconds.result = omega arith in
-    line_watched (floor_step s.device e) s done seconds timed c.is_burning_in-was.ensures c.follow.ensures.from c.follow.ensures.burnt
+    line_watched (floor_step s.device e) s done seconds timed c.is_burning_in-was.ensures c.follow.ensures.from
+    c.follow.ensures.burnt
     c.follow.ensures.told
 
 pub returns-clause-places : goal.returns-clause-places

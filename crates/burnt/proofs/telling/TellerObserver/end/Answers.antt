@@ -18,8 +18,15 @@ returns-clause-text g c =
     let t = c.args.self.now in
     subst (WritesText _ _ _ _) (sym (told_none (totals_text t.starts) t.report (state_of t.watch)))
     (writes_then (rw c.is_underway.ensures at c.in_ok-tell_ended.ensures.text)
-    (rw (c.in_ok-tell_ended.ensures.report, c.is_underway.ensures, c.time.ensures, c.totals_of.ensures.count,
-    c.totals_of.ensures.starts, c.totals_of.ensures.burnt, c.totals_of.ensures.lasts) at c.end.ensures))
+    (rw (
+      c.in_ok-tell_ended.ensures.report,
+      c.is_underway.ensures,
+      c.time.ensures,
+      c.totals_of.ensures.count,
+      c.totals_of.ensures.starts,
+      c.totals_of.ensures.burnt,
+      c.totals_of.ensures.lasts,
+    ) at c.end.ensures))
 
 pub returns-clause-left : goal.returns-clause-left
 returns-clause-left g c = grind (arith, after_none, report_within_none)
