@@ -37,6 +37,7 @@ pub mod tally;
 use crate::face::{Act, Answer, Device, InPlace, Lent, PLACES, PanelCall, Side};
 use crate::reference::in_place::mistaken;
 use crate::reference::rules::Rules;
+use crate::reference::sessions;
 use crate::reference::side::Second;
 use random::Random;
 use report::Difference;
@@ -84,6 +85,8 @@ pub struct Run<'a, B: Side> {
     pub agreed: usize,
     /// Of these, made in place too.
     pub in_place: usize,
+    /// Made in a session beside that, or telling the places that time closed.
+    pub named: usize,
     /// Of these, in the cases from before Class 2.
     agreed_before: usize,
     pub met: Tally,
@@ -93,7 +96,7 @@ impl<'a, B: Side> Run<'a, B> {
     pub fn new(seed: u64, board: &'a mut B) -> Run<'a, B> {
         let (random, random_2) = (Random::new(seed), Random::new(!seed));
         let (rules, met) = (Rules::Now, Tally::default());
-        Run { random, random_2, rules, board, agreed: 0, in_place: 0, agreed_before: 0, met }
+        Run { random, random_2, rules, board, agreed: 0, in_place: 0, named: 0, agreed_before: 0, met }
     }
 
     /// Everything, until enough comparisons agreed; or the smallest difference found.
@@ -140,11 +143,13 @@ impl<'a, B: Side> Run<'a, B> {
     }
 
     fn compare_now(&mut self, case: Case) -> Compared {
-        let (agreed, in_place, met) = (&mut self.agreed, &mut self.in_place, &mut self.met);
+        let (agreed, in_place, named) = (&mut self.agreed, &mut self.in_place, &mut self.named);
+        let met = &mut self.met;
         let count = |made: Made, act: &Act, answer: &Answer| {
             *match made {
                 Made::ByValue => &mut *agreed,
                 Made::InPlace => &mut *in_place,
+                Made::Named => &mut *named,
             } += 1;
             met.count(made, act, answer);
         };
@@ -366,6 +371,8 @@ impl<'a, B: Side> Run<'a, B> {
 pub enum Made {
     ByValue,
     InPlace,
+    /// In place, in a session that is named, or telling the places that time closed.
+    Named,
 }
 
 /// Where the two programs first differ in this case, if they do; `agree` hears of each call before that. Each call that
@@ -390,6 +397,14 @@ fn difference(case: &Case, board: &mut impl Side, mut agree: impl FnMut(Made, &A
                 return difference(Made::InPlace, lent, mistaken.unwrap_or(expected), left);
             }
             agree(Made::InPlace, act, &left);
+        }
+        for random in sessions::numbers(&device, act) {
+            let expected = sessions::named(&device, random, act, expected.clone());
+            let Some(given) = board.call_named(&device, random, act) else { break };
+            if given != expected {
+                return difference(Made::Named, &device, expected, given);
+            }
+            agree(Made::Named, act, &given);
         }
         device = given.device().copied().unwrap_or(device);
     }

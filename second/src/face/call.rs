@@ -140,6 +140,8 @@ pub enum Answer {
     Compared(Compared, Vec<i64>),
     Verdict(Verdict),
     Plan(Plan, Vec<u8>),
+    /// Of passing time that tells the places which it closed.
+    Passed(Changed, u32),
     /// Of no call by the rules: one that only reads the record that it is lent left this one there.
     Touched(Box<Device>),
 }

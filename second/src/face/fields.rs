@@ -188,6 +188,10 @@ impl Fields for Answer {
                 plan.list(path, into);
                 into.push(("lent places".into(), format!("{rigs:?}")));
             }
+            Answer::Passed(passed, closed) => {
+                passed.list(path, into);
+                into.push(("closed".into(), closed.to_string()));
+            }
             Answer::Touched(device) => device.list("the record that was only to be read", into),
         }
     }

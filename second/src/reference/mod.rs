@@ -32,6 +32,7 @@ pub mod record;
 pub mod replies;
 pub mod rules;
 pub mod service;
+pub mod sessions;
 pub mod set_up;
 #[cfg(test)]
 mod settled;

@@ -322,6 +322,9 @@ mistakes! {
     MarkOfAnotherInPlace: "a mark in place is set on the next lamp",
     NoPlaceTestedInPlace: "a record is legal in place whatever its connections are",
     FormNotWrittenInPlace: "storing in place tells the form's length and writes none",
+    NumberNotCompared: "bytes of an older session are served where its place was opened again",
+    ClosedBeforeToldClosed: "time tells the places that were closed before as closed by it",
+    OpenToldClosed: "time tells the places that stay open as closed by it",
 }
 
 thread_local! {

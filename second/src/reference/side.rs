@@ -1,6 +1,6 @@
 //! The second program as one of the two that are compared.
 
-use super::{calls, days, in_place, marks, panel, service, swap};
+use super::{calls, days, in_place, marks, panel, service, sessions, swap};
 use crate::face::{Act, Answer, Device, PanelAct, PanelCall, Side};
 
 pub struct Second;
@@ -13,6 +13,10 @@ impl Side for Second {
     fn call_in_place(&mut self, device: &Device, act: &Act) -> Answer {
         let by_value = self.call(device, act);
         in_place::mistaken(device, act, &by_value).unwrap_or(by_value)
+    }
+
+    fn call_named(&mut self, device: &Device, random: u32, act: &Act) -> Option<Answer> {
+        Some(sessions::named(device, random, act, self.call(device, act)))
     }
 
     fn call(&mut self, device: &Device, act: &Act) -> Answer {
