@@ -121,7 +121,6 @@ fn compare(seed: u64) -> ExitCode {
     match run.all() {
         Ok(agreed) => {
             println!("{}", run.met);
-            println!("{} calls in sessions, and of time that tells the places", run.named);
             println!("{agreed} comparisons agreed, {} of them in place too, seed {seed}", run.in_place);
             ExitCode::SUCCESS
         }

@@ -85,8 +85,6 @@ pub struct Run<'a, B: Side> {
     pub agreed: usize,
     /// Of these, made in place too.
     pub in_place: usize,
-    /// Made in a session beside that, or telling the places that time closed.
-    pub named: usize,
     /// Of these, in the cases from before Class 2.
     agreed_before: usize,
     pub met: Tally,
@@ -96,7 +94,7 @@ impl<'a, B: Side> Run<'a, B> {
     pub fn new(seed: u64, board: &'a mut B) -> Run<'a, B> {
         let (random, random_2) = (Random::new(seed), Random::new(!seed));
         let (rules, met) = (Rules::Now, Tally::default());
-        Run { random, random_2, rules, board, agreed: 0, in_place: 0, named: 0, agreed_before: 0, met }
+        Run { random, random_2, rules, board, agreed: 0, in_place: 0, agreed_before: 0, met }
     }
 
     /// Everything, until enough comparisons agreed; or the smallest difference found.
@@ -143,13 +141,12 @@ impl<'a, B: Side> Run<'a, B> {
     }
 
     fn compare_now(&mut self, case: Case) -> Compared {
-        let (agreed, in_place, named) = (&mut self.agreed, &mut self.in_place, &mut self.named);
-        let met = &mut self.met;
+        let (agreed, in_place, met) = (&mut self.agreed, &mut self.in_place, &mut self.met);
         let count = |made: Made, act: &Act, answer: &Answer| {
             *match made {
                 Made::ByValue => &mut *agreed,
                 Made::InPlace => &mut *in_place,
-                Made::Named => &mut *named,
+                Made::Named => return met.count(made, act, answer),
             } += 1;
             met.count(made, act, answer);
         };

@@ -125,6 +125,7 @@ fn place(act: &Act, answer: &Answer) -> Option<(&'static str, usize)> {
 fn kind(act: &Act, answer: &Answer) -> String {
     match answer {
         Answer::Changed(changed) | Answer::HandedOn(changed, _) => refusal_or(changed.number, "served"),
+        Answer::Passed(passed, closed) => refusal_or(passed.number, &closed.to_string()),
         Answer::Interleaved(..) => "served".to_string(),
         Answer::Setting(place) => format!("setting {place}"),
         Answer::Opened(opened, out) => refusal_or(opened.number, &reply(&out[..opened.length])),
@@ -141,7 +142,6 @@ fn kind(act: &Act, answer: &Answer) -> String {
         Answer::Compared(compared, _) => refusal_or(compared.number, if compared.backwards { "back" } else { "none" }),
         Answer::Verdict(verdict) => refusal_or(verdict.number, &format!("rule {}", verdict.rule)),
         Answer::Plan(plan, _) => refusal_or(plan.number, if plan.planned { "planned" } else { "unplanned" }),
-        Answer::Passed(passed, closed) => refusal_or(passed.number, &closed.to_string()),
         Answer::Touched(_) => "touched".to_string(),
     }
 }

@@ -123,6 +123,8 @@ pub struct Lent2 {
 #[derive(Clone, PartialEq, Eq, Debug)]
 pub enum Answer {
     Changed(Changed),
+    /// Of passing time that tells the places which it closed.
+    Passed(Changed, u32),
     Setting(u32),
     Opened(Opened, Vec<u8>),
     Received(Received, Vec<u8>),
@@ -140,8 +142,6 @@ pub enum Answer {
     Compared(Compared, Vec<i64>),
     Verdict(Verdict),
     Plan(Plan, Vec<u8>),
-    /// Of passing time that tells the places which it closed.
-    Passed(Changed, u32),
     /// Of no call by the rules: one that only reads the record that it is lent left this one there.
     Touched(Box<Device>),
 }

@@ -146,6 +146,10 @@ impl Fields for Answer {
         let lent = |memory: &[u8], into: &mut Vec<(String, String)>| into.push(("lent memory".into(), quoted(memory)));
         match self {
             Answer::Changed(changed) => changed.list(path, into),
+            Answer::Passed(passed, closed) => {
+                passed.list(path, into);
+                into.push(("closed".into(), closed.to_string()));
+            }
             Answer::Setting(place) => into.push(("setting".into(), place.to_string())),
             Answer::Opened(opened, memory) => {
                 opened.list(path, into);
@@ -187,10 +191,6 @@ impl Fields for Answer {
             Answer::Plan(plan, rigs) => {
                 plan.list(path, into);
                 into.push(("lent places".into(), format!("{rigs:?}")));
-            }
-            Answer::Passed(passed, closed) => {
-                passed.list(path, into);
-                into.push(("closed".into(), closed.to_string()));
             }
             Answer::Touched(device) => device.list("the record that was only to be read", into),
         }

@@ -317,14 +317,14 @@ mistakes! {
     ReplyNotWrittenInPlace: "receiving in place tells the reply's length and writes none",
     PassedIsLeftInPlace: "time in place gives the number and leaves the record",
     NoneAgesInPlace: "time in place passes at no place",
+    NumberNotCompared: "bytes of an older session are served where its place was opened again",
+    ClosedBeforeToldClosed: "time tells the places that were closed before as closed by it",
+    OpenToldClosed: "time tells the places that stay open as closed by it",
     FaultStaysInPlace: "the fault mark cannot be cleared in place",
     WorseDigitsInPlace: "an error digit in place replaces no higher one",
     MarkOfAnotherInPlace: "a mark in place is set on the next lamp",
     NoPlaceTestedInPlace: "a record is legal in place whatever its connections are",
     FormNotWrittenInPlace: "storing in place tells the form's length and writes none",
-    NumberNotCompared: "bytes of an older session are served where its place was opened again",
-    ClosedBeforeToldClosed: "time tells the places that were closed before as closed by it",
-    OpenToldClosed: "time tells the places that stay open as closed by it",
 }
 
 thread_local! {

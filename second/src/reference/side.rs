@@ -1,6 +1,7 @@
 //! The second program as one of the two that are compared.
 
-use super::{calls, days, in_place, marks, panel, service, sessions, swap};
+use super::sessions;
+use super::{calls, days, in_place, marks, panel, service, swap};
 use crate::face::{Act, Answer, Device, PanelAct, PanelCall, Side};
 
 pub struct Second;
