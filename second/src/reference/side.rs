@@ -1,6 +1,5 @@
 //! The second program as one of the two that are compared.
 
-use super::sessions;
 use super::{calls, days, in_place, marks, panel, service, swap};
 use crate::face::{Act, Answer, Device, PanelAct, PanelCall, Side};
 
@@ -17,7 +16,7 @@ impl Side for Second {
     }
 
     fn call_named(&mut self, device: &Device, random: u32, act: &Act) -> Option<Answer> {
-        Some(sessions::named(device, random, act, self.call(device, act)))
+        Some(super::sessions::named(device, random, act, self.call(device, act)))
     }
 
     fn call(&mut self, device: &Device, act: &Act) -> Answer {
