@@ -303,7 +303,8 @@ uint32_t pj_which_setting_2(const uint8_t *name, size_t name_len, const uint8_t 
 /* Opens a connection where a controller has connected, at the lowest place that is closed, and tells the place: the
    host names it in every later call for that socket. The reply is the greeting, and the host sends it. The random
    number has to be unpredictable: draw it anew for each connection from the system's source. Where it can be foreseen,
-   or comes again, a digest that was overheard lets an outsider in. Without a password any number will do.
+   or comes again, a digest that was overheard lets an outsider in. Without a password any number will do; a host that
+   names sessions, below, draws a new one all the same.
    Refuses with PJ_NOT_LEGAL, PJ_NO_ROOM or PJ_NO_PLACE. */
 CEILING_KEEP
 pj_opened pj_open(pj_device d, uint32_t random, uint8_t *out, size_t out_len);

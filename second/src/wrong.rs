@@ -47,6 +47,10 @@ mod tests {
             unmistaken(|| Second.call_in_place(device, act))
         }
 
+        fn call_named(&mut self, device: &Device, random: u32, act: &Act) -> Option<Answer> {
+            unmistaken(|| Second.call_named(device, random, act))
+        }
+
         fn cuts(&self) -> bool {
             true
         }
@@ -103,6 +107,9 @@ mod tests {
             ("pj_store_in_place", "served !1 !2"),
             ("pj_load_in_place", "served !20 !21 !22 !23"),
             ("pj_open_in_place", "!1 !2 !6"),
+            ("pj_receive_session_in_place", "!1 !2 !3 !4 none OK ERR1 ERR2 ERR3 ERR4 POWR %2OK %2INNM"),
+            ("pj_close_session_in_place", "served !1 !3 !4"),
+            ("pj_pass_telling_in_place", "!1 0 1 2 3 8 15"),
             ("pj_receive_in_place", "!1 !2 !3 !4 none OK ERR1 ERR2 ERR3 ERR4 POWR %2OK %2INNM"),
             ("streams in cuts, in place", "served !4"),
             ("streams at four places, in place", "served"),

@@ -39,6 +39,7 @@ pub mod tally;
 use crate::face::{Act, Answer, Device, InPlace, Lent, PLACES, PanelCall, Side};
 use crate::reference::in_place::mistaken;
 use crate::reference::rules::Rules;
+use crate::reference::sessions;
 use crate::reference::side::Second;
 use random::Random;
 use report::Difference;
@@ -152,6 +153,7 @@ impl<'a, B: Side> Run<'a, B> {
             *match made {
                 Made::ByValue => &mut *agreed,
                 Made::InPlace => &mut *in_place,
+                Made::Named => return met.count(made, act, answer),
             } += 1;
             met.count(made, act, answer);
         };
@@ -373,6 +375,8 @@ impl<'a, B: Side> Run<'a, B> {
 pub enum Made {
     ByValue,
     InPlace,
+    /// In place, in a session that is named, or telling the places that time closed.
+    Named,
 }
 
 /// Where the two programs first differ in this case, if they do; `agree` hears of each call before that. Each call that
@@ -397,6 +401,14 @@ fn difference(case: &Case, board: &mut impl Side, mut agree: impl FnMut(Made, &A
                 return difference(Made::InPlace, lent, mistaken.unwrap_or(expected), left);
             }
             agree(Made::InPlace, act, &left);
+        }
+        for random in sessions::numbers(&device, act) {
+            let expected = sessions::named(&device, random, act, expected.clone());
+            let Some(given) = board.call_named(&device, random, act) else { break };
+            if given != expected {
+                return difference(Made::Named, &device, expected, given);
+            }
+            agree(Made::Named, act, &given);
         }
         device = given.device().copied().unwrap_or(device);
     }

@@ -1,6 +1,6 @@
 //! A difference, said so that one can follow it by hand: the calls up to it, and the fields on which the two disagree.
 
-use super::{Case, Made};
+use super::{Case, Made, tally};
 use crate::face::fields::{Fields, quoted};
 use crate::face::{Act, Answer, Device, Lent2, Log, Panel, PanelAct, PanelCall, Part, Said};
 use std::fmt;
@@ -28,6 +28,7 @@ impl fmt::Display for Difference {
         match self.made {
             Made::ByValue => writeln!(f, "  {}", call(act))?,
             Made::InPlace => writeln!(f, "  {}", in_place(&call(act)))?,
+            Made::Named => writeln!(f, "  {}, by {}", call(act), tally::call_named(act))?,
         }
         if self.place > 0 || self.device != *self.case.start {
             writeln!(f, "  which is lent the record {}", record(&self.device, &Device::BLANK))?;

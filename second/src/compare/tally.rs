@@ -15,6 +15,10 @@ impl Tally {
             *self.0.entry((call_in_place(act), kind(act, answer))).or_default() += 1;
             return;
         }
+        if made == Made::Named {
+            *self.0.entry((call_named(act), kind(act, answer))).or_default() += 1;
+            return;
+        }
         *self.0.entry((call(act), kind(act, answer))).or_default() += 1;
         if let Some((call, place)) = place(act, answer) {
             let said = if place < PLACES { place.to_string() } else { "none".to_string() };
@@ -112,6 +116,15 @@ fn call_in_place(act: &Act) -> &'static str {
     }
 }
 
+pub fn call_named(act: &Act) -> &'static str {
+    match act {
+        Act::Close { .. } => "pj_close_session_in_place",
+        Act::Receive { .. } => "pj_receive_session_in_place",
+        Act::Pass { .. } | Act::PassInPlace { .. } => "pj_pass_telling_in_place",
+        _ => unreachable!("in no session"),
+    }
+}
+
 /// The place of a call, where it names one or tells of one.
 fn place(act: &Act, answer: &Answer) -> Option<(&'static str, usize)> {
     match (act, answer) {
@@ -126,6 +139,7 @@ fn place(act: &Act, answer: &Answer) -> Option<(&'static str, usize)> {
 fn kind(act: &Act, answer: &Answer) -> String {
     match answer {
         Answer::Changed(changed) | Answer::HandedOn(changed, _) => refusal_or(changed.number, "served"),
+        Answer::Passed(passed, closed) => refusal_or(passed.number, &closed.to_string()),
         Answer::Interleaved(..) => "served".to_string(),
         Answer::Setting(place) => format!("setting {place}"),
         Answer::Opened(opened, out) => refusal_or(opened.number, &reply(&out[..opened.length])),

@@ -142,6 +142,8 @@ pub struct Lent2 {
 #[derive(Clone, PartialEq, Eq, Debug)]
 pub enum Answer {
     Changed(Changed),
+    /// Of passing time that tells the places which it closed.
+    Passed(Changed, u32),
     Setting(u32),
     Opened(Opened, Vec<u8>),
     Received(Received, Vec<u8>),

@@ -147,6 +147,10 @@ impl Fields for Answer {
         let lent = |memory: &[u8], into: &mut Vec<(String, String)>| into.push(("lent memory".into(), quoted(memory)));
         match self {
             Answer::Changed(changed) => changed.list(path, into),
+            Answer::Passed(passed, closed) => {
+                passed.list(path, into);
+                into.push(("closed".into(), closed.to_string()));
+            }
             Answer::Setting(place) => into.push(("setting".into(), place.to_string())),
             Answer::Opened(opened, memory) => {
                 opened.list(path, into);

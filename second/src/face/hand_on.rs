@@ -11,6 +11,12 @@ pub trait Side {
     /// the record that lies there then.
     fn call_in_place(&mut self, device: &Device, act: &Act) -> Answer;
 
+    /// The same for receiving and closing in the session of that random number, and for passing time that tells the
+    /// places which it closed. None where no way leads to these calls.
+    fn call_named(&mut self, _device: &Device, _random: u32, _act: &Act) -> Option<Answer> {
+        None
+    }
+
     /// Whether a stream is handed on in the cuts that are asked for, or whole.
     fn cuts(&self) -> bool;
 

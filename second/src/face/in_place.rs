@@ -1,7 +1,7 @@
 //! The calls on a record that is lent, linked: `linked` has those by value, and what makes each call safe.
 
 use super::setting_up;
-use super::{Act, Answer, Changed, Device, Opened, Opening, Received, Receiving, Written};
+use super::{Act, Answer, Changed, Device, Opened, Opening, Passing, Received, Receiving, Written};
 
 unsafe extern "C" {
     fn pj_load_in_place(device: *mut Device, bytes: *const u8, length: usize) -> u32;
@@ -18,6 +18,17 @@ unsafe extern "C" {
         out_length: usize,
     ) -> Receiving;
     fn pj_pass_in_place(device: *mut Device, seconds: u32) -> u32;
+    fn pj_receive_session_in_place(
+        device: *mut Device,
+        place: usize,
+        random: u32,
+        bytes: *const u8,
+        length: usize,
+        out: *mut u8,
+        out_length: usize,
+    ) -> Receiving;
+    fn pj_close_session_in_place(device: *mut Device, place: usize, random: u32) -> u32;
+    fn pj_pass_telling_in_place(device: *mut Device, seconds: u32) -> Passing;
     fn pj_set_fault_in_place(device: *mut Device, mark: bool) -> u32;
     fn pj_set_errors_in_place(device: *mut Device, digits: *const u8, length: usize) -> u32;
     fn pj_set_mark_in_place(device: *mut Device, lamp: usize, enabled: bool) -> u32;
@@ -91,6 +102,31 @@ pub fn answer(lent: &Device, act: &Act) -> Answer {
         _ => unreachable!("not made in place"),
     };
     Answer::Changed(Changed { number, device })
+}
+
+/// The call on a record that holds this one, in the session of that random number.
+pub fn named(lent: &Device, random: u32, act: &Act) -> Answer {
+    let mut device = *lent;
+    match act {
+        Act::Close { place } => {
+            let number = unsafe { pj_close_session_in_place(&mut device, *place, random) };
+            Answer::Changed(Changed { number, device })
+        }
+        Act::Receive { place, bytes, lent } => {
+            let mut out = lent.clone();
+            let (bytes_at, out_at) = (bytes.as_ptr(), out.as_mut_ptr());
+            let (length, out_length) = (bytes.len(), out.len());
+            let Receiving { number, taken, length } = unsafe {
+                pj_receive_session_in_place(&mut device, *place, random, bytes_at, length, out_at, out_length)
+            };
+            Answer::Received(Received { number, taken, length, device }, out)
+        }
+        Act::Pass { seconds } | Act::PassInPlace { seconds } => {
+            let Passing { number, closed } = unsafe { pj_pass_telling_in_place(&mut device, *seconds) };
+            Answer::Passed(Changed { number, device }, closed)
+        }
+        _ => unreachable!("in no session"),
+    }
 }
 
 /// The two calls that leave the record as it was. It lies in room that may be written, or one that wrote there would not

@@ -117,6 +117,10 @@ impl Side for Board {
         in_place::answer(device, act)
     }
 
+    fn call_named(&mut self, device: &Device, random: u32, act: &Act) -> Option<Answer> {
+        Some(in_place::named(device, random, act))
+    }
+
     fn call(&mut self, device: &Device, act: &Act) -> Answer {
         let device = *device;
         match act {

@@ -148,6 +148,14 @@ pub struct Received {
     pub device: Device,
 }
 
+/// What passing time gives that tells the places: bit p where it closed the connection at place p.
+#[repr(C)]
+#[derive(Clone, Copy, PartialEq, Eq, Debug)]
+pub struct Passing {
+    pub number: u32,
+    pub closed: u32,
+}
+
 /// What receiving in place gives, whose record is where it was.
 #[repr(C)]
 #[derive(Clone, Copy, PartialEq, Eq, Debug)]

@@ -34,6 +34,7 @@ pub mod recorded;
 pub mod replies;
 pub mod rules;
 pub mod service;
+pub mod sessions;
 pub mod set_up;
 #[cfg(test)]
 mod settled;

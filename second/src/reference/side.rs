@@ -15,6 +15,10 @@ impl Side for Second {
         in_place::mistaken(device, act, &by_value).unwrap_or(by_value)
     }
 
+    fn call_named(&mut self, device: &Device, random: u32, act: &Act) -> Option<Answer> {
+        Some(super::sessions::named(device, random, act, self.call(device, act)))
+    }
+
     fn call(&mut self, device: &Device, act: &Act) -> Answer {
         match act {
             Act::SetUp(lent) => Answer::Changed(calls::set_up(lent)),
