@@ -3,9 +3,9 @@
 --   unwritten_text n cause   that the file n cannot be written
 --   refused_text n c     that the form in the file n does not load, with the number c
 --   endless_text n       that the log n is longer than can be counted
---   stray_warning s         which line of a log does not belong to it, and why
---   UnbegunSaid ..       what is said of a form in the file n that begins nothing: that it cannot be read, for some cause
---                        (UnreadSaid), or with which number it does not load
+--   stray_warning s      which line of a log does not belong to it, and why
+--   UnbegunSaid ..       what is said of a form in the file n that begins nothing: that it cannot be read, for some
+--                        cause (UnreadSaid), or with which number it does not load
 --   stop_text s usage    why a command line asks for nothing, and how the program is called
 -- Assumes nothing.
 use Rattle.std.specs.Prelude.{ℕ, List, [], ◌∷◌, ◌++◌, codes}
