@@ -8,7 +8,7 @@ use Rattle.formfile.specs.declared.NotBegun.{NotBegun}
 use Rattle.formfile.specs.declared.NotBegun.TheVariants.{Unread}
 
 pub unread_said : (fails : Error → Type 0) (old new : Option (List ℕ)) (said : Result (Unit {0}) Error)
-    (n cause : List ℕ) (why : NotBegun) (e : Error) → why ≡ Unread e → WritesText fails old new said (unread_text n cause)
-    → UnbegunSaid fails old new said n why
+    (n cause : List ℕ) (why : NotBegun) (e : Error) → why ≡ Unread e
+    → WritesText fails old new said (unread_text n cause) → UnbegunSaid fails old new said n why
 unread_said fails old new said n cause why e is words =
     subst (λ (w : NotBegun). UnbegunSaid fails old new said n w) (sym is) (record { cause = cause; words = words })
