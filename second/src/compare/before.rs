@@ -160,7 +160,7 @@ fn put_answer(answer: &Answer, out: &mut Vec<u8>) {
             plan.put(out);
             rigs.put(out);
         }
-        Answer::Touched(_) => unreachable!("not of the second program"),
+        Answer::Passed(..) | Answer::Touched(_) => unreachable!("of no call by value of the second program"),
     }
 }
 
