@@ -155,12 +155,13 @@ fn put_answer(answer: &Answer, out: &mut Vec<u8>) {
             compared.put(out);
             places.put(out);
         }
+        Answer::Passed(..) => unreachable!("no call by value"),
         Answer::Verdict(verdict) => verdict.put(out),
         Answer::Plan(plan, rigs) => {
             plan.put(out);
             rigs.put(out);
         }
-        Answer::Passed(..) | Answer::Touched(_) => unreachable!("of no call by value of the second program"),
+        Answer::Touched(_) => unreachable!("not of the second program"),
     }
 }
 
