@@ -155,6 +155,7 @@ fn put_answer(answer: &Answer, out: &mut Vec<u8>) {
             compared.put(out);
             places.put(out);
         }
+        Answer::Passed(..) => unreachable!("no call by value"),
         Answer::Verdict(verdict) => verdict.put(out),
         Answer::Plan(plan, rigs) => {
             plan.put(out);
