@@ -2,3 +2,4 @@ pub mod Made
 pub mod HistoryPlayed
 pub mod LinesPlayed
 pub mod LogsPlayed
+pub mod HostsReplayed

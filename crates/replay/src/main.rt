@@ -6,6 +6,7 @@ mod logs;
 mod playing;
 #[cfg(test)]
 mod tests;
+pub mod theorems;
 
 use formfile::Begun;
 use program::about::About;

@@ -1,5 +1,5 @@
 -- a line that no LF ended does not belong, nor one that says nothing that stands there; what it says is made again
-use Rattle.std.proofs.Common.{refl, sym, ap, ◌∙◌, List, ℕ, true, false}
+use Rattle.std.proofs.Common.{refl, sym, ap, ◌∙◌, List, ℕ}
 use Rattle.floorlog.specs.KeptText.{kept_line}
 use Rattle.history.specs.Entries.{entry_seen}
 use Rattle.recorded.specs.Chain.{entry_told, log_made}
