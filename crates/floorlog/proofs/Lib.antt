@@ -14,3 +14,4 @@ pub mod Observing
 pub mod Replayed
 pub mod Samples
 pub mod Settled
+pub mod HistoriesKnown

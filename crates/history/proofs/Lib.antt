@@ -12,3 +12,4 @@ pub mod ShownPlain
 pub mod Served
 pub mod OnlyLines
 pub mod SecondsSaid
+pub mod HeaderWord

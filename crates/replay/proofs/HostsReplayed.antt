@@ -30,6 +30,7 @@ use Rattle.replay.specs.HistoryText.{recorded_stray}
 use Rattle.replay.specs.HostsReplayed.{replied_lines, entry_replies, cut_stray, HostReplayed, HostReplays}
 use Rattle.replay.proofs.HistoryPlayed.{entries_text_none, device_after_none, entries_text_more, device_after_more}
 use Rattle.replay.proofs.HistoryPlayed.{history_text_is}
+use Rattle.replay.proofs.LogsBegun.{LogBegun, host_log_begins, front_begins, known_by}
 
 -- ---- what is printed of entries
 
@@ -202,6 +203,9 @@ module _ (d : Device) (sum : ℕ) (small : sum < 2 ^ 32) (ss : List (HostStep ×
   abbrev all : List ℕ
   all = host_log (chain_begun sum) d ss
 
+  begun : LogBegun all
+  begun = host_log_begins ss (chain_begun sum) d refl kept_all
+
   of_all : HostReplayed d ss all (recorded_stray d sum all) (recorded_text d sum all)
   of_all =
       replayed d sum all (host_left (chain_begun sum) d ss)
@@ -215,10 +219,12 @@ module _ (d : Device) (sum : ℕ) (small : sum < 2 ^ 32) (ss : List (HostStep ×
   pub host_replays : HostReplays d sum ss
   host_replays = record {
     whole = (
-      no_stray,
-      subst (λ (x : Option FirstStray). HostReplayed d ss all x (recorded_text d sum all)) no_stray of_all,
+      (known_by d sum begun).0 ∙ no_stray,
+      subst (HostReplayed d ss all None) (sym (known_by d sum begun).1)
+          (subst (λ (x : Option FirstStray). HostReplayed d ss all x (recorded_text d sum all)) no_stray of_all),
     );
     cut = λ n. of_front n;
+    known = λ n h. known_by d sum (front_begins n h begun);
   }
     where
       of_front : (n : ℕ) → let log = take n all in

@@ -24,6 +24,7 @@ use Rattle.recorded.specs.Chain.{unended}
 use Rattle.recorded.specs.Following.{chain_begun, FirstStray}
 use Rattle.recorded.specs.Hosts.{HostStep, host_log, step_calls, AreKept, AreTypedSteps}
 use Rattle.replay.specs.HistoryText.{replied_line, end_text_of, recorded_text, recorded_stray}
+use Rattle.replay.specs.LogText.{any_log_text, log_stray}
 
 abbrev pub replied_lines : ℕ → List (List ℕ) → List ℕ
 replied_lines n [] = []
@@ -53,10 +54,13 @@ pub record HostReplayed (d : Device) (ss : List (HostStep × ℕ)) (log : List �
 
 pub record HostReplays (d : Device) (sum : ℕ) (ss : List (HostStep × ℕ)) : Type 0 where
   pub whole : let log = host_log (chain_begun sum) d ss in
-      (recorded_stray d sum log ≡ None) × HostReplayed d ss log None (recorded_text d sum log)
+      (log_stray d sum log ≡ None) × HostReplayed d ss log None (any_log_text d sum log)
   pub cut : (n : ℕ) → let log = take n (host_log (chain_begun sum) d ss) in
       (k : ℕ) × (k ≤ length ss)
       × HostReplayed d (take k ss) log (recorded_stray d sum log) (recorded_text d sum log)
+  -- four bytes are enough that it is known as a history, and so played
+  pub known : (n : ℕ) → 4 ≤ n → let log = take n (host_log (chain_begun sum) d ss) in
+      (log_stray d sum log ≡ recorded_stray d sum log) × (any_log_text d sum log ≡ recorded_text d sum log)
 
 abbrev pub HostsReplayed : Type 0
 HostsReplayed = (d : Device) (sum : ℕ) → sum < 2 ^ 32 → (ss : List (HostStep × ℕ)) → AreTypedSteps ss
