@@ -172,7 +172,7 @@ module _ (b : Beginning) (w : Wanted) (h : IsAccepted ours b w) (sum : ℕ) (dra
     whole_log = host_log (chain_begun sum) d ss
 
     all_followed : followed (chain_begun sum) d (lines_ended [] whole_log) ≡ Some (host_left (chain_begun sum) d ss)
-    all_followed = believed (chain_begun sum) d ss (omega arith) small typed kept_all
+    all_followed = (believed (chain_begun sum) d ss (omega arith) small typed kept_all).0
 
     none_stray : chain_stray d sum whole_log ≡ None
     none_stray =
@@ -196,7 +196,7 @@ module _ (b : Beginning) (w : Wanted) (h : IsAccepted ours b w) (sum : ℕ) (dra
             (chain_told d sum drawn log)
         of_front n =
             let log = take n whole_log in
-            let (k, few, front) = front_believed (chain_begun sum) d ss (omega arith) small typed kept_all n in (
+            let (k, few, front, plays) = front_believed (chain_begun sum) d ss (omega arith) small typed kept_all n in (
               k,
               few,
               cut_line d sum drawn log (host_left (chain_begun sum) d (take k ss)) front,
