@@ -1,10 +1,8 @@
 -- What is written of a log that a host recorded tells the history of the host's calls.
 -- Assumes nothing.
 use Rattle.std.proofs.Common.{ℕ, ◌+◌, ◌≤◌, ◌<◌, ◌^◌, ◌≡◌, refl, sym, subst, ap, ◌∙◌, Bool, true, false, List, []}
-use Rattle.std.proofs.lemmas.List.{map-append}
-use Rattle.std.proofs.Common.{◌∷◌, ◌++◌, arith, length, take, map, append-nil, take_all, All}
+use Rattle.std.proofs.Common.{◌∷◌, ◌++◌, arith, length, take, map, append-nil}
 use Rattle.std.proofs.Common.{min, Option, Some, None, option_map, ◌==◌}
-use Rattle.std.proofs.lemmas.List.Elements.{All-head, All-tail}
 use Rattle.text.proofs.Choices.{if_yes, if_no}
 use Rattle.record.specs.Wanted.{Wanted}
 use Rattle.record.specs.declared.types.Device.{Device}
@@ -14,9 +12,9 @@ use Rattle.demands.specs.Calls.{Call}
 use Rattle.demands.specs.CountsSeconds.{Beginning, IsAccepted, begun_by, history_of}
 use Rattle.demands.proofs.CountsSeconds.{ours_counts_seconds}
 use Rattle.demands.proofs.HistoryTold.{begun_agrees}
-use Rattle.textio.specs.Lines.{LogLine, ended_line, last_line, lines_ended, cut_end}
-use Rattle.textio.proofs.LinesEnded.{lines_spelt}
+use Rattle.textio.specs.Lines.{LogLine, last_line, lines_ended, cut_end}
 use Rattle.floorlog.specs.Kept.{kept_most, kept, kept_lines}
+use Rattle.floorlog.proofs.ShortLines.{short_kept}
 use Rattle.history.specs.Entries.{LogEntry}
 use Rattle.recorded.specs.Recorded.{recorded}
 use Rattle.recorded.specs.Chain.{Followed, followed}
@@ -39,14 +37,6 @@ use Rattle.burnt.specs.HistoryTold.{HistoryTold, IsCutLine, HostTold}
 
 -- ---- the lines of such a log
 
-kept_same : (ls : List (List ℕ)) → All (λ (l : List ℕ). length l ≤ 4096) ls
-    → map kept (map ended_line ls) ≡ map ended_line ls
-kept_same [] h = refl
-kept_same (l ∷ ls) h =
-    let short = All-head (λ (x : List ℕ). length x ≤ 4096) l ls h in
-    (λ i. record { text = take_all kept_most l (omega (arith, short)) i; ended = true }
-    ∷ kept_same ls (All-tail (λ (x : List ℕ). length x ≤ 4096) l ls h) i)
-
 -- what stands behind the last LF
 data CutEnd (tail : List LogLine) : Type 0 where
   nothing : tail ≡ [] → CutEnd tail
@@ -59,16 +49,6 @@ cut_tail c = by (length c == 0) refl
     by true e = nothing (ap (map kept) (if_yes _ _ e))
     by false e = a_part (record { text = take kept_most c; ended = false }) refl (ap (map kept) (if_no _ _ e))
 
-module _ (log : List ℕ) (short : All (λ (l : List ℕ). length l ≤ 4096) (lines_ended [] log)) where
-  abbrev tail : List LogLine
-  tail = map kept (last_line (cut_end [] log))
-
-  all_kept : kept_lines log ≡ map ended_line (lines_ended [] log) ++ tail
-  all_kept =
-      ap (map kept) (lines_spelt log)
-      ∙ map-append kept (map ended_line (lines_ended [] log)) (last_line (cut_end [] log))
-      ∙ ap (λ (ls : List LogLine). ls ++ tail) (kept_same (lines_ended [] log) short)
-
 -- ---- where all that LF ends belongs
 
 module _ (d : Device) (sum : ℕ) (drawn : Bool) (log : List ℕ) (f : Followed)
@@ -80,7 +60,7 @@ module _ (d : Device) (sum : ℕ) (drawn : Bool) (log : List ℕ) (f : Followed)
   says = followed_says ls (chain_begun sum) d f h
 
   abbrev more : List LogLine
-  more = tail log says.short
+  more = map kept (last_line (cut_end [] log))
 
   none_more : belonging f.log f.device more ≡ []
   none_more =
@@ -103,14 +83,14 @@ module _ (d : Device) (sum : ℕ) (drawn : Bool) (log : List ℕ) (f : Followed)
 
   all_belong : belonging (chain_begun sum) d (kept_lines log) ≡ says.es
   all_belong =
-      ap (belonging (chain_begun sum) d) (all_kept log says.short)
+      ap (belonging (chain_begun sum) d) (short_kept log says.short)
       ∙ says.belong more
       ∙ ap (λ (es : List LogEntry). says.es ++ es) none_more
       ∙ append-nil says.es
 
   stray_is : chain_stray d sum log ≡ stray_from (0 + length ls) f.log f.device more
   stray_is =
-      ap (stray_from 0 (chain_begun sum) d) (all_kept log says.short) ∙ says.stray 0 more
+      ap (stray_from 0 (chain_begun sum) d) (short_kept log says.short) ∙ says.stray 0 more
 
   cut_line : IsCutLine (chain_stray d sum log)
   cut_line = subst IsCutLine (sym stray_is) (stray_more (0 + length ls))

@@ -15,3 +15,4 @@ pub mod Replayed
 pub mod Samples
 pub mod Settled
 pub mod HistoriesKnown
+pub mod ShortLines

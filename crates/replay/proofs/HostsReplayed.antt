@@ -1,17 +1,15 @@
 -- What is printed for a log that a host recorded is what its board replied, and the power and lamps of the board.
 -- Assumes nothing.
 use Rattle.std.proofs.Common.{ℕ, ◌+◌, ◌≤◌, ◌<◌, ◌^◌, ◌≡◌, refl, sym, subst, ap, ◌∙◌, Bool, true, false, List, [], ◌∷◌}
-use Rattle.std.proofs.Common.{◌++◌, arith, length, take, map, append-nil, take_all, All, ◌==◌, if◌then◌else◌}
+use Rattle.std.proofs.Common.{◌++◌, arith, length, take, map, append-nil, ◌==◌, if◌then◌else◌}
 use Rattle.std.proofs.Common.{Option, Some, None, Result, Ok, Err}
-use Rattle.std.proofs.lemmas.List.{map-append}
-use Rattle.std.proofs.lemmas.List.Elements.{All-head, All-tail}
 use Rattle.text.proofs.Choices.{if_yes, if_no}
 use Rattle.record.specs.declared.types.Device.{Device}
 use Rattle.ours.specs.Board.{ours}
 use Rattle.demands.specs.Calls.{after, run}
 use Rattle.textio.specs.Lines.{LogLine, ended_line, last_line, lines_ended, cut_end}
-use Rattle.textio.proofs.LinesEnded.{lines_spelt}
 use Rattle.floorlog.specs.Kept.{kept_most, kept, kept_lines}
+use Rattle.floorlog.proofs.ShortLines.{short_kept}
 use Rattle.history.specs.Entries.{LogEntry, header, call, stated, entry_in}
 use Rattle.history.specs.declared.recorder.Recorder.{Recorder}
 use Rattle.recorded.specs.Recorded.{recorded, replied_by, replies_of}
@@ -95,14 +93,6 @@ each_said (l ∷ ls) n r d h = line_and_more l ls (each_said ls) n r d h (line_t
 
 -- ---- the lines of such a log
 
-short_kept : (ls : List (List ℕ)) → All (λ (l : List ℕ). length l ≤ 4096) ls
-    → map kept (map ended_line ls) ≡ map ended_line ls
-short_kept [] h = refl
-short_kept (l ∷ ls) h =
-    let short = All-head (λ (x : List ℕ). length x ≤ 4096) l ls h in
-    (λ i. record { text = take_all kept_most l (omega (arith, short)) i; ended = true }
-    ∷ short_kept ls (All-tail (λ (x : List ℕ). length x ≤ 4096) l ls h) i)
-
 module _ (d : Device) (sum : ℕ) (log : List ℕ) (f : Followed)
     (h : followed (chain_begun sum) d (lines_ended [] log) ≡ Some f) where
   abbrev ls : List (List ℕ)
@@ -113,12 +103,6 @@ module _ (d : Device) (sum : ℕ) (log : List ℕ) (f : Followed)
 
   says : Says (chain_begun sum) d ls f
   says = followed_says ls (chain_begun sum) d f h
-
-  all_kept : kept_lines log ≡ map ended_line ls ++ map kept (last_line left)
-  all_kept =
-      ap (map kept) (lines_spelt log)
-      ∙ map-append kept (map ended_line ls) (last_line left)
-      ∙ ap (λ (l : List LogLine). l ++ map kept (last_line left)) (short_kept ls says.short)
 
   -- what stands behind the last LF does not belong
   abbrev cut_line : LogLine
@@ -150,14 +134,14 @@ module _ (d : Device) (sum : ℕ) (log : List ℕ) (f : Followed)
 
   all_belong : belonging (chain_begun sum) d (kept_lines log) ≡ says.es
   all_belong =
-      ap (belonging (chain_begun sum) d) all_kept
+      ap (belonging (chain_begun sum) d) (short_kept log says.short)
       ∙ says.belong (map kept (last_line left))
       ∙ ap (λ (es : List LogEntry). says.es ++ es) none_more
       ∙ append-nil says.es
 
   stray_is : recorded_stray d sum log ≡ cut_stray log
   stray_is =
-      ap (stray_from 0 (chain_begun sum) d) all_kept
+      ap (stray_from 0 (chain_begun sum) d) (short_kept log says.short)
       ∙ says.stray 0 (map kept (last_line left))
       ∙ more_stray (0 + length ls)
       ∙ ap (λ (n : ℕ). if length left == 0 then None else Some (record { line = n + 1; why = unended }))
