@@ -23,7 +23,5 @@ digits_high n h f =
     digits_long n f ∙ long_high n h (omega arith)
     ∙ ap (λ (l : List ℕ). l ++ (last_digit n ∷ [])) (sym (digits_long (n / 10) (omega arith)))
 
-pub ruleset figures = (digits_low, digits_high, digits_at_most_10, puts_then, puts_as)
-
 -- what follows what, and that it fits
 pub ruleset steps = (puts_then, digits_at_most_10, command_some, stated_short)
