@@ -2,7 +2,8 @@
 --   remainder_over r xss   the remainder after the bytes of each of xss
 -- Assumes nothing.
 use Rattle.std.proofs.Common.{ℕ, zero, suc, ◌+◌, ◌*◌, ◌/◌, ◌<◌, ◌≤◌, ◌≡◌, arith, refl, sym, ap, ◌∙◌}
-use Rattle.std.proofs.Common.{List, [], ◌∷◌, ◌++◌, length, take, drop, take-suc, add-one, slice_index_or, length-drop, length-take-le}
+use Rattle.std.proofs.Common.{List, [], ◌∷◌, ◌++◌, length, take, drop, take-suc, add-one, slice_index_or}
+use Rattle.std.proofs.Common.{length-drop, length-take-le}
 use Rattle.std.proofs.lemmas.List.{drop-drop, take-append-drop}
 use Rattle.std.specs.Simd.{first_chunks}
 use Rattle.crc32.specs.Crc.{remainder_on}
@@ -16,11 +17,11 @@ pub remainder_over-nil : (r : ℕ) → remainder_over r [] ≡ r
 unfolding remainder_over
 remainder_over-nil r = refl
 
-over-append : (r : ℕ) (xss yss : List (List ℕ))
+remainder_over-append : (r : ℕ) (xss yss : List (List ℕ))
     → remainder_over r (xss ++ yss) ≡ remainder_over (remainder_over r xss) yss
 unfolding remainder_over
-over-append r [] yss = refl
-over-append r (xs ∷ xss) yss = over-append (remainder_on r xs) xss yss
+remainder_over-append r [] yss = refl
+remainder_over-append r (xs ∷ xss) yss = remainder_over-append (remainder_on r xs) xss yss
 
 -- one more
 pub remainder_over-take : (r : ℕ) (xss : List (List ℕ)) (i : ℕ) → i < length xss
@@ -28,7 +29,7 @@ pub remainder_over-take : (r : ℕ) (xss : List (List ℕ)) (i : ℕ) → i < le
 unfolding remainder_over
 remainder_over-take r xss i h =
     ap (remainder_over r) (ap (λ (k : ℕ). take k xss) (add-one i) ∙ take-suc xss i [] h)
-    ∙ over-append r (take i xss) (slice_index_or xss i [] ∷ [])
+    ∙ remainder_over-append r (take i xss) (slice_index_or xss i [] ∷ [])
 
 pub by_fours : (k r : ℕ) (s : List ℕ) → k * 4 ≤ length s
     → remainder_on (remainder_over r (first_chunks 4 k s)) (drop (k * 4) s) ≡ remainder_on r s
@@ -36,7 +37,8 @@ unfolding remainder_over
 by_fours zero r s h = refl
 by_fours (suc k) r s h =
     let same : suc k * 4 ≡ 4 + k * 4 = omega arith in
-    let more : drop (suc k * 4) s ≡ drop (k * 4) (drop 4 s) = ap (λ (j : ℕ). drop j s) same ∙ sym (drop-drop (k * 4) 4 s) in
+    let more : drop (suc k * 4) s ≡ drop (k * 4) (drop 4 s) =
+    ap (λ (j : ℕ). drop j s) same ∙ sym (drop-drop (k * 4) 4 s) in
     let fits : k * 4 ≤ length (drop 4 s) = omega (arith, length-drop 4 s) in
     ap (remainder_on (remainder_over (remainder_on r (take 4 s)) (first_chunks 4 k (drop 4 s)))) more
     ∙ by_fours k (remainder_on r (take 4 s)) (drop 4 s) fits

@@ -1,5 +1,5 @@
--- Eight bits are shifted at once: what comes in is read from the table by the lowest byte, and the rest is moved. And 32,
--- each byte of the remainder by a table of its own.
+-- Eight bits are shifted at once: what comes in is read from the table by the lowest byte, and the rest is moved. And
+-- 32 bits, each byte of the remainder by a table of its own.
 -- Assumes nothing.
 use Rattle.std.proofs.Common.{ℕ, zero, suc, ◌+◌, ◌*◌, ◌/◌, ◌%◌, ◌^◌, ◌<◌, ◌≡◌, arith, sym, ap, ◌∙◌, bit_xor}
 use Rattle.std.proofs.Common.{List, [], ◌∷◌, slice_index_or}
@@ -54,9 +54,9 @@ in_four : (x : ℕ) → bits_shifted 32 x
     ≡ bit_xor (bit_xor (bit_xor (bits_shifted 8 (x / 256 / 256 / 256)) (bits_shifted 16 (x / 256 / 256 % 256)))
     (bits_shifted 24 (x / 256 % 256))) (bits_shifted 32 (x % 256))
 in_four x =
-    split 24 x
-    ∙ (λ i. bit_xor ((split 16 (x / 256) ∙ (λ j. bit_xor (split 8 (x / 256 / 256) j) (bits_shifted 24 (x / 256 % 256)))) i)
-    (bits_shifted 32 (x % 256)))
+    let upper = split 16 (x / 256)
+    ∙ (λ i. bit_xor (split 8 (x / 256 / 256) i) (bits_shifted 24 (x / 256 % 256))) in
+    split 24 x ∙ (λ i. bit_xor (upper i) (bits_shifted 32 (x % 256)))
 
 pub bytes_four : (a b c d : ℕ) → a < 256 → b < 256 → c < 256 → d < 256 → AreBytes (a ∷ b ∷ c ∷ d ∷ [])
 bytes_four a b c d ha hb hc hd zero = ha

@@ -1,5 +1,5 @@
-// Bits at once: what they make of a byte is read from tables, for a byte by itself and for four bytes at once. The entries
-// of the table of n bits are those that this prints:
+// Bits at once: what they make of a byte is read from tables, for a byte by itself and for four bytes at once. The
+// entries of the table of n bits are those that this prints:
 //
 //   python3 -c 'for x in range(256):
 //     for _ in range(n): x = x >> 1 ^ x % 2 * 0xedb88320

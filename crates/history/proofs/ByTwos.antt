@@ -1,6 +1,8 @@
 -- A number's digits, two at a time: what the tables have of two, ten of them, and those that there are.
+--   last_of_ten k t   the last k of the ten bytes t
 -- Assumes nothing.
-use Rattle.std.proofs.Common.{ℕ, zero, suc, ◌+◌, ◌/◌, ◌%◌, ◌^◌, ◌<◌, ◌≤◌, ◌≡◌, arith, refl, sym, ap, ◌∙◌, pow-suc, subst}
+use Rattle.std.proofs.Common.{ℕ, zero, suc, ◌+◌, ◌-◌, ◌/◌, ◌%◌, ◌^◌, ◌<◌, ◌≤◌, ◌≡◌, arith, refl, sym, ap, ◌∙◌}
+use Rattle.std.proofs.Common.{pow-suc, subst}
 use Rattle.std.proofs.Common.{List, [], ◌∷◌, ◌++◌, append_assoc, slice_index_or}
 use Rattle.numbers.specs.Decimal.{last_digit, digits}
 use Rattle.history.specs.Figures.{tens_of, ones_of, lowest}
@@ -46,7 +48,12 @@ digits_lowest zero n f h g =
 digits_lowest (suc k) n f h g =
     digits_high n (omega (arith, pow-suc 10 (suc k))) f
     ∙ ap (λ (l : List ℕ). l ++ (last_digit n ∷ []))
-    (digits_lowest k (n / 10) (omega arith) (omega (arith, pow-suc 10 (suc k))) (omega (arith, pow-suc 10 (suc (suc k)))))
+    (digits_lowest k (n / 10) (omega arith) (omega (arith, pow-suc 10 (suc k)))
+    (omega (arith, pow-suc 10 (suc (suc k)))))
+
+abbrev pub last_of_ten : ℕ → List ℕ → List ℕ
+last_of_ten zero t = []
+last_of_ten (suc k) t = slice_index_or t (9 - k) 0 ∷ last_of_ten k t
 
 pub puts_lowest : (k n : ℕ) {a b : Writer} {s : List ℕ} → n < 2 ^ 32 → 10 ^ suc k ≤ n → n < 10 ^ suc (suc k)
     → s ≡ lowest (suc (suc k)) n → Puts a b s → Puts a b (digits n)

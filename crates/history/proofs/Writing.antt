@@ -3,7 +3,7 @@
 use Rattle.std.proofs.Common.{ℕ, ◌+◌, ◌/◌, ◌^◌, ◌<◌, ◌≤◌, ◌≡◌, List, [], ◌∷◌, ◌++◌, length, take, slice_index_or}
 use Rattle.std.proofs.Common.{sym, ap, ◌∙◌, arith}
 use Rattle.text.proofs.InTurn.{each_in_turn-take}
-use Rattle.lent.proofs.Writing.{puts_then, puts_as}
+use Rattle.lent.proofs.Writing.{puts_then}
 use Rattle.numbers.specs.Decimal.{last_digit, digits}
 use Rattle.numbers.proofs.Digits.{digits_at_most_10, digits_long, long_low, long_high}
 use Rattle.digest.specs.Hex.{hex_digits}
