@@ -80,7 +80,7 @@ fn errors(w: &mut Writer<'_>, digits: &Errors)
     ]);
 }
 
-// All digits. Inlined, since the compiler knows the place at a caller.
+// All digits. Inlined, since the compiler knows where it writes at its callers.
 #[inline(always)]
 fn number(w: &mut Writer<'_>, n: u32)
     requires short { w.old.at ≤ 100 }
