@@ -19,7 +19,7 @@ first b s h = h 0
 rest : (b : ℕ) (s : List ℕ) → AreBytes (b ∷ s) → AreBytes s
 rest b s h k = h (suc k)
 
-word_in : List ℕ → ℕ
+unfoldable pub word_in : List ℕ → ℕ
 word_in [] = 0
 word_in (b ∷ s) = word_in s * 2 ^ 8 + b
 
@@ -54,7 +54,7 @@ remainder_same q r (b ∷ s) hq hr bytes e =
 
 -- ---- bytes one after the other are a number at once
 
-remainder_at_once : (r : ℕ) (s : List ℕ) → AreBytes s
+pub remainder_at_once : (r : ℕ) (s : List ℕ) → AreBytes s
     → remainder_on r s ≡ bits_shifted (8 * length s) (bit_xor (word_in s) r)
 unfolding remainder_on after_byte word_in bits_shifted
 remainder_at_once r [] bytes = refl

@@ -46,6 +46,35 @@ bits_shifted-add (suc m) n x =
     let k : suc m + n ≡ suc (m + n) = omega arith in
     ap (λ (k : ℕ). bits_shifted k x) k ∙ bits_shifted-add m n (bit_shifted x)
 
+-- what is added twice is taken away
+taken : (a x : ℕ) → bit_xor a (bit_xor a x) ≡ x
+taken a x = sym (xor_assoc a a x) ∙ ap (λ (n : ℕ). bit_xor n x) (xor_self a) ∙ xor_zero_l x
+
+-- ---- a sum of two is shifted as each of them is
+
+come_linear : (x y a b : ℕ) → x < 2 → y < 2
+    → come_in (bit_xor x y == 0) (bit_xor a b) ≡ bit_xor (come_in (x == 0) a) (come_in (y == 0) b)
+come_linear zero zero a b hx hy = refl
+come_linear zero (suc zero) a b hx hy = xor_assoc a b polynomial
+come_linear (suc zero) zero a b hx hy =
+    xor_assoc a b polynomial ∙ ap (bit_xor a) (xor_comm b polynomial) ∙ sym (xor_assoc a polynomial b)
+come_linear (suc zero) (suc zero) a b hx hy =
+    ap (bit_xor a) (sym (taken polynomial b) ∙ ap (bit_xor polynomial) (xor_comm polynomial b))
+    ∙ sym (xor_assoc a polynomial (bit_xor b polynomial))
+come_linear (suc (suc x)) y a b hx hy = absurd (omega arith)
+come_linear x (suc (suc y)) a b hx hy = absurd (omega arith)
+
+bit_linear : (a b : ℕ) → bit_shifted (bit_xor a b) ≡ bit_xor (bit_shifted a) (bit_shifted b)
+unfolding bit_shifted
+bit_linear a b =
+    (λ i. come_in (xor_mod a b 1 i == 0) (xor_shr a b 1 i))
+    ∙ come_linear (a % 2) (b % 2) (a / 2) (b / 2) (omega arith) (omega arith)
+
+pub bits_linear : (n a b : ℕ) → bits_shifted n (bit_xor a b) ≡ bit_xor (bits_shifted n a) (bits_shifted n b)
+unfolding bits_shifted
+bits_linear zero a b = refl
+bits_linear (suc n) a b = ap (bits_shifted n) (bit_linear a b) ∙ bits_linear n (bit_shifted a) (bit_shifted b)
+
 -- ---- in 32 bits
 
 bit_within : (x : ℕ) → x < 2 ^ 32 → bit_shifted x < 2 ^ 32
@@ -58,10 +87,7 @@ bits_within zero x h = h
 bits_within (suc n) x h = bits_within n (bit_shifted x) (bit_within x h)
 
 pub xor_same : (a b c : ℕ) → bit_xor a b ≡ bit_xor a c → b ≡ c
-xor_same a b c e = sym (taken b) ∙ ap (bit_xor a) e ∙ taken c
-  where
-    taken : (x : ℕ) → bit_xor a (bit_xor a x) ≡ x
-    taken x = sym (xor_assoc a a x) ∙ ap (λ (n : ℕ). bit_xor n x) (xor_self a) ∙ xor_zero_l x
+xor_same a b c e = sym (taken a b) ∙ ap (bit_xor a) e ∙ taken a c
 
 -- the polynomial's highest bit comes in where an odd number is shifted, and nowhere else
 odd_is_high : (x : ℕ) → x < 2 ^ 32 → bit_xor (x / 2) polynomial / 2 ^ 31 ≡ 1

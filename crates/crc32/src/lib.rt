@@ -16,7 +16,11 @@ pub fn crc32_on(sum: u32, s: &[u8]) -> u32
     ensures { result ≡ crc32_on sum s.now }
 {
     let mut r = ONES ^ sum;
-    for &b in s {
+    let (fours, rest) = s.as_chunks::<4>();
+    for &[a, b, c, d] in fours {
+        r = table::after_four(r, a, b, c, d);
+    }
+    for &b in rest {
         r = table::after_byte(r, b);
     }
     ONES ^ r

@@ -1,6 +1,7 @@
 pub mod Numbers
 pub mod Fits
 pub mod Writing
+mod ByTwos
 pub mod Back
 pub mod EntriesBack
 pub mod Printable

@@ -3,7 +3,7 @@
 use Rattle.std.proofs.Common.{ℕ, ◌+◌, ◌/◌, ◌^◌, ◌<◌, ◌≤◌, ◌≡◌, List, [], ◌∷◌, ◌++◌, length, take, slice_index_or}
 use Rattle.std.proofs.Common.{sym, ap, ◌∙◌, arith}
 use Rattle.text.proofs.InTurn.{each_in_turn-take}
-use Rattle.lent.proofs.Writing.{puts_then, puts_as}
+use Rattle.lent.proofs.Writing.{puts_then}
 use Rattle.numbers.specs.Decimal.{last_digit, digits}
 use Rattle.numbers.proofs.Digits.{digits_at_most_10, digits_long, long_low, long_high}
 use Rattle.digest.specs.Hex.{hex_digits}
@@ -22,8 +22,6 @@ pub digits_high : (n : ℕ) → 10 ≤ n → n < 2 ^ 32 → digits n ≡ digits 
 digits_high n h f =
     digits_long n f ∙ long_high n h (omega arith)
     ∙ ap (λ (l : List ℕ). l ++ (last_digit n ∷ [])) (sym (digits_long (n / 10) (omega arith)))
-
-pub ruleset figures = (digits_low, digits_high, digits_at_most_10, puts_then, puts_as)
 
 -- what follows what, and that it fits
 pub ruleset steps = (puts_then, digits_at_most_10, command_some, stated_short)

@@ -5,3 +5,4 @@ pub mod Reads
 pub mod Shown
 pub mod Recording
 pub mod Logs
+pub mod Figures

@@ -4,6 +4,7 @@
 
 pub mod call;
 pub mod entry;
+mod figures;
 mod put;
 pub mod read;
 pub mod recorder;

@@ -11,6 +11,7 @@ ghost use Rattle.history.specs.Entries.{summed_text, time_text, time_seen, entry
 
 use crate::call::Call;
 use crate::entry::Entry;
+use crate::figures;
 use lent::Writer;
 use words::errors::Errors;
 use words::input;
@@ -79,18 +80,33 @@ fn errors(w: &mut Writer<'_>, digits: &Errors)
     ]);
 }
 
-// All digits: those of the quotient by ten, then the last.
-#[tactic(auto, using(crate::proofs::Writing::figures))]
+// All digits. Inlined, since the compiler knows where it writes at its callers.
+#[inline(always)]
 fn number(w: &mut Writer<'_>, n: u32)
     requires short { w.old.at ≤ 100 }
     ensures { Puts w.old w.new (digits n) }
 {
-    let last = b'0' + (n % 10) as u8;
-    if n < 10 {
-        w.byte(last);
+    let [a, b, c, d, e, f, g, h, i, j] = figures::ten(n);
+    if 1_000_000_000 <= n {
+        w.bytes(&[a, b, c, d, e, f, g, h, i, j]);
+    } else if 100_000_000 <= n {
+        w.bytes(&[b, c, d, e, f, g, h, i, j]);
+    } else if 10_000_000 <= n {
+        w.bytes(&[c, d, e, f, g, h, i, j]);
+    } else if 1_000_000 <= n {
+        w.bytes(&[d, e, f, g, h, i, j]);
+    } else if 100_000 <= n {
+        w.bytes(&[e, f, g, h, i, j]);
+    } else if 10_000 <= n {
+        w.bytes(&[f, g, h, i, j]);
+    } else if 1_000 <= n {
+        w.bytes(&[g, h, i, j]);
+    } else if 100 <= n {
+        w.bytes(&[h, i, j]);
+    } else if 10 <= n {
+        w.bytes(&[i, j]);
     } else {
-        number(w, n / 10);
-        w.byte(last);
+        w.byte(j);
     }
 }
 

@@ -2,7 +2,7 @@
 use Rattle.std.proofs.Common.{refl}
 use Rattle.crc32.specs.Crc.{bit_shifted, bits_shifted}
 use Rattle.crc32.specs.Table.{table_of}
-use Rattle.crc32.proofs.table.table.Goals as goal
+use Rattle.crc32.proofs.table.of_16.Goals as goal
 
 pub returns : goal.returns
 unfolding bit_shifted bits_shifted table_of
