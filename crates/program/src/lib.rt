@@ -3,6 +3,7 @@
 #![tactic(auto)]
 
 pub mod about;
+mod headless;
 pub mod joined;
 pub mod outside;
 pub mod run;

@@ -4,6 +4,7 @@ ghost use Rattle.program.specs.Said.{UnbegunSaid};
 ghost use Rattle.program.specs.declared.status.Status.TheVariants as Status;
 
 use crate::about::About;
+use crate::headless::is_headless;
 use crate::joined::{Joined, Opens};
 use crate::outside::{Outside, System};
 use crate::status::Status;
@@ -19,7 +20,7 @@ use std::io::Error;
 use std::{env, io};
 use text::numbered::Numbered;
 use textio::lines::Failure;
-use textio::reader::Reader;
+use textio::reader::{ByteSource, Reader};
 use textio::streams::Stream;
 use textio::writer::{ByteSink, Writer, put};
 
@@ -101,10 +102,30 @@ fn shown(name: &str) -> &str {
 fn ended<E: ByteSink>(ending: Ending, errors: &mut E) -> Status {
     match ending {
         Ending::Whole => Status::Done,
+        Ending::Headless => {
+            let _said = said::say_headless(errors).is_ok();
+            Status::Strayed
+        }
         Ending::Stray(line) => {
             let _said = said::say_stray(errors, &line).is_ok();
             Status::Strayed
         }
+    }
+}
+
+// The log told by the program. A history without its header ends so where no line of it says more.
+fn told_by<P: Telling, R: ByteSource + Drop, W: ByteSink>(
+    program: &P,
+    begun: Begun,
+    page: bool,
+    source: R,
+    to: &mut W,
+) -> Result<Ending, Failure> {
+    let mut from = Reader::new(source);
+    let headless = is_headless(&mut from);
+    match program.tell(begun, page, &mut from, to)? {
+        Ending::Whole if headless => Ok(Ending::Headless),
+        ending => Ok(ending),
     }
 }
 
@@ -117,7 +138,7 @@ fn tell_out<P: Telling, O: Opens, W: ByteSink, E: ByteSink>(
     to: &mut W,
     errors: &mut E,
 ) -> Status {
-    let told = program.tell(begun, page, &mut Reader::new(Stream(&mut log)), to);
+    let told = told_by(program, begun, page, Stream(&mut log), to);
     match told {
         Ok(ending) => match cut::end_output(Ok(()), to) {
             Ok(()) => ended(ending, errors),
@@ -145,7 +166,7 @@ fn tell_saved<P: Telling, O: Outside, E: ByteSink>(
         Ok(sink) => sink,
         Err(error) => return unwritten(name, &error, errors),
     };
-    let told = program.tell(begun, page, &mut Reader::new(Stream(&mut log)), &mut to);
+    let told = told_by(program, begun, page, Stream(&mut log), &mut to);
     match told {
         Ok(ending) => match outside.keep(to) {
             Ok(()) => ended(ending, errors),

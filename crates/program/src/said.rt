@@ -2,7 +2,7 @@
 ghost use Rattle.std.specs.Prelude.{◌++◌};
 ghost use Rattle.textio.specs.Fronts.{WritesText};
 ghost use Rattle.program.specs.Said.{unread_text, unwritten_text, refused_text, endless_text, stop_text};
-ghost use Rattle.program.specs.Said.{stray_warning};
+ghost use Rattle.program.specs.Said.{stray_warning, headless_warning};
 ghost use Rattle.recorded.specs.Following.{stray_seen};
 
 use command::asked::Stop;
@@ -97,6 +97,16 @@ pub fn say_stray<E: ByteSink>(to: &mut E, line: &StrayLine) -> io::Result<()>
     line.put(&mut text);
     put(to, &text)?;
     put(to, b"; what is written is of the lines before it\n")
+}
+
+/// That a log has lines of a history, and no header before them.
+pub fn say_headless<E: ByteSink>(to: &mut E) -> io::Result<()>
+    ensures { WritesText E.fails_with (E.contents to.old) (E.contents to.new) result headless_warning }
+{
+    put(
+        to,
+        b"the log has lines of a history, and no header: it is read as a log of the other kind\n",
+    )
 }
 
 /// Why a command line asks for nothing, and in a second line how the program is called; nothing of the help, of

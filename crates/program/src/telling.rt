@@ -12,6 +12,8 @@ pub enum Ending {
     Whole,
     /// This line of it did not belong to it, which the output says too.
     Stray(StrayLine),
+    /// It is no history by its first line, and has lines that only a history has.
+    Headless,
 }
 
 /// A program over logs.

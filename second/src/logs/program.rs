@@ -19,7 +19,8 @@ impl Program {
     /// What it prints for a log. Without sizes the log comes through a pipe, in reads as large as the program asks for;
     /// with sizes, each read gives one of that size, in turn.
     ///
-    /// A program that ends with another status than this or leaves bytes unread prints that too.
+    /// A program that ends with another status than this, says something else on standard error, or leaves bytes unread
+    /// prints that too.
     pub fn printed(&self, log: &[u8], reads: &[usize], due: i32) -> Vec<u8> {
         let (mut out, fed) = self.started(log, reads, due);
         if let Err(error) = fed {
@@ -51,21 +52,41 @@ impl Program {
         feed: impl FnOnce() -> io::Result<()> + Send,
     ) -> io::Result<(Vec<u8>, io::Result<()>)> {
         let (program, words) = self.0.split_first().expect("a program has a name");
-        let mut child = Command::new(program).args(words).stdin(input).stdout(Stdio::piped()).spawn()?;
-        let mut out = Vec::new();
+        let mut child =
+            Command::new(program).args(words).stdin(input).stdout(Stdio::piped()).stderr(Stdio::piped()).spawn()?;
+        let (mut out, mut errors) = (Vec::new(), String::new());
         let fed = thread::scope(|scope| {
             let feeding = scope.spawn(feed);
             let read = child.stdout.take().expect("it was piped").read_to_end(&mut out);
-            read.and(feeding.join().expect("feeding does not panic"))
+            let said = child.stderr.take().expect("it was piped").read_to_string(&mut errors);
+            read.and(said).and(feeding.join().expect("feeding does not panic"))
         });
         let status = child.wait()?;
-        if status.code() != Some(due) {
-            out.extend(format!("({status})\n").bytes());
+        if !ends_so(status.code(), &errors, due) {
+            out.extend(format!("({status}: {errors:?})\n").bytes());
         }
         if !status.success() {
             return Ok((out, Ok(())));
         }
         Ok((out, fed))
+    }
+}
+
+/// What is said of a history without its header: which of its lines come with the first read is not known here.
+const HEADLESS: &str = "the log has lines of a history, and no header: it is read as a log of the other kind\n";
+
+/// Whether a program may end so, and say this on standard error, where that status is due: one line for each but 0.
+fn ends_so(code: Option<i32>, errors: &str, due: i32) -> bool {
+    let one_line = errors.ends_with('\n') && errors.matches('\n').count() == 1;
+    match (due, code) {
+        (0, Some(0)) => errors.is_empty(),
+        (0, Some(3)) => errors == HEADLESS,
+        (3, Some(3)) => {
+            one_line
+                && errors.starts_with("! line ")
+                && errors.ends_with("; what is written is of the lines before it\n")
+        }
+        (due, code) => one_line && code == Some(due),
     }
 }
 
