@@ -33,11 +33,15 @@ static __attribute__((noinline)) void measure(const char *name, void (*call)(voi
     printf("%-54s  %s%zu bytes\n", name, deep < LEFT ? "under " : "", deep < LEFT ? LEFT : deep);
 }
 
+static pj_panel panel;
+
 /* The call in place, on a copy of the record, and then the one by value. */
 static void measure_both(const char *name, const char *in_place, void (*call_in_place)(void), void (*call)(void)) {
     pj_device kept = device;
+    pj_panel kept_panel = panel;
     measure(in_place, call_in_place);
     device = kept;
+    panel = kept_panel;
     measure(name, call);
 }
 
@@ -52,7 +56,6 @@ static const size_t name_lengths[2] = {3, 5};
 static uint8_t form[PJ_FORM_MOST];
 static size_t stored;
 static const char *line;
-static pj_panel panel;
 static uint32_t tables[2][PJ_TABLE_MOST];
 static int64_t differences[PJ_TABLE_MOST];
 static pj_command command;
@@ -122,6 +125,14 @@ CALL(call_md5, { sink = pj_md5(message, sizeof message).bytes[0]; })
 CALL(call_write, { sink = (uint32_t)pj_write(command, true, 7, TEXT("panel123"), out, sizeof out).length; })
 CALL(call_read_greeting, { sink = pj_read_greeting(TEXT("PJLINK 1 498e4a67\r")).random; })
 CALL(call_read_reply, { sink = pj_read_reply(command, TEXT(line)).number; })
+CALL(call_panel_none_in_place, { sink = pj_panel_none_in_place(&panel); })
+CALL(call_panel_add_in_place, { sink = pj_panel_add_in_place(&panel, TEXT("panel123")); })
+CALL(call_panel_line_in_place, { sink = pj_panel_line_in_place(&panel, 0, TEXT(line)); })
+CALL(call_panel_hear_in_place, { sink = pj_panel_hear_in_place(&panel, 0, TEXT(line)).number; })
+CALL(call_panel_command_in_place, {
+    sink = (uint32_t)pj_panel_command_in_place(&panel, 0, command, out, sizeof out).length;
+})
+CALL(call_panel_lost_in_place, { sink = pj_panel_lost_in_place(&panel, 0); })
 CALL(call_panel_none, { panel = pj_panel_none().panel; })
 CALL(call_panel_add, { panel = pj_panel_add(panel, TEXT("panel123")).panel; })
 CALL(call_panel_line, { panel = pj_panel_line(panel, 0, TEXT(line)).panel; })
@@ -194,14 +205,17 @@ int main(void) {
     command = (pj_command){PJ_INST, 0, 0};
     line = "%1INST=11 12 13 14 15 16 17 18 19 21 22 23 24 25 26 27 28 29 31 32 33 34 35 36 37 38 39 41 42 43 44 45\r";
     measure("pj_read_reply, longest INST", call_read_reply);
-    measure("pj_panel_none", call_panel_none);
-    measure("pj_panel_add", call_panel_add);
+    BOTH(pj_panel_none, "", call_panel_none);
+    BOTH(pj_panel_add, "", call_panel_add);
     line = "PJLINK 1 498e4a67\r";
-    measure("pj_panel_line, a greeting", call_panel_line);
-    measure("pj_panel_command", call_panel_command);
+    BOTH(pj_panel_line, ", a greeting", call_panel_line);
+    BOTH(pj_panel_command, "", call_panel_command);
+    pj_panel awaiting = panel; /* the reply, which ends the command */
     line = "%1INST=11 12 13 14 15 16 17 18 19 21 22 23 24 25 26 27 28 29 31 32 33 34 35 36 37 38 39 41 42 43 44 45\r";
-    measure("pj_panel_line, a reply", call_panel_line);
-    measure("pj_panel_lost", call_panel_lost);
+    measure("pj_panel_hear_in_place, a reply", call_panel_hear_in_place);
+    panel = awaiting;
+    BOTH(pj_panel_line, ", a reply", call_panel_line);
+    BOTH(pj_panel_lost, "", call_panel_lost);
     measure("pj_compare_lamps, 64 places", call_compare_lamps);
     for (uint32_t job = 0; job < 64; job++) {
         starts[job] = 600 + job / 8 * 1200;
