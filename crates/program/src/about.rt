@@ -1,7 +1,8 @@
 // What a program says of itself.
 
-/// The version of the C face that these programs belong to, and the kit that they are proved with.
-pub const VERSION: &str = "12 (rattle-kit-13f logic dac8208d650f15bf)\n";
+/// The version of the C face that these programs belong to, its date, whether CHANGELOG.md has later changes, and the
+/// kit that proves them.
+pub const VERSION: &str = "12 of 2026-11-27 and later (rattle-kit-13f logic dac8208d650f15bf)\n";
 
 /// What a program says of itself. Each text ends with LF.
 #[derive(Clone, Copy)]
