@@ -87,6 +87,11 @@ CALL(call_open, { device = pj_open(device, 0x498e4a67, out, sizeof out).device; 
 CALL(call_receive, { device = pj_receive(device, 0, TEXT(line), out, sizeof out).device; })
 CALL(call_pass, { device = pj_pass(device, 4294967295u).device; })
 CALL(call_pass_in_place, { sink = pj_pass_in_place(&device, 4294967295u); })
+CALL(call_pass_telling_in_place, { sink = pj_pass_telling_in_place(&device, 4294967295u).closed; })
+CALL(call_receive_session_in_place, {
+    sink = pj_receive_session_in_place(&device, 0, 0x498e4a67, TEXT(line), out, sizeof out).number;
+})
+CALL(call_close_session_in_place, { sink = pj_close_session_in_place(&device, 0, 0x498e4a67); })
 CALL(call_set_up_in_place, {
     sink = pj_set_up_in_place(&device, TEXT("name"), TEXT("maker"), TEXT("model"), TEXT("other"), TEXT("panel123"),
                               TEXT("11213141"), lamps, 8, 600, 600);
@@ -146,6 +151,12 @@ int main(void) {
     measure("pj_which_setting", call_which_setting);
     BOTH(pj_open, ", secured", call_open);
     line = "0123456789abcdef0123456789abcdef%1POWR 1\r";
+    pj_device opened = device;
+    measure("pj_close_session_in_place", call_close_session_in_place);
+    device = opened;
+    measure("pj_receive_session_in_place, a wrong digest", call_receive_session_in_place);
+    measure("pj_pass_telling_in_place", call_pass_telling_in_place);
+    device = opened;
     BOTH(pj_receive, ", a first line with a wrong digest", call_receive);
     BOTH(pj_pass, ", n = 4,294,967,295", call_pass);
     device = pj_set_up(TEXT("name"), TEXT(""), TEXT(""), TEXT(""), TEXT(""), TEXT("11"), lamps, 8, 600, 600).device;
