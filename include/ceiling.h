@@ -173,7 +173,8 @@ typedef struct {
     size_t chosen;                          /* the place of the chosen input in the list */
     bool video_muted, audio_muted, fault;
     uint8_t errors[PJ_ERRORS];              /* numbers 0 to 2: fan, lamp, temperature, cover, filter, other */
-    uint32_t lamps[PJ_LAMPS_MOST];          /* seconds */
+    uint32_t lamps[PJ_LAMPS_MOST];          /* seconds. Lamps are numbered from 0 here and in the calls, and from 1 in
+                                               lines of logs, on pages and by the programs */
     bool enabled[PJ_LAMPS_MOST];            /* each lamp's mark: without it the lamp stays dark; at least one is set
                                                where there are lamps, and none past them */
     bool frozen;                            /* the picture stands still */
@@ -374,7 +375,8 @@ typedef struct {
 
 /* Writes the stored form of the record, of version 3, to the start of the lent memory: its settings, and each lamp's
    seconds and mark as they are now. Power, mutes, freeze, levels, faults and connections are not stored. Store at every
-   stop, and as often as own.lamps would be saved.
+   stop, and as often as own.lamps would be saved. The form holds the password in clear: keep it as you keep a key. It
+   has no checksum: keep its MD5 beside it.
    Refuses with PJ_NOT_LEGAL, then with PJ_NO_ROOM memory shorter than this form; PJ_FORM_MOST bytes always suffice. */
 CEILING_KEEP
 pj_written pj_store(pj_device d, uint8_t *out, size_t out_len);
