@@ -6,6 +6,7 @@ pub mod about;
 mod headless;
 pub mod joined;
 pub mod outside;
+mod progress;
 pub mod run;
 pub mod said;
 pub mod status;

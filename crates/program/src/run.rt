@@ -281,7 +281,7 @@ pub fn on_system<P: Telling>(rt: &HostRuntime, program: &P, about: &About) -> St
         about,
         rt.alloc(),
         words.as_slice(),
-        &System(rt),
+        &System::of(rt),
         &mut to,
         &mut errors,
     )
