@@ -1,7 +1,13 @@
--- What a flag tells.
+-- What a flag tells, and what a list of flags does.
+--   IsRaisedTo flags raised k    the loop over an array of flags has told the first k
 -- Assumes nothing.
-use Rattle.std.proofs.Common.{ℕ, ◌≤◌, ◌≡◌, refl, Bool, true, false, arith}
+use Rattle.std.proofs.Common.{ℕ, ◌+◌, ◌-◌, ◌≤◌, ◌<◌, ◌≡◌, refl, sym, ap, ◌∙◌, Bool, true, false, arith, List, length, map}
+use Rattle.std.proofs.Common.{◌++◌, append-nil, slice_index_or, set, replicate}
+use Rattle.std.proofs.Math.ListN.{get_or-map}
+use Rattle.std.proofs.lemmas.List.{length-map, map-set}
 use Rattle.text.specs.Flags.{is_flag, is_raised, flag_of}
+use Rattle.text.specs.Rooms.{filled_room}
+use Rattle.text.proofs.RoomsFilled.{IsCopied, none_copied, one_copied, all_copied}
 
 -- what is written is read, and is a flag
 pub flag_told : (b : Bool) → is_raised (flag_of b) ≡ b
@@ -21,3 +27,34 @@ flag_back n h = grind arith
 
 pub lowered_zero : (n : ℕ) → is_raised n ≡ false → n ≡ 0
 lowered_zero n h = grind arith
+
+-- at each place, and past the end no flag is raised
+pub raised_at : (fs : List ℕ) (k : ℕ) → slice_index_or (map is_raised fs) k false ≡ is_raised (slice_index_or fs k 0)
+raised_at fs k = get_or-map is_raised fs k 0
+
+-- one of them replaced
+pub raised-set : (fs : List ℕ) (k : ℕ) (b : Bool) → map is_raised (set fs k (flag_of b)) ≡ set (map is_raised fs) k b
+raised-set fs k b = map-set is_raised fs k (flag_of b) ∙ ap (set (map is_raised fs) k) (flag_told b)
+
+pub raised_many : (fs : List ℕ) → length (map is_raised fs) ≡ length fs
+raised_many fs = length-map fs is_raised
+
+-- told one after the other
+module _ (fs : List ℕ) where
+  abbrev pub IsRaisedTo : List Bool → ℕ → Type 0
+  IsRaisedTo told k = IsCopied false (length fs) (map is_raised fs) told k
+
+  module _ {told : List Bool} {k : ℕ} (done : IsRaisedTo told k) where
+    pub one_told : {b : Bool} → k < length fs → b ≡ is_raised (slice_index_or fs k 0)
+        → IsRaisedTo (set told k b) (k + 1)
+    one_told {b} h e =
+        one_copied false (length fs) (map is_raised fs) (omega (arith, raised_many fs)) done
+        (omega (arith, raised_many fs)) (e ∙ sym (raised_at fs k))
+
+    pub all_told : length fs ≤ k → told ≡ map is_raised fs
+    all_told h =
+        let rest : length fs - length (map is_raised fs) ≡ 0 = omega (arith, raised_many fs) in
+        all_copied false (length fs) (map is_raised fs) (omega (arith, raised_many fs)) done
+        (omega (arith, h, raised_many fs))
+        ∙ ap (λ n. map is_raised fs ++ replicate n false) rest
+        ∙ append-nil (map is_raised fs)

@@ -1,6 +1,6 @@
 // A flag of a record that a host keeps: a byte, so that any byte there is a value, and legality tells (RULES, The legal
 // record).
-ghost use Rattle.std.specs.Prelude.{◌≡◌};
+ghost use Rattle.std.specs.Prelude.{◌≡◌, map};
 ghost use Rattle.std.specs.List.{list_all};
 ghost use Rattle.text.specs.Flags.{is_flag, is_raised, flag_of};
 
@@ -34,4 +34,15 @@ pub fn of(raised: bool) -> u8
     ensures { result ≡ flag_of raised }
 {
     if raised { 1 } else { 0 }
+}
+
+/// What each of these flags says.
+pub fn raised<const N: usize>(flags: &[u8; N]) -> [bool; N]
+    ensures { result ≡ map is_raised flags.now }
+{
+    let mut raised = [false; N];
+    for k in 0..N {
+        raised[k] = is_raised(flags[k]);
+    }
+    raised
 }
