@@ -58,7 +58,7 @@ open_again d p there legal phase empty =
     search (arith, age_untimed, connection_is, legal_connection, legal_connection d legal p there)
 
 module _ (d : Device) (p : ℕ) (there : p < places_count) (room : ℕ) (legal : is_legal d ≡ true)
-    (enough : reply_room ≤ room) (unmarked : (connection_at d p).line.overlong ≡ false)
+    (enough : reply_room ≤ room) (unmarked : is_raised (connection_at d p).line.overlong ≡ false)
     (none : (connection_at d p).line.held ≡ 0) (k : Command) where
   abbrev c : Connection
   c = connection_at d p

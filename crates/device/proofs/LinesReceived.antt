@@ -48,7 +48,7 @@ abbrev pub line_result : Device → ℕ → Answered → ℕ → Result Device
 line_result d p a n = accepted_taken d p (record { ended = served_line (connection_at d p) a; taken = n })
 
 module _ (d : Device) (p : ℕ) (there : p < places_count) (room : ℕ) (legal : is_legal d ≡ true)
-    (enough : reply_room ≤ room) (unmarked : (connection_at d p).line.overlong ≡ false)
+    (enough : reply_room ≤ room) (unmarked : is_raised (connection_at d p).line.overlong ≡ false)
     (none : (connection_at d p).line.held ≡ 0) (l : List ℕ) (plain : no_cr l ≡ true) where
   abbrev c : Connection
   c = connection_at d p
