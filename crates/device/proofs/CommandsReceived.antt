@@ -15,6 +15,7 @@ use Rattle.pjlink.specs.Commands.{command_line}
 use Rattle.pjlink.specs.declared.command.Command.{Command}
 use Rattle.pjlink.proofs.CommandLines.{command_length, command_no_cr}
 use Rattle.pjlink.specs.Said.{Said, said_bytes}
+use Rattle.text.specs.Flags.{is_raised}
 use Rattle.record.specs.Limits.{places_count, awaiting, opened}
 use Rattle.record.specs.Legal.{is_legal}
 use Rattle.record.specs.Places.{connection_at, with_place}

@@ -9,6 +9,7 @@ use Prim.Native.Char.{code}
 use Rattle.digest.specs.Hex.{leading_digest}
 use Rattle.words.specs.Bytes.{not_cr, no_cr, command_most}
 use Rattle.words.proofs.Characters.{no_cr_each}
+use Rattle.text.specs.Flags.{is_raised}
 use Rattle.record.specs.Limits.{places_count, shut, awaiting, opened}
 use Rattle.record.specs.Legal.{held_most, is_legal}
 use Rattle.record.specs.Places.{connection_at}

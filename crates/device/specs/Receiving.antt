@@ -8,6 +8,7 @@
 -- The results name the own part and the connection, never the whole record: what has these parts can use them.
 -- Assumes nothing.
 use Rattle.std.specs.Prelude.{ℕ, ◌+◌, Bool, not, ◌&&◌, List, [], length, take, drop, if◌then◌else◌, nat_le, ◌==◌}
+use Rattle.text.specs.Flags.{is_raised}
 use Rattle.text.specs.Scans.{same_by, itself}
 use Rattle.digest.specs.Hex.{leading_digest}
 use Rattle.pjlink.specs.Forms.{erra_line}

@@ -11,7 +11,7 @@ use crate::answering;
 use pjlink::greeting::Greeting;
 use record::types::{Connection, Line, Own, Settings};
 use record::views::Phase;
-use text::rooms;
+use text::{flag, rooms};
 use words::codec;
 
 const DIGEST_LONG: usize = 32;
