@@ -1,12 +1,14 @@
 -- What a flag tells, and what a list of flags does.
 --   IsRaisedTo flags raised k    the loop over an array of flags has told the first k
 -- Assumes nothing.
-use Rattle.std.proofs.Common.{ℕ, ◌+◌, ◌-◌, ◌≤◌, ◌<◌, ◌≡◌, refl, sym, ap, ◌∙◌, Bool, true, false, arith, List, length, map}
+use Rattle.std.proofs.Common.{ℕ, zero, suc, ◌+◌, ◌-◌, ◌≤◌, ◌<◌, ◌≡◌, refl, sym, ap, ◌∙◌, Bool, true, false, arith, List, [], ◌∷◌, length, map, ap₂}
+use Rattle.std.specs.List.{list_all}
 use Rattle.std.proofs.Common.{◌++◌, append-nil, slice_index_or, set, replicate}
 use Rattle.std.proofs.Math.ListN.{get_or-map}
 use Rattle.std.proofs.lemmas.List.{length-map, map-set}
 use Rattle.text.specs.Flags.{is_flag, is_raised, flag_of}
 use Rattle.text.specs.Rooms.{filled_room}
+use Rattle.text.proofs.Choices.{both, both_left, both_right}
 use Rattle.text.proofs.RoomsFilled.{IsCopied, none_copied, one_copied, all_copied}
 
 -- what is written is read, and is a flag
@@ -38,6 +40,30 @@ raised-set fs k b = map-set is_raised fs k (flag_of b) ∙ ap (set (map is_raise
 
 pub raised_many : (fs : List ℕ) → length (map is_raised fs) ≡ length fs
 raised_many fs = length-map fs is_raised
+
+-- a list written and read, and read and written
+pub flags_told : (bs : List Bool) → map is_raised (map flag_of bs) ≡ bs
+flags_told [] = refl
+flags_told (b ∷ bs) = ap₂ ◌∷◌ (flag_told b) (flags_told bs)
+
+pub flags_legal : (bs : List Bool) → list_all is_flag (map flag_of bs) ≡ true
+flags_legal [] = refl
+flags_legal (b ∷ bs) = both (flag_legal b) (flags_legal bs)
+
+pub flags_again : (fs : List ℕ) → list_all is_flag fs ≡ true → map flag_of (map is_raised fs) ≡ fs
+flags_again [] e = refl
+flags_again (f ∷ fs) e =
+    ap₂ ◌∷◌ (flag_back f (both_left (is_flag f) (list_all is_flag fs) e))
+    (flags_again fs (both_right (is_flag f) (list_all is_flag fs) e))
+
+-- so many alike
+pub raised-replicate : (n : ℕ) → map is_raised (replicate n 0) ≡ replicate n false
+raised-replicate zero = refl
+raised-replicate (suc n) = ap (λ (bs : List Bool). false ∷ bs) (raised-replicate n)
+
+pub flags-replicate : (n : ℕ) → map flag_of (replicate n true) ≡ replicate n 1
+flags-replicate zero = refl
+flags-replicate (suc n) = ap (λ (fs : List ℕ). 1 ∷ fs) (flags-replicate n)
 
 -- told one after the other
 module _ (fs : List ℕ) where
