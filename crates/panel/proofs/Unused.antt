@@ -4,9 +4,9 @@
 use Rattle.std.specs.List.{list_all}
 use Rattle.std.proofs.Common.{ℕ, ◌<◌, ◌≤◌, ◌+◌, ◌-◌, ◌≡◌, refl, sym, ap, ◌∙◌, Bool, true, false, not, List, [], ◌∷◌}
 use Rattle.std.proofs.Common.{arith, length, slice_index_or, drop, replicate, length-drop, get_or-drop, eqb-true, ◌==◌}
-use Rattle.std.proofs.lemmas.Bool.{not-true}
+use Rattle.text.specs.Flags.{is_lowered, is_raised}
 use Rattle.text.proofs.RoomsTold.{uses_told}
-use Rattle.text.proofs.Choices.{both_right}
+use Rattle.text.proofs.Choices.{both_left, both_right}
 use Rattle.text.proofs.Scanning.{list_all_at}
 use Rattle.pjlink.specs.Carried.{lamps_carried}
 use Rattle.panel.specs.Entries.{talk_of, shown_of, ungreeted, blank_entry}
@@ -34,14 +34,14 @@ module _ (e : Entry) where
     len : e.password.len ≡ 0
     greeting : e.greeting ≡ ungreeted
     random : e.random ≡ 0
-    led : e.led ≡ false
-    under_way : e.under_way ≡ false
+    led : e.led ≡ 0
+    under_way : e.under_way ≡ 0
     code : e.command.code ≡ 0
     first : e.command.first ≡ 0
     second : e.command.second ≡ 0
-    power_known : e.power_known ≡ false
-    input_known : e.input_known ≡ false
-    lamps_known : e.lamps_known ≡ false
+    power_known : e.power_known ≡ 0
+    input_known : e.input_known ≡ 0
+    lamps_known : e.lamps_known ≡ 0
     power : e.power ≡ 0
     input_type : e.input_type ≡ 0
     input_number : e.input_number ≡ 0
@@ -54,7 +54,7 @@ module _ (e : Entry) where
   unfolding is_unused
   ends h = (grind (arith, h), grind (arith, h))
 
-  no_input : e.input_known ≡ false → is_input_shown e.input_known e.input_type e.input_number ≡ true
+  no_input : is_raised e.input_known ≡ false → is_input_shown (is_raised e.input_known) e.input_type e.input_number ≡ true
       → (e.input_type ≡ 0) × (e.input_number ≡ 0)
   unfolding is_input_shown
   no_input none h = (grind (arith, none, h), grind (arith, none, h))
@@ -90,11 +90,11 @@ module _ (e : Entry) where
           strays = (ends unused).1;
         }
 
-    none_lit : e.lit ≡ replicate lamps_carried false
+    none_lit : e.lit ≡ replicate lamps_carried 0
     unfolding is_lit_room
     none_lit =
-        let room = (room_told not lamps_carried e.lit e.lamp_count).0 none_kept.lit in
-        unused_room not false not-true e.lit room.long room.clear none_kept.lamp_count
+        let room = (room_told is_lowered lamps_carried e.lit e.lamp_count).0 (both_left _ _ none_kept.lit) in
+        unused_room is_lowered 0 (λ y. eqb-true y 0) e.lit room.long room.clear none_kept.lamp_count
 
     pub unused_is_blank : e ≡ blank_entry
     unused_is_blank =

@@ -1,5 +1,5 @@
 -- What a flag tells, and what a list of flags does.
---   IsRaisedTo flags raised k    the loop over an array of flags has told the first k
+--   IsMappedTo f d xs ys k    the loop over an array has turned the first k of xs by f into those of ys
 -- Assumes nothing.
 use Rattle.std.proofs.Common.{ℕ, zero, suc, ◌+◌, ◌-◌, ◌≤◌, ◌<◌, ◌≡◌, refl, sym, ap, ◌∙◌, Bool, true, false, arith, List, [], ◌∷◌, length, map, ap₂}
 use Rattle.std.specs.List.{list_all}
@@ -7,9 +7,8 @@ use Rattle.std.proofs.Common.{◌++◌, append-nil, slice_index_or, set, replica
 use Rattle.std.proofs.Math.ListN.{get_or-map}
 use Rattle.std.proofs.lemmas.List.{length-map, map-set}
 use Rattle.text.specs.Flags.{is_flag, is_raised, flag_of}
-use Rattle.text.specs.Rooms.{filled_room}
 use Rattle.text.proofs.Choices.{both, both_left, both_right}
-use Rattle.text.proofs.RoomsFilled.{IsCopied, none_copied, one_copied, all_copied}
+use Rattle.text.proofs.RoomsFilled.{IsCopied, one_copied, all_copied}
 
 -- what is written is read, and is a flag
 pub flag_told : (b : Bool) → is_raised (flag_of b) ≡ b
@@ -61,26 +60,30 @@ pub raised-replicate : (n : ℕ) → map is_raised (replicate n 0) ≡ replicate
 raised-replicate zero = refl
 raised-replicate (suc n) = ap (λ (bs : List Bool). false ∷ bs) (raised-replicate n)
 
+pub lowered-replicate : (n : ℕ) → map flag_of (replicate n false) ≡ replicate n 0
+lowered-replicate zero = refl
+lowered-replicate (suc n) = ap (λ (fs : List ℕ). 0 ∷ fs) (lowered-replicate n)
+
 pub flags-replicate : (n : ℕ) → map flag_of (replicate n true) ≡ replicate n 1
 flags-replicate zero = refl
 flags-replicate (suc n) = ap (λ (fs : List ℕ). 1 ∷ fs) (flags-replicate n)
 
--- told one after the other
-module _ (fs : List ℕ) where
-  abbrev pub IsRaisedTo : List Bool → ℕ → Type 0
-  IsRaisedTo told k = IsCopied false (length fs) (map is_raised fs) told k
+-- turned one after the other
+module _ {A B : Type 0} (f : A → B) (d : A) (xs : List A) where
+  abbrev pub IsMappedTo : List B → ℕ → Type 0
+  IsMappedTo ys k = IsCopied (f d) (length xs) (map f xs) ys k
 
-  module _ {told : List Bool} {k : ℕ} (done : IsRaisedTo told k) where
-    pub one_told : {b : Bool} → k < length fs → b ≡ is_raised (slice_index_or fs k 0)
-        → IsRaisedTo (set told k b) (k + 1)
-    one_told {b} h e =
-        one_copied false (length fs) (map is_raised fs) (omega (arith, raised_many fs)) done
-        (omega (arith, raised_many fs)) (e ∙ sym (raised_at fs k))
+  module _ {ys : List B} {k : ℕ} (done : IsMappedTo ys k) where
+    pub one_mapped : {y : B} → k < length xs → y ≡ f (slice_index_or xs k d) → IsMappedTo (set ys k y) (k + 1)
+    one_mapped {y} h e =
+        let many = length-map xs f in
+        one_copied (f d) (length xs) (map f xs) (omega (arith, many)) done (omega (arith, many))
+        (e ∙ sym (get_or-map f xs k d))
 
-    pub all_told : length fs ≤ k → told ≡ map is_raised fs
-    all_told h =
-        let rest : length fs - length (map is_raised fs) ≡ 0 = omega (arith, raised_many fs) in
-        all_copied false (length fs) (map is_raised fs) (omega (arith, raised_many fs)) done
-        (omega (arith, h, raised_many fs))
-        ∙ ap (λ n. map is_raised fs ++ replicate n false) rest
-        ∙ append-nil (map is_raised fs)
+    pub all_mapped : length xs ≤ k → ys ≡ map f xs
+    all_mapped h =
+        let many = length-map xs f in
+        let rest : length xs - length (map f xs) ≡ 0 = omega (arith, many) in
+        all_copied (f d) (length xs) (map f xs) (omega (arith, many)) done (omega (arith, h, many))
+        ∙ ap (λ n. map f xs ++ replicate n (f d)) rest
+        ∙ append-nil (map f xs)

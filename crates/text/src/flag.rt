@@ -36,7 +36,20 @@ pub fn of(raised: bool) -> u8
     if raised { 1 } else { 0 }
 }
 
+/// The flags that say so.
+#[tactic(auto, using(crate::proofs::FlagsTold::one_mapped, crate::proofs::FlagsTold::all_mapped))]
+pub fn flags<const N: usize>(raised: &[bool; N]) -> [u8; N]
+    ensures { result ≡ map flag_of raised.now }
+{
+    let mut flags = [0; N];
+    for k in 0..N {
+        flags[k] = of(raised[k]);
+    }
+    flags
+}
+
 /// What each of these flags says.
+#[tactic(auto, using(crate::proofs::FlagsTold::one_mapped, crate::proofs::FlagsTold::all_mapped))]
 pub fn raised<const N: usize>(flags: &[u8; N]) -> [bool; N]
     ensures { result ≡ map is_raised flags.now }
 {
