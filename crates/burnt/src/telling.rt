@@ -27,7 +27,7 @@ use report::Report;
 use report::lamps::{LAMPS, Totals};
 use report::page::Stretch;
 use std::io;
-use text::rooms;
+use text::{flag, rooms};
 use textio::lines::Failure;
 use textio::reader::{ByteSource, Reader};
 use textio::writer::ByteSink;
@@ -49,7 +49,8 @@ pub fn tell_ended<W: ByteSink>(
         return Ok(());
     }
     let device = watch.device();
-    let lit = rooms::first(&device.own.enabled, device.settings.lamp_count);
+    let marks = flag::raised(&device.own.enabled);
+    let lit = rooms::first(&marks, device.settings.lamp_count);
     let stretch = Stretch {
         from: watch.from(),
         to: watch.time(),

@@ -20,6 +20,7 @@ use history::recorder::Recorder;
 use record::legality::Tested;
 use record::types::{Device, LAMPS_MOST};
 use recorded::chain::{self, Why};
+use text::flag;
 
 /// A log as it is watched: its record, tested where the log began; the seconds gone since the log began; the second at
 /// which the lamps began to burn last; and the seconds that each lamp burnt in stretches that have ended.
@@ -45,7 +46,7 @@ fn burn(burnt: &mut [u64; LAMPS_MOST], device: &Device, n: u64)
     ensures { burnt.new ≡ gained_by device.now n burnt.old }
 {
     for k in 0..device.settings.lamp_count.min(LAMPS_MOST) {
-        let is_enabled = device.own.enabled[k];
+        let is_enabled = flag::is_raised(device.own.enabled[k]);
         if is_enabled {
             burnt[k] += n;
         }

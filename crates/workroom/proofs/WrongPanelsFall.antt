@@ -28,7 +28,7 @@ abbrev power_shown : Shown → ℕ
 power_shown s = s.power
 
 abbrev waits_for : Talk → ℕ
-waits_for t = bit t.under_way
+waits_for t = t.under_way
 
 differ : (m n : ℕ) → (m == n) ≡ false → m ≡ n → ⊥
 differ m n other = eqb-false m n other
