@@ -7,13 +7,14 @@ use crate::about::About;
 use crate::headless::is_headless;
 use crate::joined::{Joined, Opens};
 use crate::outside::{Outside, System};
+use crate::said;
 use crate::status::Status;
 use crate::telling::{Ending, Telling};
-use crate::{about, said};
 use command::asked;
 use command::asked::{Command, Stop};
 use floorlog::cut;
 use formfile::{Begun, NotBegun};
+use reasons::about::version_text;
 use std::alloc::Global;
 use std::convert::AsStr;
 use std::io::Error;
@@ -35,7 +36,8 @@ fn put_about<W: ByteSink>(about: &About, stop: &Stop<'_>, to: &mut W) -> io::Res
     }
     put(to, about.name.as_bytes())?;
     put(to, b" ")?;
-    put(to, about::VERSION.as_bytes())?;
+    put(to, version_text().as_bytes())?;
+    put(to, b"\n")?;
     to.flush()
 }
 

@@ -6,7 +6,7 @@ ghost use Rattle.program.specs.Said.{stray_warning, headless_warning};
 ghost use Rattle.recorded.specs.Following.{stray_seen};
 
 use command::asked::Stop;
-use reasons::number_text;
+use reasons::numbers::number_text;
 use recorded::stray::{StrayLine, StrayText};
 use std::io;
 use std::io::{Error, ErrorKind};
