@@ -70,7 +70,7 @@ PlayerLeft p ls last =
 abbrev pub PlayerOverflows : Player → List LogLine → Type 0
 PlayerOverflows p ls = 2 ^ 64 ≤ p.played + length ls
 
-left_so : (p : Player) → PlayerLeft p [] p
+pub left_so : (p : Player) → PlayerLeft p [] p
 left_so p = (
   sym (state_none p.tested.device),
   sym (unplayed_none answer left_by_event p.unplayed p.played p.tested.device),
