@@ -952,8 +952,8 @@ static inline const char *pj_setting_text(uint32_t setting) {
     return (const char *)words.bytes;
 }
 
-/* Of which version of the face the archive is, and of which kit: "ceiling 13 (rattle-kit-..)". `strings libboard.a`
-   shows it too. */
+/* Of which version of the face the archive is, of which day, and of which kit:
+   "ceiling 13 of 2026-11-27 (rattle-kit-..)". `strings libboard.a` shows it too. */
 CEILING_KEEP
 static inline const char *pj_face_text(void) {
     pj_bytes words = {(const uint8_t *)"", 1};
