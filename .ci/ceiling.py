@@ -12,11 +12,13 @@ def functions(text):
     and what it defines itself (`static inline`), whose text is passed over."""
     text = re.sub(r"^\s*#(?:[^\n]*\\\n)*[^\n]*", " ", code(text), flags=re.M)
     text = re.sub(r"\bstatic inline\b[^;{]*\{(?:[^{}]|\{[^{}]*\})*\}", " ", text)
-    return set(re.findall(r"\b([A-Za-z_]\w*)\s*\(", text)) - {"CEILING_IS", "sizeof", "offsetof"}
+    return set(re.findall(r"\b([A-Za-z_]\w*)\s*\((?!\*)", text)) - {"CEILING_IS", "sizeof", "offsetof"}
 
 
 def constants(text):
-    """Each case of an enum with what the header says that it is: nothing where it says nothing."""
+    """The version of the face and each case of an enum, with what the header says that it is: nothing where it says
+    nothing."""
+    yield from re.findall(r"^#define (CEILING_FACE) (\w+)$", code(text), re.M)
     for cases in re.findall(r"\benum\b[^{;]*\{([^}]*)\}", code(text)):
         for case in filter(str.strip, cases.split(",")):
             yield tuple(part.strip() for part in case.partition("=")[::2])

@@ -1,8 +1,8 @@
 /* A workroom panel (RULES, Panel) and two projectors in one program: what each writes is handed to the other in memory,
-   where a real host has a socket for each projector. Projector 0 has no password, projector 1 has one. Every number
-   that a call gives is tested before anything else of its result is used. What it must print, by docs/RULES.md, is
-   in panel.stdout: `0 > LINE` goes to projector 0, `0 < LINE` comes from it, and after them stands what
-   the panel shows. */
+   where a real host has a socket for each projector. Projector 0 has no password, projector 1 has one; both are of Class
+   1. The host lends its panel to the calls in place. Every number that a call gives is tested before anything else of
+   its result is used. What it must print, by docs/RULES.md, is in panel.stdout: `0 > LINE` goes to projector 0, `0 <
+   LINE: WHAT` comes from it and was that, and after them stands what the panel shows. */
 #include <stdio.h>
 #include <stdlib.h>
 #include <string.h>
@@ -20,7 +20,7 @@ static uint8_t line[PJ_REPLY_ROOM]; /* the last line that a projector wrote */
 /* Ends the program where a call was refused that should be served. */
 static void served(uint32_t number, const char *call) {
     if (number == PJ_SERVED) return;
-    printf("%s gives %u\n", call, (unsigned)number);
+    printf("%s gives %u: %s\n", call, (unsigned)number, pj_number_text(number));
     exit(1);
 }
 
@@ -47,18 +47,32 @@ static void set_up(size_t projector, const char *password) {
     served(number, "pj_set_up_in_place");
 }
 
-static void add(const char *password) {
-    pj_panel_changed c = pj_panel_add(panel, TEXT(password));
-    served(c.number, "pj_panel_add");
-    panel = c.panel;
+static void add(const char *password) { served(pj_panel_add_in_place(&panel, TEXT(password)), "pj_panel_add_in_place"); }
+
+/* What a line was. The panel keeps of it what it shows, and no more: an error and a wrong password are told here alone. */
+static void tell(const pj_heard *h) {
+    const pj_reading *r = &h->reading;
+    switch (h->kind) {
+    case PJ_HEARD_GREETING: printf("the greeting\n"); break;
+    case PJ_HEARD_ERRA: printf("wrong password\n"); break;
+    case PJ_HEARD_REPLY:
+        if (r->kind == PJ_READ_OK) printf("done\n");
+        else if (r->kind == PJ_READ_ERR) printf("error %d\n", r->first);
+        else if (r->kind == PJ_READ_CLASS) printf("class %d\n", r->first);
+        else printf("the answer\n");
+        break;
+    case PJ_HEARD_LATE: printf("late\n"); break;
+    case PJ_HEARD_FOREIGN: printf("foreign, %s\n", pj_number_text(r->number)); break;
+    default: printf("malformed\n"); break;
+    }
 }
 
 /* A line comes from the projector. */
 static void comes(size_t projector, const uint8_t *bytes, size_t len) {
-    printf("%zu < %.*s\n", projector, (int)len - 1, (const char *)bytes);
-    pj_panel_changed c = pj_panel_line(panel, projector, bytes, len);
-    served(c.number, "pj_panel_line");
-    panel = c.panel;
+    pj_heard h = pj_panel_hear_in_place(&panel, projector, bytes, len);
+    served(h.number, "pj_panel_hear_in_place");
+    printf("%zu < %.*s: ", projector, (int)len - 1, (const char *)bytes);
+    tell(&h);
 }
 
 /* The panel connects to the projector, whose greeting comes. A real host draws a random number for each connection;
@@ -74,11 +88,10 @@ static void connect_to(size_t projector) {
 static size_t go(size_t projector, uint8_t code, uint8_t first, uint8_t second) {
     uint8_t sent[PJ_COMMAND_ROOM];
     pj_command command = {code, first, second};
-    pj_panel_sent s = pj_panel_command(panel, projector, command, sent, sizeof sent);
-    served(s.number, "pj_panel_command");
-    panel = s.panel;
-    printf("%zu > %.*s\n", projector, (int)s.length - 1, (const char *)sent);
-    pj_receiving r = pj_receive_in_place(&devices[projector], places[projector], sent, s.length, line, sizeof line);
+    pj_written w = pj_panel_command_in_place(&panel, projector, command, sent, sizeof sent);
+    served(w.number, "pj_panel_command_in_place");
+    printf("%zu > %.*s\n", projector, (int)w.length - 1, (const char *)sent);
+    pj_receiving r = pj_receive_in_place(&devices[projector], places[projector], sent, w.length, line, sizeof line);
     served(r.number, "pj_receive_in_place");
     return r.length;
 }
@@ -93,8 +106,14 @@ static void ask(size_t projector, uint8_t code, uint8_t first, uint8_t second) {
 static void too_soon(size_t projector, const char *why) {
     uint8_t sent[PJ_COMMAND_ROOM];
     pj_command command = {PJ_POWR_ASK, 0, 0};
-    pj_panel_sent s = pj_panel_command(panel, projector, command, sent, sizeof sent);
-    printf("%s: refused %d\n", why, s.number == PJ_NOT_READY);
+    pj_written w = pj_panel_command_in_place(&panel, projector, command, sent, sizeof sent);
+    printf("%s: refused %d\n", why, w.number == PJ_NOT_READY);
+}
+
+/* The connection to the projector is gone. */
+static void lose(size_t projector) {
+    served(pj_panel_lost_in_place(&panel, projector), "pj_panel_lost_in_place");
+    show(projector);
 }
 
 static void without_a_password(void) {
@@ -102,6 +121,7 @@ static void without_a_password(void) {
     connect_to(0);
     show(0);
     ask(0, PJ_POWR_ASK, 0, 0);
+    ask(0, PJ_INPT_SET, 3, 2); /* ERR3, since the power is off: no reading changes */
     ask(0, PJ_POWR_SET, 1, 0); /* OK: what the power is now, the panel does not know before it asks */
     served(pj_pass_in_place(&devices[0], 20), "pj_pass_in_place");
     ask(0, PJ_POWR_ASK, 0, 0);
@@ -121,6 +141,20 @@ static void without_a_password(void) {
     show(0);
 }
 
+/* A projector of Class 1 gives no reply to a command of Class 2, and no call of a panel counts time: the host does. */
+static void without_a_reply(void) {
+    go(0, PJ_SNUM, 0, 0);
+    show(0);
+    too_soon(0, "no reply");
+
+    /* after 30 seconds without one the host gives the connection up, tells the panel, and connects again */
+    served(pj_pass_in_place(&devices[0], 30), "pj_pass_in_place");
+    served(pj_close_in_place(&devices[0], places[0]), "pj_close_in_place");
+    lose(0);
+    connect_to(0);
+    ask(0, PJ_CLSS, 0, 0); /* what a host asks first, and then it sends no such command */
+}
+
 static void with_a_password(void) {
     connect_to(1);
     show(1);
@@ -129,10 +163,7 @@ static void with_a_password(void) {
 
     /* somebody sets the projector up with another password: the connection is gone, what is known stays */
     set_up(1, "Schnitt8");
-    pj_panel_changed lost = pj_panel_lost(panel, 1);
-    served(lost.number, "pj_panel_lost");
-    panel = lost.panel;
-    show(1);
+    lose(1);
 
     /* the panel's password is wrong now: nothing is known any more, and a new greeting is awaited */
     connect_to(1);
@@ -147,12 +178,11 @@ static void with_a_password(void) {
 int main(void) {
     set_up(0, "");
     set_up(1, "JBMIAProjectorLink");
-    pj_panel_changed none = pj_panel_none();
-    served(none.number, "pj_panel_none");
-    panel = none.panel;
+    served(pj_panel_none_in_place(&panel), "pj_panel_none_in_place");
     add("");
     add("JBMIAProjectorLink");
     without_a_password();
+    without_a_reply();
     with_a_password();
     show(0); /* nothing of this touched the other */
     return 0;

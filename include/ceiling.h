@@ -14,7 +14,9 @@
    after the other.
 
    A call asks only what C cannot say:
-   - A pointer is good for its length, and one to a record for a record. It is never NULL, even with length 0.
+   - A pointer is good for its length, and one to a record for a record. It is never NULL, even with length 0: no memory
+     can be lent there, of no bytes either, and what a call does with it is not said, whatever an archive of today does.
+     A setting by name (pj_setup) may be NULL where its count is 0.
    - A bool is 0 or 1.
    - Memory that a call writes, be it reply memory, a result list or a record, overlaps nothing else that is lent to
      that call. So what came and the reply need a buffer each.
@@ -29,8 +31,9 @@
 #include <stdint.h>
 
 /* The version of this face. It changes with each change of a struct or a call; CHANGELOG.md says what changed. A host
-   that was written for one version can ask for it: #if CEILING_FACE != 12 .. #error. */
-#define CEILING_FACE 12
+   that was written for one version can ask for it: #if CEILING_FACE != 13 .. #error. Header and archive have to be of
+   one version, and a host whose are not does not link: pj_face_13, below. */
+#define CEILING_FACE 13
 
 /* What stands before each call: a compiler warns where its result is dropped, with the number or the record in it. */
 #if defined(__cplusplus) && __cplusplus >= 201703L || defined(__STDC_VERSION__) && __STDC_VERSION__ >= 202311L
@@ -47,6 +50,29 @@ extern "C" {
 #else
 #define CEILING_IS(fact) _Static_assert(fact, #fact)
 #endif
+
+/* The version of the face that the archive has. Refuses nothing. */
+CEILING_KEEP
+uint32_t pj_face(void);
+
+/* The same, by a name that has the version in it; a host calls pj_face. Each object that is compiled with this header
+   needs the name, whether it makes calls or not, so that an archive of another version is not linked with it: "undefined
+   reference to `pj_face_13'". With GCC before 11 and clang before 13 a link that leaves sections out (--gc-sections) may
+   leave this one out, and with other compilers an optimiser may. */
+CEILING_KEEP
+uint32_t pj_face_13(void);
+
+#if defined(__has_attribute)
+#if __has_attribute(retain)
+#define CEILING_STAYS __attribute__((used, retain))
+#endif
+#endif
+#if !defined(CEILING_STAYS) && defined(__GNUC__)
+#define CEILING_STAYS __attribute__((used))
+#elif !defined(CEILING_STAYS)
+#define CEILING_STAYS
+#endif
+static uint32_t (*const pj_face_needed)(void) CEILING_STAYS = pj_face_13;
 
 /* The number that a call gives: PJ_SERVED, or the first of the others that applies, in this order. Below, each call
    says with which it refuses. With 1 to 9 the record that was given comes back, or stays as it was where it lies (from
@@ -656,7 +682,7 @@ CEILING_KEEP
 pj_greeting pj_read_greeting(const uint8_t *line, size_t len);
 
 enum pj_reading_kind {
-    PJ_READ_NONE = 0,                       /* no meaning: the number is not 0 */
+    PJ_READ_NONE = 0,                       /* no meaning: the number is not 0; or no reply was read (pj_heard) */
     PJ_READ_OK = 1,
     PJ_READ_ERR = 2,                        /* first: n of ERRn, 1 to 4 */
     PJ_READ_POWER = 3,                      /* first: enum pj_power */
@@ -694,12 +720,18 @@ pj_reading pj_read_reply(pj_command c, const uint8_t *line, size_t len);
 
 /* The workroom panel. It drives up to PJ_PANEL_MOST projectors, each over a connection of its own that the host makes:
    the host collects each line to its CR and hands it in with the number of the projector that it came from, from 0 in
-   the order in which they were added. The panel keeps a record, pj_panel, as the projector keeps pj_device: store what
-   comes back over the one you had.
+   the order in which they were added. The panel keeps a record, pj_panel, as the projector keeps pj_device: a host's own
+   calls are those `.._in_place`, and from one by value it stores what comes back over the panel it had.
 
    The panel writes commands and reads lines as pj_write, pj_read_greeting and pj_read_reply do. One command is under
    way at a time for each projector. A line that is late, foreign or malformed is a stray: it is counted, and changes
-   nothing else. */
+   nothing else.
+
+   A command that gets no reply blocks its projector's entry: every other command is refused with PJ_NOT_READY until the
+   host closes the connection, calls pj_panel_lost_in_place, and connects again. No call of a panel counts time, so the
+   host does; the specification has no reply come later than 30 seconds. A projector of Class 1 gives no reply to a
+   command of Class 2 (PJ_FREZ_ASK and after). So ask PJ_CLSS first, once in each connection, and send such a command
+   only where the reading was class 2. */
 
 enum pj_awaited {                           /* the greeting that a projector has sent */
     PJ_AWAITED_GREETING = 0,                /* none yet: a greeting is awaited, and any other line is malformed */
@@ -767,7 +799,7 @@ pj_panel_sent pj_panel_command(pj_panel p, size_t projector, pj_command c, uint8
      power, input and lamps unknown, and a new greeting is awaited. Any other reply ends it: the power, the input (under
      `%1` or `%2`) or the lamps that it tells are now known and shown, and a reply that tells none of them (OK, ERR1 to
      ERR4) changes none. To a command of Class 2 a projector of Class 1 gives no reply: it stays under way until
-     pj_panel_lost.
+     pj_panel_lost (above).
    Refuses with PJ_NOT_LEGAL, then with PJ_OUT_OF_RANGE a projector that there is not. A stray is not refused. */
 CEILING_KEEP
 pj_panel_changed pj_panel_line(pj_panel p, size_t projector, const uint8_t *line, size_t len);
@@ -777,6 +809,55 @@ pj_panel_changed pj_panel_line(pj_panel p, size_t projector, const uint8_t *line
    Refuses with PJ_NOT_LEGAL, then with PJ_OUT_OF_RANGE a projector that there is not. */
 CEILING_KEEP
 pj_panel_changed pj_panel_lost(pj_panel p, size_t projector);
+
+/* The same calls on a panel that is lent: each refuses as its like by value, with the same number, and serves as it
+   does; the panel changes where it lies, and a refused call leaves it as it was. */
+
+/* pj_panel_none, into *p. */
+CEILING_KEEP
+uint32_t pj_panel_none_in_place(pj_panel *p);
+
+/* pj_panel_add. */
+CEILING_KEEP
+uint32_t pj_panel_add_in_place(pj_panel *p, const uint8_t *password, size_t password_len);
+
+/* pj_panel_command. */
+CEILING_KEEP
+pj_written pj_panel_command_in_place(pj_panel *p, size_t projector, pj_command c, uint8_t *out, size_t out_len);
+
+/* pj_panel_line, for a host that does not ask what the line was. */
+CEILING_KEEP
+uint32_t pj_panel_line_in_place(pj_panel *p, size_t projector, const uint8_t *line, size_t len);
+
+enum pj_heard_kind {                        /* what a line was */
+    PJ_HEARD_NOTHING = 0,                   /* with a number that is not 0 */
+    PJ_HEARD_GREETING = 1,                  /* its greeting, which is accepted */
+    PJ_HEARD_REPLY = 2,                     /* an accepted reply: OK, which error, or what the reading tells */
+    PJ_HEARD_ERRA = 3,                      /* the projector refused the digest: the password is wrong */
+    PJ_HEARD_LATE = 4,                      /* a stray: no command was under way */
+    PJ_HEARD_FOREIGN = 5,                   /* a stray: it answers another command */
+    PJ_HEARD_MALFORMED = 6                  /* a stray: neither a reply that is allowed nor, where one is awaited, a
+                                               greeting; PJLINK ERRA before a greeting too, from a projector that
+                                               refuses this host whatever its password */
+};
+
+typedef struct {
+    uint32_t number;
+    uint8_t kind;                           /* enum pj_heard_kind */
+    pj_reading reading;                     /* what pj_read_reply gives for the command that was under way, its own
+                                               number (of strays 10, 11 or 12) among it; all zero with
+                                               PJ_HEARD_NOTHING, PJ_HEARD_GREETING and PJ_HEARD_LATE, and where a
+                                               greeting was awaited */
+} pj_heard;
+
+/* pj_panel_line, which also tells what the line was and what it says. The panel changes as it does by pj_panel_line: what
+   was told is kept nowhere, so a host that shows an error or a wrong password notes it itself. */
+CEILING_KEEP
+pj_heard pj_panel_hear_in_place(pj_panel *p, size_t projector, const uint8_t *line, size_t len);
+
+/* pj_panel_lost. */
+CEILING_KEEP
+uint32_t pj_panel_lost_in_place(pj_panel *p, size_t projector);
 
 /* Service. */
 
@@ -841,12 +922,49 @@ pj_plan pj_plan_day(const uint32_t *starts, size_t starts_len, const uint32_t *l
                     const uint32_t *cool, size_t cool_len, const uint32_t *life, size_t life_len,
                     uint8_t *out, size_t out_len);
 
-/* Set-up with its settings by name: two calls that the header makes of those above, and the archive does not have. */
+/* What is told to a person, in English: a few words of printable ASCII with no full stop, the same that the programs
+   `replay` and `burnt` print. They lie in the archive, for as long as the program runs, and a NUL ends them. A host calls
+   pj_number_text, pj_setting_text and pj_face_text, which the header makes of the three calls of the archive; those fill
+   a pj_bytes that has to be one already, with NULL in it never, by the text and its length with the NUL. */
 
-typedef struct {                            /* bytes that the host keeps, and their count; NULL where that is 0 */
+typedef struct {                            /* bytes that someone else keeps, and their count */
     const uint8_t *bytes;
     size_t len;
 } pj_bytes;
+
+void pj_number_words(uint32_t number, pj_bytes *words);
+void pj_setting_words(uint32_t setting, pj_bytes *words);
+void pj_face_words(pj_bytes *words);
+
+/* What a number says (enum pj_number): "served", "the lent memory is too small", .. Of a number that no call gives it
+   says that. */
+CEILING_KEEP
+static inline const char *pj_number_text(uint32_t number) {
+    pj_bytes words = {(const uint8_t *)"", 1};
+    pj_number_words(number, &words);
+    return (const char *)words.bytes;
+}
+
+/* What a setting is called (enum pj_setting): "the name", "the lamps' seconds", .. Of PJ_SETTING_NONE and of a number
+   that is no setting it says that. */
+CEILING_KEEP
+static inline const char *pj_setting_text(uint32_t setting) {
+    pj_bytes words = {(const uint8_t *)"", 1};
+    pj_setting_words(setting, &words);
+    return (const char *)words.bytes;
+}
+
+/* Of which version of the face the archive is, of which day, and of which kit:
+   "ceiling 13 of 2026-11-27 (rattle-kit-..)". `strings libboard.a` shows it too. */
+CEILING_KEEP
+static inline const char *pj_face_text(void) {
+    pj_bytes words = {(const uint8_t *)"", 1};
+    pj_face_words(&words);
+    return (const char *)words.bytes;
+}
+
+/* Set-up with its settings by name: two calls that the header makes of those above, and the archive does not have. Here
+   the bytes of a setting are those that the host keeps, and may be NULL where their count is 0. */
 
 /* The bytes of a string literal, without the NUL that ends it: .name = PJ_BYTES("Table 3") */
 #define PJ_BYTES(literal) {(const uint8_t *)("" literal), sizeof("" literal) - 1}
@@ -983,6 +1101,7 @@ CEILING_IS(sizeof(pj_receiving) == 24 && offsetof(pj_receiving, taken) == 8 && o
 CEILING_IS(sizeof(pj_opening) == 24 && offsetof(pj_opening, length) == 8 && offsetof(pj_opening, place) == 16);
 CEILING_IS(sizeof(pj_passing) == 8 && offsetof(pj_passing, closed) == 4);
 CEILING_IS(sizeof(pj_log) == 12 && offsetof(pj_log, lines) == 4 && offsetof(pj_log, sum) == 8);
+CEILING_IS(sizeof(pj_bytes) == 16 && offsetof(pj_bytes, len) == 8);
 CEILING_IS(sizeof(pj_digest) == 16);
 CEILING_IS(sizeof(pj_command) == 3 && offsetof(pj_command, first) == 1 && offsetof(pj_command, second) == 2);
 CEILING_IS(sizeof(pj_written) == 16 && offsetof(pj_written, length) == 8);
@@ -1001,6 +1120,7 @@ CEILING_IS(sizeof(pj_panel) == 1224 && offsetof(pj_panel, entries) == 8);
 CEILING_IS(sizeof(pj_panel_changed) == 1232 && offsetof(pj_panel_changed, panel) == 8);
 CEILING_IS(sizeof(pj_panel_sent) == 1240 && offsetof(pj_panel_sent, length) == 8);
 CEILING_IS(offsetof(pj_panel_sent, panel) == 16);
+CEILING_IS(sizeof(pj_heard) == 256 && offsetof(pj_heard, kind) == 4 && offsetof(pj_heard, reading) == 8);
 CEILING_IS(sizeof(pj_compared) == 16 && offsetof(pj_compared, backwards) == 4 && offsetof(pj_compared, place) == 8);
 CEILING_IS(sizeof(pj_verdict) == 24 && offsetof(pj_verdict, rule) == 4 && offsetof(pj_verdict, first) == 8);
 CEILING_IS(offsetof(pj_verdict, second) == 16);
@@ -1012,5 +1132,6 @@ CEILING_IS(sizeof(pj_plan) == 16 && offsetof(pj_plan, planned) == 4 && offsetof(
 
 #undef CEILING_IS
 #undef CEILING_KEEP
+#undef CEILING_STAYS
 
 #endif

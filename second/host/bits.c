@@ -146,6 +146,18 @@ static pj_device anew(const pj_device *d) {
     return made;
 }
 
+static pj_entry entry_anew(const pj_entry *e) {
+    pj_entry made;
+    memset(&made, 0, sizeof made);
+    made.password = e->password; made.greeting = e->greeting; made.random = e->random; made.led = e->led;
+    made.under_way = e->under_way; made.command.code = e->command.code; made.command.first = e->command.first;
+    made.command.second = e->command.second; made.power_known = e->power_known; made.input_known = e->input_known;
+    made.lamps_known = e->lamps_known; made.power = e->power; made.input_type = e->input_type;
+    made.input_number = e->input_number; made.lamp_count = e->lamp_count; made.strays = e->strays;
+    for (size_t k = 0; k < PJ_LAMPS_MOST; k++) { made.hours[k] = e->hours[k]; made.lit[k] = e->lit[k]; }
+    return made;
+}
+
 /* RULES, "When a record is legal", over the record's bytes. */
 
 static bool is_blank(const uint8_t *bytes, size_t length) {
@@ -504,43 +516,64 @@ static void turn_device(const char *name, const pj_device *base) {
     printf("%s: %lu of %zu bits leave it legal\n", name, legal_ones, 8 * sizeof turned);
 }
 
-/* The panel: as the record, by value. */
+/* The panel: as the record. */
 
 static size_t at_projector;
 static const pj_command asked = {PJ_LAMP, 0, 0};
 static const char *const panel_lines[] = {"PJLINK 1 498e4a67\r", "%1LAMP=12 1\r", "PJLINK ERRA\r", "%1POWR=1\r"};
 
-static pj_panel panel_call(const pj_panel *p, size_t call, given *g) {
+enum { ADD, COMMAND, LOST, HEAR, LINE }; /* from LINE on with each of the lines */
+
+static void panel_in_place(pj_panel *p, size_t call, given *g) {
     size_t length;
-    if (call == 0) {
-        const uint8_t *bytes = line_of("panel123", &length);
-        pj_panel_changed c = pj_panel_add(*p, bytes, length);
-        g->number = c.number;
-        return c.panel;
+    const uint8_t *bytes = line_of(call == ADD ? "panel123" : panel_lines[call >= LINE ? call - LINE : 1], &length);
+    if (call == ADD) {
+        g->number = pj_panel_add_in_place(p, bytes, length);
+    } else if (call == COMMAND) {
+        pj_written w = pj_panel_command_in_place(p, at_projector, asked, memory(PJ_COMMAND_ROOM), PJ_COMMAND_ROOM);
+        g->number = w.number;
+        wrote(g, PJ_COMMAND_ROOM, w.length);
+    } else if (call == LOST) {
+        g->number = pj_panel_lost_in_place(p, at_projector);
+    } else if (call == HEAR) {
+        pj_heard h = pj_panel_hear_in_place(p, at_projector, bytes, length);
+        g->number = h.number; g->counts[0] = h.kind; g->counts[1] = h.reading.number; g->counts[2] = h.reading.count;
+    } else {
+        g->number = pj_panel_line_in_place(p, at_projector, bytes, length);
     }
-    if (call == 1) {
+}
+
+/* By value; what has no like by value in place. */
+static void panel_by_value(pj_panel *p, size_t call, given *g) {
+    size_t length;
+    pj_panel_changed c = {0};
+    const uint8_t *bytes = line_of(call == ADD ? "panel123" : panel_lines[call >= LINE ? call - LINE : 1], &length);
+    if (call == COMMAND) {
         pj_panel_sent s = pj_panel_command(*p, at_projector, asked, memory(PJ_COMMAND_ROOM), PJ_COMMAND_ROOM);
         g->number = s.number;
         wrote(g, PJ_COMMAND_ROOM, s.length);
-        return s.panel;
+        *p = s.panel;
+        return;
     }
-    if (call == 2) {
-        pj_panel_changed c = pj_panel_lost(*p, at_projector);
-        g->number = c.number;
-        return c.panel;
+    if (call == HEAR) {
+        panel_in_place(p, call, g);
+        return;
     }
-    const uint8_t *bytes = line_of(panel_lines[call - 3], &length);
-    pj_panel_changed c = pj_panel_line(*p, at_projector, bytes, length);
+    if (call == ADD) c = pj_panel_add(*p, bytes, length);
+    if (call == LOST) c = pj_panel_lost(*p, at_projector);
+    if (call >= LINE) c = pj_panel_line(*p, at_projector, bytes, length);
     g->number = c.number;
-    return c.panel;
+    *p = c.panel;
 }
 
 static void turn_panel(const char *name, const pj_panel *base) {
-    static const char *const names[] = {"pj_panel_add", "pj_panel_command", "pj_panel_lost", "pj_panel_line, a greeting",
-                                        "pj_panel_line, a reply", "pj_panel_line, ERRA", "pj_panel_line, another reply"};
+    static const char *const names[] = {
+        "pj_panel_add", "pj_panel_command", "pj_panel_lost", "pj_panel_hear_in_place", "pj_panel_line, a greeting",
+        "pj_panel_line, a reply", "pj_panel_line, ERRA", "pj_panel_line, another reply"};
     static uint8_t fields[sizeof *base];
-    static pj_panel turned, other, after, other_after;
-    static given first, again;
+    static pj_panel turned, left;
+    static given first, again, other;
+    pj_panel *p = (pj_panel *)(void *)lend(sizeof *p);
     base_name = name;
     unsigned long legal_ones = 0;
     for (size_t call = 0; call < COUNT(names); call++) {
@@ -550,24 +583,33 @@ static void turn_panel(const char *name, const pj_panel *base) {
             ((uint8_t *)&turned)[turned_bit / 8] ^= (uint8_t)(1 << turned_bit % 8);
             bool is_one = is_panel(&turned);
             legal_ones += call == 0 && is_one;
-            for (at_projector = 0; at_projector < (call == 0 || !is_one ? 1 : 4); at_projector++) {
+            for (at_projector = 0; at_projector < (call == ADD || !is_one ? 1 : 4); at_projector++) {
                 clear(&first);
                 clear(&again);
-                after = panel_call(&turned, call, &first);
+                memcpy(p, &turned, sizeof *p);
+                panel_in_place(p, call, &first);
+                left = *p;
                 for (size_t k = first.length; k < first.room; k++) if (first.wrote[k] != 0xA5) wrong("bytes are written past the length");
                 if (is_one == (first.number == PJ_NOT_LEGAL)) wrong(is_one ? "a legal one is refused as not legal" : "one that is not legal is served");
-                if (first.number != PJ_SERVED && !same_panel(&after, &turned)) wrong("a refusal that changes the panel");
+                if (!is_one && (first.length > 0 || !is_blank((uint8_t *)first.counts, sizeof first.counts))) wrong("a refusal that gives more");
+                if (first.number != PJ_SERVED && memcmp(p, &turned, sizeof *p) != 0) wrong("a refusal that changes the panel");
+                memcpy(p, &turned, sizeof *p);
+                panel_by_value(p, call, &again);
+                same(&first, &again, "by value and in place differ");
+                if (!same_panel(&left, p)) wrong("by value and in place leave panels that differ");
                 if (is_one) {
-                    if (!is_panel(&after)) wrong("what is left is not legal");
-                    memset(&other, 0, sizeof other);
-                    other.count = turned.count;
-                    for (size_t k = 0; k < turned.count; k++) other.entries[k] = turned.entries[k];
-                    other_after = panel_call(&other, call, &again);
-                    same(&first, &again, "another panel with these values is served otherwise");
-                    if (!same_panel(&after, &other_after)) wrong("another panel with these values is left otherwise");
-                    add(fields, flat_panel(&after, fields));
+                    if (!is_panel(&left)) wrong("what is left is not legal");
+                    clear(&other);
+                    memset(p, 0, sizeof *p);
+                    p->count = turned.count;
+                    for (size_t k = 0; k < turned.count; k++) p->entries[k] = entry_anew(&turned.entries[k]);
+                    panel_in_place(p, call, &other);
+                    same(&first, &other, "another panel with these values is served otherwise");
+                    if (!same_panel(&left, p)) wrong("another panel with these values is left otherwise");
+                    add(fields, flat_panel(&left, fields));
                 }
                 add(&first.number, sizeof first.number);
+                add(first.counts, sizeof first.counts);
                 add(first.wrote, first.length);
                 tell_number(first.number);
             }

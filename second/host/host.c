@@ -136,6 +136,11 @@ static void put_panel_changed(pj_panel_changed c) {
     put_panel(c.panel);
 }
 
+static void put_panel_left(uint32_t number, const pj_panel *p) {
+    PUT(number);
+    put_panel(*p);
+}
+
 static pj_command get_command(void) {
     pj_command c;
     GET(c.code);
@@ -353,37 +358,71 @@ static void read_reply(void) {
     PUT(r.text);
 }
 
-static void add_to_panel(void) {
+/* in place it finds a full panel there */
+static void none_of_panel(bool in_place) {
+    if (in_place) {
+        pj_panel p;
+        memset(&p, 1, sizeof p);
+        uint32_t number = pj_panel_none_in_place(&p);
+        put_panel_left(number, &p);
+        return;
+    }
+    put_panel_changed(pj_panel_none());
+}
+
+static void add_to_panel(bool in_place) {
     pj_panel p = get_panel();
     slice password = get_slice();
+    if (in_place) {
+        uint32_t number = pj_panel_add_in_place(&p, password.at, password.n);
+        put_panel_left(number, &p);
+        return;
+    }
     put_panel_changed(pj_panel_add(p, password.at, password.n));
 }
 
-static void command_of_panel(void) {
+static void command_of_panel(bool in_place) {
     pj_panel p = get_panel();
     size_t projector;
     GET(projector);
     pj_command c = get_command();
     slice out = get_slice();
-    pj_panel_sent s = pj_panel_command(p, projector, c, out.at, out.n);
-    PUT(s.number);
-    PUT(s.length);
-    put_panel(s.panel);
+    if (in_place) {
+        pj_written w = pj_panel_command_in_place(&p, projector, c, out.at, out.n);
+        PUT(w.number);
+        PUT(w.length);
+        put_panel(p);
+    } else {
+        pj_panel_sent s = pj_panel_command(p, projector, c, out.at, out.n);
+        PUT(s.number);
+        PUT(s.length);
+        put_panel(s.panel);
+    }
     put_slice(out);
 }
 
-static void line_to_panel(void) {
+static void line_to_panel(bool in_place) {
     pj_panel p = get_panel();
     size_t projector;
     GET(projector);
     slice line = get_slice();
+    if (in_place) {
+        uint32_t number = pj_panel_line_in_place(&p, projector, line.at, line.n);
+        put_panel_left(number, &p);
+        return;
+    }
     put_panel_changed(pj_panel_line(p, projector, line.at, line.n));
 }
 
-static void lost_to_panel(void) {
+static void lost_to_panel(bool in_place) {
     pj_panel p = get_panel();
     size_t projector;
     GET(projector);
+    if (in_place) {
+        uint32_t number = pj_panel_lost_in_place(&p, projector);
+        put_panel_left(number, &p);
+        return;
+    }
     put_panel_changed(pj_panel_lost(p, projector));
 }
 
@@ -524,11 +563,11 @@ static void make_call(void) {
     case 16: set_up(WHICH_SETTING, d, false); break;
     case 17: store(d, in_place); break;
     case 18: load(d, in_place); break;
-    case 19: put_panel_changed(pj_panel_none()); break;
-    case 20: add_to_panel(); break;
-    case 21: command_of_panel(); break;
-    case 22: line_to_panel(); break;
-    case 23: lost_to_panel(); break;
+    case 19: none_of_panel(in_place); break;
+    case 20: add_to_panel(in_place); break;
+    case 21: command_of_panel(in_place); break;
+    case 22: line_to_panel(in_place); break;
+    case 23: lost_to_panel(in_place); break;
     case 24: set_mark(d, in_place); break;
     case 25: set_up(SET_UP_2, d, in_place); break;
     case 26: set_up(WHICH_SETTING_2, d, false); break;

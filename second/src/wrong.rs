@@ -117,6 +117,10 @@ mod tests {
             ("pj_panel_command", "led !1 !2 !3 !9"),
             ("pj_panel_line", "!1 !3 ERRA late shown ended"),
             ("pj_panel_lost", "served !1 !3"),
+            ("pj_panel_add_in_place", "served !1 !3"),
+            ("pj_panel_command_in_place", "led !1 !2 !3 !9"),
+            ("pj_panel_line_in_place", "!1 !3 ERRA late shown ended"),
+            ("pj_panel_lost_in_place", "served !1 !3"),
             ("pj_compare_lamps", "!3 none back"),
             ("pj_plan_day", "!3 planned unplanned"),
             ("pj_log_begun", "served"),
@@ -140,6 +144,7 @@ mod tests {
         (1..=3).for_each(|kind| assert!(of_kind("pj_read_greeting", kind) >= 100, "greeting {kind}"));
         (0..=4).for_each(|rule| assert!(run.met.times("pj_check_day", &format!("rule {rule}")) >= 100, "rule {rule}"));
         (1..=12).for_each(|kind| assert!(of_kind("pj_read_reply", kind) >= 100, "reading {kind}"));
+        (1..=6).for_each(|kind| assert!(of_kind("pj_panel_hear_in_place", kind) >= 100, "heard {kind}"));
         let told = |place| run.met.times("pj_which_setting", &format!("setting {place}"));
         (0..=9).for_each(|place| assert!(told(place) >= 100, "setting {place}: {}", told(place)));
         let told = |place| run.met.times("pj_which_setting_2", &format!("setting {place}"));

@@ -5,8 +5,9 @@
 --   outcome_constant o      why a call on a device, a call on a panel, set-up, loading, the writer is refused, and what
 --                           the reader takes from a line (enum pj_number)
 --   setting_constant m      a setting (enum pj_setting)
+--   heard_constant h        what a line that a panel heard was (enum pj_heard_kind)
 --   rule_constant v         the rule that a day breaks (enum pj_rule)
---   limits, phases, powers_kept, awaited     constants beside the definitions that have their numbers
+--   face, limits, phases, powers_kept, awaited     constants beside the definitions that have their numbers
 -- Assumes nothing.
 use Rattle.std.specs.Prelude.{ℕ, Bool, List, [], ◌∷◌, codes, Option, Some, None, Result, Ok, Err, ◌==◌}
 use Rattle.service.specs.declared.TheConstants.{TABLE_MOST}
@@ -36,7 +37,9 @@ use Rattle.controller.specs.Writing.{command_room}
 use Rattle.controller.specs.declared.writing.Unwritten.{Unwritten}
 use Rattle.controller.specs.declared.writing.Unwritten.TheVariants as writer
 use Rattle.codes.specs.Header.{Constant, ◌equals◌}
+use Rattle.reasons.specs.About.{face_number}
 use Rattle.panel.specs.Entries.{ungreeted, greeted_open, greeted_secured}
+use Rattle.panel.specs.Hearing.{HeardAs, greets, no_greeting, too_late, replies}
 use Rattle.panel.specs.LegalPanels.{panel_most}
 use Rattle.panel.specs.Stepping.{strays_most}
 use Rattle.panel.specs.declared.refusal.Refusal.{Refusal as PanelRefusal}
@@ -112,6 +115,19 @@ setting_constant (Some setting.Serial) = codes "PJ_SETTING_SERIAL" equals 10
 setting_constant (Some setting.Version) = codes "PJ_SETTING_VERSION" equals 11
 setting_constant (Some setting.Names) = codes "PJ_SETTING_NAMES" equals 12
 
+abbrev pub reply_constant : Outcome → Constant
+reply_constant means_it = codes "PJ_HEARD_REPLY" equals 2
+reply_constant erra_said = codes "PJ_HEARD_ERRA" equals 3
+reply_constant other_command = codes "PJ_HEARD_FOREIGN" equals 5
+reply_constant o = codes "PJ_HEARD_MALFORMED" equals 6
+
+abbrev pub heard_constant : Option HeardAs → Constant
+heard_constant None = codes "PJ_HEARD_NOTHING" equals 0
+heard_constant (Some greets) = codes "PJ_HEARD_GREETING" equals 1
+heard_constant (Some (replies r)) = reply_constant r.outcome
+heard_constant (Some too_late) = codes "PJ_HEARD_LATE" equals 4
+heard_constant (Some no_greeting) = codes "PJ_HEARD_MALFORMED" equals 6
+
 abbrev pub accepted_constant : Constant
 accepted_constant = codes "PJ_DAY_ACCEPTED" equals 0
 
@@ -132,6 +148,9 @@ pub record Naming : Type 0 where
 
 abbrev pub ◌names◌ : Constant → ℕ → Naming
 c names n = record { constant = c; here = n }
+
+abbrev pub face : Naming
+face = codes "CEILING_FACE" equals 13 names face_number
 
 abbrev pub limits : List Naming
 limits =

@@ -4,13 +4,16 @@
 --   received_of r, opened_of r p       the same with the record, by value
 --   changed_of r                       of a call that gives a number and the record
 --   panel_changed_of r, panel_sent_of r     of a panel's call, and of its command
+--   panel_sending_of r                 of a command, beside a panel that changes where it lies
+--   panel_heard_of r h                 of hearing a line, which was h
 -- Assumes nothing.
-use Rattle.std.specs.Prelude.{ℕ, length}
+use Rattle.std.specs.Prelude.{ℕ, length, Option}
 use Rattle.text.specs.Outcomes.{WrittenTold}
 use Rattle.record.specs.declared.types.Device.{Device}
 use Rattle.record.specs.Given.{Given}
 use Rattle.device.specs.Outcomes.{Told}
 use Rattle.panel.specs.PanelCalls.{PanelAs}
+use Rattle.panel.specs.Hearing.{HeardAs, heard_kind, heard_reading}
 use Rattle.ours.specs.Board.{Lent}
 use Rattle.board.specs.declared.results.Changed.{Changed}
 use Rattle.board.specs.declared.results.Receiving.{Receiving}
@@ -19,6 +22,7 @@ use Rattle.board.specs.declared.results.Received.{Received}
 use Rattle.board.specs.declared.results.Opened.{Opened}
 use Rattle.board.specs.declared.results.PanelChanged.{PanelChanged}
 use Rattle.board.specs.declared.results.PanelSent.{PanelSent}
+use Rattle.board.specs.declared.results.PanelHeard.{PanelHeard}
 use Rattle.board.specs.declared.writer.Written.{Written}
 
 abbrev pub receiving_of : Told → Receiving
@@ -44,3 +48,9 @@ panel_changed_of r = record { number = r.number; panel = r.panel }
 
 abbrev pub panel_sent_of : PanelAs → PanelSent
 panel_sent_of r = record { number = r.number; length = length r.line; panel = r.panel }
+
+abbrev pub panel_sending_of : PanelAs → Written
+panel_sending_of r = record { number = r.number; length = length r.line }
+
+abbrev pub panel_heard_of : PanelAs → Option HeardAs → PanelHeard
+panel_heard_of r h = record { number = r.number; kind = heard_kind h; reading = heard_reading h }

@@ -3,6 +3,7 @@
 
 pub mod by_value;
 pub mod days;
+pub mod face;
 pub mod forms;
 pub mod lamps;
 mod lists;

@@ -3,6 +3,7 @@ ghost use Rattle.std.specs.Prelude.{◌≡◌};
 ghost use Rattle.device.specs.Outcomes.{receiving_told, opening_told, opened_place};
 ghost use Rattle.board.specs.Results.{receiving_of, opening_of};
 
+use codes::readings::FlatReading;
 use device::calls;
 use panel::types::Panel;
 use record::refusal::Refusal;
@@ -81,6 +82,18 @@ pub struct PanelSent {
     pub length: usize,
     /// The changed panel; with a refusal the one that was given.
     pub panel: Panel,
+}
+
+/// What hearing a line gives beside the panel: its number, what the line was, and what it says (`pj_heard`).
+#[repr(C)]
+#[derive(Clone, Copy)]
+pub struct PanelHeard {
+    /// 0, or the number of the refusal: 1 or 3 (RULES, The numbers a call gives).
+    pub number: u32,
+    /// What the line was, 1 to 6, by `enum pj_heard_kind`; 0 with a refusal.
+    pub kind: u8,
+    /// What it says, where it was read as a reply; else all zero.
+    pub reading: FlatReading,
 }
 
 /// What set-up, loading, closing, passing time and the host's three calls give by value.

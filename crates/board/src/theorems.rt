@@ -44,6 +44,8 @@ ghost use Rattle.stored.specs.declared.error.LoadError.{LoadError};
 ghost use Rattle.board.specs.Which.{setting_number};
 ghost use Rattle.board.specs.Header.{refusal_constant, panel_refusal_constant, set_up_error_constant};
 ghost use Rattle.board.specs.Header.{load_error_constant, unwritten_constant, outcome_constant, setting_constant};
+ghost use Rattle.panel.specs.Hearing.{HeardAs, heard_kind};
+ghost use Rattle.board.specs.Header.{heard_constant, face};
 ghost use Rattle.board.specs.Header.{rule_constant, limits, phases, powers_kept, awaited, has_its_number};
 ghost use Rattle.board.specs.Writable.{is_writable_by};
 ghost use Rattle.board.specs.Sessions.{is_session, session_rows, session_received, session_closed, are_none_of};
@@ -67,8 +69,9 @@ pub fn numbers_tell_apart()
     ensures settings { (m n : Option Setting) → setting_number m ≡ setting_number n → m ≡ n }
 {}
 
-/// The numbers of refusals, settings and a day's rules, the limits and the numbers in a record are those of the
-/// constants of the header; codes and kinds are by `codes` (`the_header_names_the_codes`).
+/// The version of the face, the numbers of refusals, settings, lines heard and a day's rules, the limits and the
+/// numbers in a record are those of the constants of the header; codes and kinds are by `codes`
+/// (`the_header_names_the_codes`).
 pub fn the_header_names_the_numbers()
     ensures refusals { (r : Refusal) → refusal_number r ≡ (refusal_constant r).number }
     ensures panel_refusals { (r : PanelRefusal) → panel_refusal_number r ≡ (panel_refusal_constant r).number }
@@ -83,6 +86,8 @@ pub fn the_header_names_the_numbers()
     ensures phases { list_all has_its_number phases ≡ true }
     ensures powers { list_all has_its_number powers_kept ≡ true }
     ensures awaited { list_all has_its_number awaited ≡ true }
+    ensures heard { (h : Option HeardAs) → heard_kind h ≡ (heard_constant h).number }
+    ensures face { has_its_number face ≡ true }
 {}
 
 /// The numbers of the writer and of the reader of a command by its code are the first row of the table that applies

@@ -1,17 +1,100 @@
-// The workroom panel's calls (RULES, Panel), by value: the panel is given, and the changed one comes back. Each is the
-// panel's own call on a copy.
+// The workroom panel's calls (RULES, Panel): on a panel that the host lends, which changes where it lies, and by value,
+// where the panel is given, and the changed one comes back. Those by value are those in place on a copy.
 ghost use Rattle.std.specs.Prelude.{◌≡◌, length};
 ghost use Rattle.text.specs.Words.{over};
 ghost use Rattle.panel.specs.AnyPanel.{ours_panel};
-ghost use Rattle.board.specs.Results.{panel_changed_of, panel_sent_of};
+ghost use Rattle.board.specs.Results.{panel_changed_of, panel_sending_of, panel_sent_of, panel_heard_of};
 
-use crate::results::{PanelChanged, PanelSent};
+use crate::results::{PanelChanged, PanelHeard, PanelSent};
 use crate::writer::Written;
 use codes::command::Coded;
+use codes::readings::FlatReading;
 use panel::types::Panel;
 use text::numbered;
+use text::numbered::Numbered;
 
-/// The panel of no projector.
+/// The panel of no projector, into the host's.
+#[unsafe(no_mangle)]
+pub extern "C" fn pj_panel_none_in_place(panel: &mut Panel) -> u32
+    ensures number { result ≡ (ours_panel.none).number }
+    ensures panel { panel.new ≡ (ours_panel.none).panel }
+{
+    *panel = Panel::new();
+    0
+}
+
+/// A projector more: 1, then 3.
+#[unsafe(no_mangle)]
+pub extern "C" fn pj_panel_add_in_place(panel: &mut Panel, password: &[u8]) -> u32
+    ensures number { result ≡ (ours_panel.add panel.old password.now).number }
+    ensures panel { panel.new ≡ (ours_panel.add panel.old password.now).panel }
+{
+    numbered::number_of(panel.add(password))
+}
+
+/// A command to a projector: 1, 2, 3 and 9 in that order.
+#[unsafe(no_mangle)]
+pub extern "C" fn pj_panel_command_in_place(
+    panel: &mut Panel,
+    projector: usize,
+    k: Coded,
+    out: &mut [u8],
+) -> Written
+    ensures says { result ≡ panel_sending_of (ours_panel.command panel.old projector k (length out.old)) }
+    ensures panel { panel.new ≡ (ours_panel.command panel.old projector k (length out.old)).panel }
+    ensures written { out.new ≡ over (ours_panel.command panel.old projector k (length out.old)).line
+        out.old }
+{
+    Written::from(panel.send(projector, k, out))
+}
+
+/// The step on a line from a projector: 1, then 3.
+#[unsafe(no_mangle)]
+pub extern "C" fn pj_panel_line_in_place(panel: &mut Panel, projector: usize, line: &[u8]) -> u32
+    ensures number { result ≡ (ours_panel.hear panel.old projector line.now).number }
+    ensures panel { panel.new ≡ (ours_panel.hear panel.old projector line.now).panel }
+{
+    match panel.hear(projector, line) {
+        Ok(_) => 0,
+        Err(why) => why.number(),
+    }
+}
+
+/// The step on a line from a projector, and what the line was: 1, then 3.
+#[unsafe(no_mangle)]
+pub extern "C" fn pj_panel_hear_in_place(
+    panel: &mut Panel,
+    projector: usize,
+    line: &[u8],
+) -> PanelHeard
+    ensures says { result ≡ panel_heard_of (ours_panel.hear panel.old projector line.now)
+        (ours_panel.tell panel.old projector line.now) }
+    ensures panel { panel.new ≡ (ours_panel.hear panel.old projector line.now).panel }
+{
+    match panel.hear(projector, line) {
+        Ok(heard) => PanelHeard {
+            number: 0,
+            kind: heard.kind(),
+            reading: heard.reading(),
+        },
+        Err(why) => PanelHeard {
+            number: why.number(),
+            kind: 0,
+            reading: FlatReading::meaningless(0),
+        },
+    }
+}
+
+/// The connection to a projector is gone: 1, then 3.
+#[unsafe(no_mangle)]
+pub extern "C" fn pj_panel_lost_in_place(panel: &mut Panel, projector: usize) -> u32
+    ensures number { result ≡ (ours_panel.lose panel.old projector).number }
+    ensures panel { panel.new ≡ (ours_panel.lose panel.old projector).panel }
+{
+    numbered::number_of(panel.lose(projector))
+}
+
+/// The panel of no projector, by value.
 #[unsafe(no_mangle)]
 pub extern "C" fn pj_panel_none() -> PanelChanged
     ensures { result ≡ panel_changed_of ours_panel.none }
@@ -22,17 +105,17 @@ pub extern "C" fn pj_panel_none() -> PanelChanged
     }
 }
 
-/// A projector more: 1, then 3.
+/// A projector more, by value: 1, then 3.
 #[unsafe(no_mangle)]
 pub extern "C" fn pj_panel_add(p: Panel, password: &[u8]) -> PanelChanged
     ensures { result ≡ panel_changed_of (ours_panel.add p password.now) }
 {
     let mut panel = p;
-    let number = numbered::number_of(panel.add(password));
+    let number = pj_panel_add_in_place(&mut panel, password);
     PanelChanged { number, panel }
 }
 
-/// A command to a projector: 1, 2, 3 and 9 in that order.
+/// A command to a projector, by value: 1, 2, 3 and 9 in that order.
 #[unsafe(no_mangle)]
 pub extern "C" fn pj_panel_command(
     p: Panel,
@@ -45,7 +128,7 @@ pub extern "C" fn pj_panel_command(
         out.old }
 {
     let mut panel = p;
-    let Written { number, length } = Written::from(panel.send(projector, k, out));
+    let Written { number, length } = pj_panel_command_in_place(&mut panel, projector, k, out);
     PanelSent {
         number,
         length,
@@ -53,22 +136,22 @@ pub extern "C" fn pj_panel_command(
     }
 }
 
-/// The step on a line from a projector: 1, then 3.
+/// The step on a line from a projector, by value: 1, then 3.
 #[unsafe(no_mangle)]
 pub extern "C" fn pj_panel_line(p: Panel, projector: usize, line: &[u8]) -> PanelChanged
     ensures { result ≡ panel_changed_of (ours_panel.hear p projector line.now) }
 {
     let mut panel = p;
-    let number = numbered::number_of(panel.hear(projector, line));
+    let number = pj_panel_line_in_place(&mut panel, projector, line);
     PanelChanged { number, panel }
 }
 
-/// The connection to a projector is gone: 1, then 3.
+/// The connection to a projector is gone, by value: 1, then 3.
 #[unsafe(no_mangle)]
 pub extern "C" fn pj_panel_lost(p: Panel, projector: usize) -> PanelChanged
     ensures { result ≡ panel_changed_of (ours_panel.lose p projector) }
 {
     let mut panel = p;
-    let number = numbered::number_of(panel.lose(projector));
+    let number = pj_panel_lost_in_place(&mut panel, projector);
     PanelChanged { number, panel }
 }

@@ -8,6 +8,7 @@ mod telling;
 mod tests;
 pub mod theorems;
 
+use command::asked::Command;
 use formfile::Begun;
 use program::about::About;
 use program::outside::System;
@@ -46,15 +47,12 @@ struct Burnt;
 impl Telling for Burnt {
     fn tell<R: ByteSource, W: ByteSink>(
         &self,
-        begun: Begun,
-        page: bool,
+        begun: &Begun,
+        command: &Command<'_>,
         from: &mut Reader<R>,
         to: &mut W,
     ) -> Result<Ending, Failure> {
-        match telling::tell_log(begun.device, begun.sum, page, from, to)? {
-            None => Ok(Ending::Whole),
-            Some(line) => Ok(Ending::Stray(line)),
-        }
+        telling::tell_log(begun.device, begun.sum, command.page, from, to)
     }
 }
 

@@ -2,6 +2,7 @@ pub mod PanelsTold
 pub mod TalksTold
 pub mod Cases
 pub mod StepsByTable
+pub mod LinesHeard
 pub mod OnlyItsEntry
 pub mod Refusals
 pub mod ShownLegal

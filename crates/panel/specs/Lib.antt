@@ -2,6 +2,7 @@ pub mod Passwords
 pub mod Entries
 pub mod Showing
 pub mod Stepping
+pub mod Hearing
 pub mod LegalPanels
 pub mod PanelCalls
 pub mod AnyPanel

@@ -7,9 +7,11 @@
 --   added_to p s             a projector more, with the password s: 1, then 3
 --   command_at p i k room  the command k to the projector i: 1, 2, 3, 9, or its line
 --   stepped_at p i l       the line l from the projector i: 1, 3, or the step on its entry alone
+--   told_at p i l          what that line was, where the call is served
 --   lost_at p i            its connection is gone: 1, 3
 -- Assumes nothing.
 use Rattle.std.specs.Prelude.{ℕ, ◌+◌, not, List, [], ◌∷◌, set, replicate, slice_index_or, nat_le, nat_lt, is_some}
+use Rattle.std.specs.Prelude.{Option, Some, None}
 use Rattle.text.specs.Rows.{Row, ◌when◌, by_rows}
 use Rattle.words.specs.Texts.{is_password}
 use Rattle.controller.specs.Writing.{command_room}
@@ -17,6 +19,7 @@ use Rattle.codes.specs.Commands.{coded_command}
 use Rattle.codes.specs.declared.command.Coded.{Coded}
 use Rattle.panel.specs.Entries.{fresh_entry, blank_entry}
 use Rattle.panel.specs.Stepping.{heard_line, lost_entry, sent_entry, is_unready, line_sent}
+use Rattle.panel.specs.Hearing.{HeardAs, line_heard}
 use Rattle.panel.specs.LegalPanels.{panel_most, is_panel}
 use Rattle.panel.specs.declared.types.Entry.{Entry}
 use Rattle.panel.specs.declared.types.Panel.{Panel}
@@ -71,6 +74,9 @@ command_at p i k room = by_rows (commanding_rows p i k room) (panel_kept p) (sen
 unfoldable pub stepped_at : Panel → ℕ → List ℕ → PanelAs
 stepped_at p i l =
     by_rows (projector_rows p i) (panel_kept p) (panel_made (with_entry p i (heard_line (entry_at p i) l)))
+
+abbrev pub told_at : Panel → ℕ → List ℕ → Option HeardAs
+told_at p i l = by_rows (projector_rows p i) (λ n. None) (Some (line_heard (entry_at p i) l))
 
 unfoldable pub lost_at : Panel → ℕ → PanelAs
 lost_at p i = by_rows (projector_rows p i) (panel_kept p) (panel_made (with_entry p i (lost_entry (entry_at p i))))

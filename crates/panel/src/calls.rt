@@ -1,12 +1,15 @@
 // The panel's calls, on a panel that is lent (RULES, Panel): each tests it, finds the projector, and works on that
 // one's entry alone. A refused call leaves the panel and the lent memory as they were.
-ghost use Rattle.std.specs.Prelude.{◌≡◌, length};
+ghost use Rattle.std.specs.Prelude.{◌≡◌, ◌≤◌, length, IfOk};
+ghost use Rattle.pjlink.specs.Said.{parameter_most};
 ghost use Rattle.text.specs.Words.{over};
 ghost use Rattle.panel.specs.Entries.{entry_of, no_talk, nothing_shown};
 ghost use Rattle.panel.specs.AnyPanel.{ours_panel};
 ghost use Rattle.text.specs.Outcomes.{outcome_number, length_written};
 ghost use Rattle.panel.specs.Refusals.{panel_refusal_number};
+ghost use Rattle.panel.specs.Hearing.{hearing_told, heard_by_code, heard_bytes};
 
+use crate::heard::Heard;
 use crate::refusal::Refusal;
 use crate::talk::Awaits;
 use crate::types::{Entry, LAMPS_MOST, NO_COMMAND, PANEL_MOST, Panel, Password};
@@ -23,18 +26,18 @@ impl Entry {
             password,
             greeting: 0,
             random: 0,
-            led: false,
-            under_way: false,
+            led: 0,
+            under_way: 0,
             command: NO_COMMAND,
-            power_known: false,
-            input_known: false,
-            lamps_known: false,
+            power_known: 0,
+            input_known: 0,
+            lamps_known: 0,
             power: 0,
             input_type: 0,
             input_number: 0,
             lamp_count: 0,
             hours: [0; LAMPS_MOST],
-            lit: [false; LAMPS_MOST],
+            lit: [0; LAMPS_MOST],
             strays: 0,
         }
     }
@@ -100,13 +103,15 @@ impl Panel {
         Ok(self.entries[projector].send(coded, command, out))
     }
 
-    /// A line from a projector, with its CR: the step on its entry. Refused: `NotLegal`, then `OutOfRange` for no such
-    /// projector.
+    /// A line from a projector, with its CR: the step on its entry, and what the line was. Refused: `NotLegal`, then
+    /// `OutOfRange` for no such projector.
     #[tactic(auto, using(crate::proofs::PanelsTold::few_projectors), unfolding(crate::specs::PanelCalls::stepped_at))]
-    pub fn hear(&mut self, projector: usize, line: &[u8]) -> Result<(), Refusal>
+    pub fn hear<'a>(&mut self, projector: usize, line: &'a [u8]) -> Result<Heard<'a>, Refusal>
         ensures number { outcome_number panel_refusal_number result
             ≡ (ours_panel.hear self.old projector line.now).number }
         ensures panel { self.new ≡ (ours_panel.hear self.old projector line.now).panel }
+        ensures heard { hearing_told result ≡ ours_panel.tell self.old projector line.now }
+        ensures short { IfOk result (λ h. length (heard_bytes (heard_by_code h)) ≤ parameter_most) }
     {
         if !self.is_legal() {
             return Err(Refusal::NotLegal);
@@ -114,8 +119,7 @@ impl Panel {
         if self.count <= projector {
             return Err(Refusal::OutOfRange);
         }
-        self.entries[projector].hear(line);
-        Ok(())
+        Ok(self.entries[projector].hear(line))
     }
 
     /// The connection to a projector is gone. Refused: `NotLegal`, then `OutOfRange` for no such projector.

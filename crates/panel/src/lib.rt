@@ -3,6 +3,7 @@
 #![tactic(auto)]
 
 mod calls;
+pub mod heard;
 mod legality;
 pub mod password;
 pub mod refusal;

@@ -1,5 +1,6 @@
 // The step on a lent line, on the entry of the projector that it came from (RULES, Panel).
-ghost use Rattle.std.specs.Prelude.{◌≡◌, ◌+◌, min};
+ghost use Rattle.std.specs.Prelude.{◌≡◌, ◌+◌, ◌≤◌, min, length};
+ghost use Rattle.pjlink.specs.Said.{parameter_most};
 ghost use Rattle.pjlink.specs.Greetings.{read_greeting};
 ghost use Rattle.controller.specs.Reading.{read_as};
 ghost use Rattle.codes.specs.Commands.{coded_command};
@@ -7,7 +8,9 @@ ghost use Rattle.panel.specs.Entries.{talk_of, rested_on};
 ghost use Rattle.panel.specs.Stepping.{strays_most, with_stray, with_talk, erra_entry, lost_entry, greeted_as};
 ghost use Rattle.panel.specs.Stepping.{heard_as};
 ghost use Rattle.panel.specs.Stepping.{replied_to, heard_line};
+ghost use Rattle.panel.specs.Hearing.{greeting_heard, reply_heard, line_heard, heard_by_code, heard_bytes};
 
+use crate::heard::Heard;
 use crate::talk::{Awaits, Greeted};
 use crate::types::{Entry, NO_COMMAND, STRAYS_MOST};
 use codes::command::Coded;
@@ -52,19 +55,26 @@ impl Entry {
     fn rest(&mut self)
         ensures { self.new ≡ with_talk self.old (rested_on (talk_of self.old)) }
     {
-        self.under_way = false;
+        self.under_way = 0;
         self.command = NO_COMMAND;
     }
 
     // Until a greeting is accepted, any other line is malformed.
-    fn greet(&mut self, line: &[u8])
-        ensures { self.new ≡ greeted_as self.old (read_greeting line.now) }
+    fn greet<'a>(&mut self, line: &'a [u8]) -> Heard<'a>
+        ensures entry { self.new ≡ greeted_as self.old (read_greeting line.now) }
+        ensures heard { heard_by_code result ≡ greeting_heard (read_greeting line.now) }
+        ensures short { length (heard_bytes (heard_by_code result)) ≤ parameter_most }
     {
-        match Greeting::read(line) {
-            Some(Greeting::Open) => self.begin(Greeted::Open),
-            Some(Greeting::Secured(random)) => self.begin(Greeted::Secured { random }),
-            Some(Greeting::Refused) | None => self.stray(),
-        }
+        let greeted = match Greeting::read(line) {
+            Some(Greeting::Open) => Greeted::Open,
+            Some(Greeting::Secured(random)) => Greeted::Secured { random },
+            Some(Greeting::Refused) | None => {
+                self.stray();
+                return Heard::NoGreeting;
+            }
+        };
+        self.begin(greeted);
+        Heard::Greeting
     }
 
     // ERRA and an accepted reply end the command under way, and any other line is malformed or foreign.
@@ -82,24 +92,34 @@ impl Entry {
     }
 
     // A line, where a command is under way: one, in a legal entry.
-    fn reply(&mut self, coded: Coded, line: &[u8])
-        ensures { self.new ≡ replied_to self.old (coded_command coded) line.now }
+    #[tactic(auto, using(controller::proofs::ReadShort::reading_short))]
+    fn reply<'a>(&mut self, coded: Coded, line: &'a [u8]) -> Heard<'a>
+        ensures entry { self.new ≡ replied_to self.old (coded_command coded) line.now }
+        ensures heard { heard_by_code result ≡ reply_heard (coded_command coded) line.now }
+        ensures short { length (heard_bytes (heard_by_code result)) ≤ parameter_most }
     {
         let Some(command) = coded.command() else {
             self.stray();
-            return;
+            return Heard::Late;
         };
-        self.take(&reading::read_reply(command, line));
+        let reading = reading::read_reply(command, line);
+        self.take(&reading);
+        Heard::Reply(reading)
     }
 
-    /// A line from the projector, with its CR. One with no command under way is late.
-    #[tactic(auto, unfolding(crate::specs::Stepping::heard_line))]
-    pub(crate) fn hear(&mut self, line: &[u8])
-        ensures { self.new ≡ heard_line self.old line.now }
+    /// A line from the projector, with its CR, and what it was. One with no command under way is late.
+    #[tactic(auto, unfolding(crate::specs::Stepping::heard_line, crate::specs::Hearing::line_heard))]
+    pub(crate) fn hear<'a>(&mut self, line: &'a [u8]) -> Heard<'a>
+        ensures entry { self.new ≡ heard_line self.old line.now }
+        ensures heard { heard_by_code result ≡ line_heard self.old line.now }
+        ensures short { length (heard_bytes (heard_by_code result)) ≤ parameter_most }
     {
         match self.awaits() {
             Awaits::Greeting => self.greet(line),
-            Awaits::Nothing => self.stray(),
+            Awaits::Nothing => {
+                self.stray();
+                Heard::Late
+            }
             Awaits::Reply(coded) => self.reply(coded, line),
         }
     }

@@ -10,6 +10,7 @@
 -- Assumes nothing.
 use Rattle.std.specs.Prelude.{ℕ, ◌*◌, ◌≤◌, ◌<◌, ◌≡◌, IsTrue, Bool, List, All, length}
 use Rattle.std.specs.List.{list_all}
+use Rattle.text.specs.Flags.{is_raised}
 use Rattle.text.specs.Rooms.{Uses}
 use Rattle.words.specs.Bytes.{no_cr}
 use Rattle.words.specs.Texts.{is_text, is_name, is_info, is_password, info_most, input_name_most}
@@ -57,13 +58,18 @@ pub record IsOwn (s : Settings) (o : Own) : Type 0 where
   pub chosen : o.chosen < s.input_count
   pub speaker : o.speaker ≤ volume_most
   pub microphone : o.microphone ≤ volume_most
+  pub video_muted : o.video_muted ≤ 1
+  pub audio_muted : o.audio_muted ≤ 1
+  pub fault : o.fault ≤ 1
+  pub frozen : o.frozen ≤ 1
 
 pub record IsConnection (c : Connection) : Type 0 where
   pub line : Fills line_room no_cr c.line.bytes c.line.held
   pub phase : c.phase ≤ failed
   pub age : IsTrue (is_age c.phase c.age)
   pub random : c.phase ≡ shut → c.random ≡ 0
-  pub held : IsTrue (is_held c.phase c.line.overlong c.line.held)
+  pub overlong : c.line.overlong ≤ 1
+  pub held : IsTrue (is_held c.phase (is_raised c.line.overlong) c.line.held)
 
 pub record IsLegal (d : Device) : Type 0 where
   pub settings : IsSettings d.settings

@@ -2,6 +2,7 @@
 // is that the theorems stand.
 ghost use Rattle.std.specs.Prelude.{◌≡◌, ◌≢◌, ◌+◌, ◌*◌, ◌<◌, ◌≤◌, Bool, IsTrue, true, false, List, ℕ, Option};
 ghost use Rattle.std.specs.Prelude.{Some, None, Result, OnErr, length, map, [], ◌∷◌, codes};
+ghost use Rattle.text.specs.Flags.{is_raised};
 ghost use Rattle.words.specs.Bytes.{◌at◌};
 ghost use Rattle.words.specs.Texts.{password_most};
 ghost use Rattle.record.specs.Limits.{age_end, errors_count, error_most, lamp_limit};
@@ -80,7 +81,7 @@ pub fn legal_parts_keep_the_rules()
     ensures errors { (s : Settings) (o : Own) (k : ℕ) → IsOwn s o → k < errors_count
         → o.errors at k ≤ error_most }
     ensures age { (c : Connection) → IsConnection c → c.age < age_end }
-    ensures overlong { (c : Connection) → IsConnection c → IsTrue c.line.overlong → IsTrue (is_collecting c.phase) }
+    ensures overlong { (c : Connection) → IsConnection c → IsTrue (is_raised c.line.overlong) → IsTrue (is_collecting c.phase) }
 {}
 
 /// Set-ups worked out, by the number that each gives: inputs, their most, passwords and what Class 2 has more, on both

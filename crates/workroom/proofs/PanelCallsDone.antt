@@ -16,7 +16,7 @@ use Rattle.panel.specs.PanelCalls.{PanelAs, entry_at, with_entry, grown_by, addi
 use Rattle.panel.specs.PanelCalls.{projector_rows, added_to, command_at, stepped_at, lost_at}
 use Rattle.panel.specs.declared.types.Entry.{Entry}
 use Rattle.panel.specs.declared.types.Panel.{Panel}
-use Rattle.panel.proofs.Cases.{Refusals, Commands, added_by, commanded_by, stepped_by, lost_by}
+use Rattle.panel.proofs.Cases.{Refusals, Commands, added_by, commanded_by, stepped_by, told_refused, lost_by}
 use Rattle.panel.proofs.LinesSent.{line_sent_whole}
 use Rattle.panel.proofs.PanelsLegal.{none_legal, added_stays_legal, commanded_stays_legal, stepped_stays_legal}
 use Rattle.panel.proofs.PanelsLegal.{lost_stays_legal}
@@ -121,5 +121,6 @@ our_calls_do = record {
   adds = adds;
   commands = commands;
   hears = hears;
+  tells_nothing = told_refused;
   loses = loses;
 }

@@ -4,10 +4,12 @@ use Rattle.std.proofs.Common.{ℕ, ◌+◌, ◌≡◌, refl, ap, false, List, []
 use Rattle.std.proofs.lemmas.Bool.{eqb-false}
 use Rattle.pjlink.specs.declared.command.Command.TheVariants.{Query}
 use Rattle.pjlink.specs.declared.body.Body.TheVariants.{Powr, Lamp}
+use Rattle.pjlink.specs.Forms.{erra_line}
 use Rattle.controller.specs.Writing.{command_room}
 use Rattle.codes.specs.Commands.{bit, code_of}
 use Rattle.panel.specs.Entries.{Talk, Shown}
 use Rattle.panel.specs.StepTable.{IsStray, late, malformed, foreign}
+use Rattle.panel.specs.Hearing.{heard_kind}
 use Rattle.panel.specs.PanelCalls.{entry_at}
 use Rattle.panel.specs.declared.types.Entry.{Entry}
 use Rattle.workroom.specs.Workroom.{asks}
@@ -17,6 +19,7 @@ use Rattle.workroom.specs.PanelCallsDone.{PanelCallsDone}
 use Rattle.workroom.specs.WrongPanels.{takes_foreign, ends_on_malformed, keeps_after_erra, stray_count_wraps}
 use Rattle.workroom.specs.WrongPanels.{shows_late, counts_nothing, shows_no_reply}
 use Rattle.workroom.specs.WrongPanels.{forgets_at_addition, tells_the_password, refuses_what_it_does}
+use Rattle.workroom.specs.WrongPanels.{hides_the_wrong_password}
 use Rattle.workroom.specs.Computing.{computing}
 use Rattle.workroom.proofs.Samples.{resting, asked, resting_served, full_served, asked_served, lamps_asked}
 use Rattle.workroom.proofs.Samples.{workroom, workroom_joined, powr_within}
@@ -28,7 +31,7 @@ abbrev power_shown : Shown → ℕ
 power_shown s = s.power
 
 abbrev waits_for : Talk → ℕ
-waits_for t = bit t.under_way
+waits_for t = t.under_way
 
 differ : (m n : ℕ) → (m == n) ≡ false → m ≡ n → ⊥
 differ m n other = eqb-false m n other
@@ -108,3 +111,9 @@ tells_the_password_falls h =
 pub refuses_what_it_does_falls : PanelCallsDone refuses_what_it_does → ⊥
 unfolding computing
 refuses_what_it_does_falls h = differ 3 0 refl (h.loses (resting 0) 0).number
+
+-- the ERRA line, where LAMP is under way: what it is told to be
+pub hides_the_wrong_password_falls : PanelDemand hides_the_wrong_password → ⊥
+unfolding computing
+hides_the_wrong_password_falls h =
+    differ 6 3 refl (ap heard_kind (h.replies_told (asked 0) 0 erra_line (Query Lamp) asked_served lamps_asked))

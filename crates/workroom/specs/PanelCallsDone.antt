@@ -69,6 +69,9 @@ module _ (P : AnyPanel) where
     -- "a step on a lent line from a named projector": it sends nothing, and is PanelDemand's
     pub hears : (p : Panel) (i : ℕ) (l : List ℕ)
         → CallDone p (projector_rows p i) [] (λ q. Unit {0}) (P.hear p i l)
+    -- "a refused one tells nothing of the line"
+    pub tells_nothing : (p : Panel) (i : ℕ) (l : List ℕ) → (first_of (projector_rows p i) ≡ 0 → ⊥)
+        → P.tell p i l ≡ None
     -- "the connection is gone"
     pub loses : (p : Panel) (i : ℕ)
         → CallDone p (projector_rows p i) [] (OnlyThere p i (lost_entry (entry_at p i))) (P.lose p i)

@@ -1,9 +1,10 @@
--- What RULES, Panel asks of a panel's step, sentence by sentence, over any panel: on a legal panel, for a projector
--- that it has, whatever line comes. Which lines are late, foreign or malformed is `IsStray` of panel/specs/StepTable,
--- by the reader's own numbers; what a line says is what the readers take from it.
+-- What RULES, Panel asks of a panel's step, and of what it tells of the line, sentence by sentence, over any panel: on
+-- a legal panel, for a projector that it has, whatever line comes. Which lines are late, foreign or malformed is
+-- `IsStray` of panel/specs/StepTable, by the reader's own numbers; what a line says is what the readers take from it.
 -- TO BELIEVE IT, believe, and nothing else: the readers (controller/specs/Reading, pjlink/specs/Greetings), the codes
--- (codes/specs/Commands), an entry's parts and what is shown (panel/specs: Entries, Showing), `IsUnderWay` and
--- `IsStray` (panel/specs/StepTable), a legal panel, and any panel (panel/specs: LegalPanels, AnyPanel).
+-- (codes/specs/Commands), an entry's parts and what is shown (panel/specs: Entries, Showing), what a line may be told
+-- to be (`HeardAs` of panel/specs/Hearing), `is_greeting`, `IsUnderWay` and `IsStray` (panel/specs/StepTable), a legal
+-- panel, and any panel (panel/specs: LegalPanels, AnyPanel).
 --   IsServed p i       the panel is legal and has the projector i
 --   OnlyCounted e f    e and f differ in the count of strays alone, which is one more, or has stopped
 --   EndedBy e m f      the command is ended, and m is shown
@@ -12,7 +13,7 @@
 --   ShownBy e l f      what f shows is what e showed, or the line l was an accepted reply and f shows what it says, or
 --                      it was the ERRA line and f shows nothing
 -- Assumes nothing.
-use Rattle.std.specs.Prelude.{ℕ, ◌+◌, ◌<◌, min, ◌≡◌, true, List, Some}
+use Rattle.std.specs.Prelude.{ℕ, ◌+◌, ◌<◌, min, ◌≡◌, true, false, List, Some}
 use Rattle.pjlink.specs.Forms.{erra_line}
 use Rattle.pjlink.specs.declared.command.Command.{Command}
 use Rattle.pjlink.specs.Said.{Said}
@@ -23,8 +24,9 @@ use Rattle.panel.specs.AnyPanel.{AnyPanel}
 use Rattle.panel.specs.Entries.{Talk, Shown, talk_of, shown_of, ungreeted, greeted_open, greeted_secured, greeted_by}
 use Rattle.panel.specs.Entries.{no_talk, rested_on, nothing_shown}
 use Rattle.panel.specs.Showing.{showing}
+use Rattle.panel.specs.Hearing.{greets, no_greeting, too_late, replies}
 use Rattle.panel.specs.LegalPanels.{is_panel}
-use Rattle.panel.specs.StepTable.{IsUnderWay, IsStray}
+use Rattle.panel.specs.StepTable.{is_greeting, IsUnderWay, IsStray}
 use Rattle.panel.specs.PanelCalls.{entry_at}
 use Rattle.panel.specs.declared.types.Entry.{Entry}
 use Rattle.panel.specs.declared.types.Panel.{Panel}
@@ -90,3 +92,14 @@ module _ (P : AnyPanel) where
     -- "Otherwise the panel shows the last accepted reading": whatever line comes, what is shown changes by an accepted
     -- reply only, and by ERRA
     pub shown_by_replies : (p : Panel) (i : ℕ) (l : List ℕ) → IsServed p i → ShownBy (entry_at p i) l (after_line p i l)
+    -- "What a line was is told: its greeting, or none where one is awaited"
+    pub greetings_told : (p : Panel) (i : ℕ) (l : List ℕ) → IsServed p i → (entry_at p i).greeting ≡ ungreeted
+        → is_greeting (read_greeting l) ≡ true → P.tell p i l ≡ Some greets
+    pub no_greetings_told : (p : Panel) (i : ℕ) (l : List ℕ) → IsServed p i → (entry_at p i).greeting ≡ ungreeted
+        → is_greeting (read_greeting l) ≡ false → P.tell p i l ≡ Some no_greeting
+    -- "late"
+    pub late_told : (p : Panel) (i : ℕ) (l : List ℕ) → IsServed p i → ((entry_at p i).greeting ≡ ungreeted → ⊥)
+        → (entry_at p i).under_way ≡ false → P.tell p i l ≡ Some too_late
+    -- "or what the reader takes from it": accepted, ERRA, foreign or malformed
+    pub replies_told : (p : Panel) (i : ℕ) (l : List ℕ) (c : Command) → IsServed p i → IsUnderWay (entry_at p i) c
+        → P.tell p i l ≡ Some (replies (read_reply c l))

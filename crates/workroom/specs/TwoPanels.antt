@@ -1,6 +1,6 @@
--- TWO PANELS THAT DO WHAT IS ASKED CAN'T BE TOLD APART: each call gives the same number, line and panel, whatever
--- panel, projector, command, line and memory it is lent. So nothing that a panel does is left open: one that did
--- anything which is not asked would differ from ours, and so would not do all that is.
+-- TWO PANELS THAT DO WHAT IS ASKED CAN'T BE TOLD APART: each call gives the same number, line and panel, and tells
+-- the same of a line, whatever panel, projector, command, line and memory it is lent. So nothing that a panel does is
+-- left open: one that did anything which is not asked would differ from ours, and so would not do all that is.
 --   DoesWhatIsAsked P    the step on a line does what PanelDemand says, and each call what PanelCallsDone says
 --   PanelsAlike P Q      each call of P is that of Q
 -- Assumes nothing.
@@ -20,4 +20,5 @@ pub record PanelsAlike (P Q : AnyPanel) : Type 0 where
   pub add : (p : Panel) (s : List ℕ) → P.add p s ≡ Q.add p s
   pub command : (p : Panel) (i : ℕ) (k : Coded) (room : ℕ) → P.command p i k room ≡ Q.command p i k room
   pub hear : (p : Panel) (i : ℕ) (l : List ℕ) → P.hear p i l ≡ Q.hear p i l
+  pub tell : (p : Panel) (i : ℕ) (l : List ℕ) → P.tell p i l ≡ Q.tell p i l
   pub lose : (p : Panel) (i : ℕ) → P.lose p i ≡ Q.lose p i

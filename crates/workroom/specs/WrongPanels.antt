@@ -3,6 +3,7 @@
 --   hearing_as f     ours, but where a command is under way f takes the reading of the line
 -- Assumes nothing.
 use Rattle.std.specs.Prelude.{ℕ, ◌+◌, not, List, set, ◌++◌, replicate, codes, if◌then◌else◌, Option, Some, None, ◌==◌}
+use Rattle.text.specs.Flags.{is_raised}
 use Rattle.pjlink.specs.declared.command.Command.TheVariants.{Query}
 use Rattle.pjlink.specs.declared.body.Body.TheVariants.{Powr}
 use Rattle.pjlink.specs.declared.command.Command.{Command}
@@ -15,7 +16,8 @@ use Rattle.panel.specs.Entries.{talk_of, shown_of, entry_of, rested_on, password
 use Rattle.panel.specs.LegalPanels.{panel_most}
 use Rattle.panel.specs.Stepping.{with_stray, with_talk, lost_entry, heard_as, heard_by, heard_line, is_unready}
 use Rattle.panel.specs.PanelCalls.{PanelAs, panel_made, entry_at, with_entry, added_to, command_at, stepped_at}
-use Rattle.panel.specs.PanelCalls.{lost_at}
+use Rattle.panel.specs.PanelCalls.{told_at, lost_at}
+use Rattle.panel.specs.Hearing.{HeardAs, replies}
 use Rattle.panel.specs.declared.types.Entry.{Entry}
 use Rattle.panel.specs.declared.types.Panel.{Panel}
 
@@ -28,7 +30,7 @@ replied_as f e l None = with_stray e
 
 abbrev hearing_as : (Entry → List ℕ → ReadAs → Entry) → AnyPanel
 hearing_as f =
-    stepping_by (λ e l. if e.under_way then replied_as f e l (coded_command e.command) else heard_line e l)
+    stepping_by (λ e l. if is_raised e.under_way then replied_as f e l (coded_command e.command) else heard_line e l)
 
 -- takes a foreign reply for the one under way: a power reading is shown whatever was asked
 abbrev taken_foreign : Entry → List ℕ → Outcome → Said → Entry
@@ -95,6 +97,7 @@ forgets_at_addition = record {
   add = λ p s. where_served (λ r. panel_made (only_the_last s p.count)) (added_to p s);
   command = command_at;
   hear = stepped_at;
+  tell = told_at;
   lose = lost_at;
 }
 
@@ -110,6 +113,7 @@ tells_the_password = record {
       if room == command_room then command_at p i k room
       else where_served (before_it (password_in (entry_at p i))) (command_at p i k room);
   hear = stepped_at;
+  tell = told_at;
   lose = lost_at;
 }
 
@@ -123,5 +127,27 @@ refuses_what_it_does = record {
   add = added_to;
   command = command_at;
   hear = λ p i l. where_served with_3 (stepped_at p i l);
+  tell = told_at;
   lose = λ p i. where_served with_3 (lost_at p i);
+}
+
+-- ---- wrong in what is told of a line
+
+abbrev unread : Outcome → Said → ReadAs
+unread erra_said m = record { outcome = not_a_line; said = m }
+unread o m = record { outcome = o; said = m }
+
+abbrev without_erra : Option HeardAs → Option HeardAs
+without_erra (Some (replies r)) = Some (replies (unread r.outcome r.said))
+without_erra h = h
+
+-- the ERRA line is told of as malformed: nobody learns that the password is wrong
+abbrev pub hides_the_wrong_password : AnyPanel
+hides_the_wrong_password = record {
+  none = ours_panel.none;
+  add = added_to;
+  command = command_at;
+  hear = stepped_at;
+  tell = λ p i l. without_erra (told_at p i l);
+  lose = lost_at;
 }

@@ -28,6 +28,7 @@ ghost use Rattle.stream.specs.Machine.{stream_of};
 ghost use Rattle.workroom.specs.WrongPanels.{takes_foreign, ends_on_malformed, keeps_after_erra};
 ghost use Rattle.workroom.specs.WrongPanels.{stray_count_wraps, shows_late, counts_nothing, shows_no_reply};
 ghost use Rattle.workroom.specs.WrongPanels.{forgets_at_addition, tells_the_password, refuses_what_it_does};
+ghost use Rattle.workroom.specs.WrongPanels.{hides_the_wrong_password};
 
 /// For every legal device, at every place between lines, and every code of a command of a class no higher than the
 /// device's, what is read of the reply to what was written is what the projector meant; so of the greeting.
@@ -83,4 +84,5 @@ pub fn wrong_panels_fall()
     ensures forgets_at_an_addition { PanelCallsDone forgets_at_addition → ⊥ }
     ensures tells_the_password { PanelCallsDone tells_the_password → ⊥ }
     ensures refuses_what_it_does { PanelCallsDone refuses_what_it_does → ⊥ }
+    ensures hides_the_wrong_password { PanelDemand hides_the_wrong_password → ⊥ }
 {}

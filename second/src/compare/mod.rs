@@ -375,7 +375,7 @@ impl<'a, B: Side> Run<'a, B> {
 pub enum Made {
     ByValue,
     InPlace,
-    /// In place, in a session that is named, or telling the places that time closed.
+    /// In place, in a session that is named, telling the places that time closed, or telling what a line was.
     Named,
 }
 

@@ -112,6 +112,13 @@ fn call_in_place(act: &Act) -> &'static str {
         Act::Legal => "pj_legal_in_place",
         Act::Store { .. } => "pj_store_in_place",
         Act::Load { .. } => "pj_load_in_place",
+        Act::Panel(call) => match call.act {
+            PanelAct::None => "pj_panel_none_in_place",
+            PanelAct::Add { .. } => "pj_panel_add_in_place",
+            PanelAct::Command { .. } => "pj_panel_command_in_place",
+            PanelAct::Line { .. } => "pj_panel_line_in_place",
+            PanelAct::Lost { .. } => "pj_panel_lost_in_place",
+        },
         _ => unreachable!("not made in place"),
     }
 }
@@ -121,6 +128,7 @@ pub fn call_named(act: &Act) -> &'static str {
         Act::Close { .. } => "pj_close_session_in_place",
         Act::Receive { .. } => "pj_receive_session_in_place",
         Act::Pass { .. } | Act::PassInPlace { .. } => "pj_pass_telling_in_place",
+        Act::Panel(_) => "pj_panel_hear_in_place",
         _ => unreachable!("in no session"),
     }
 }
@@ -153,6 +161,7 @@ fn kind(act: &Act, answer: &Answer) -> String {
         Answer::PanelChanged(changed) if changed.number == 0 => panel_kind(act, &changed.panel).to_string(),
         Answer::PanelChanged(changed) => refusal_or(changed.number, ""),
         Answer::PanelSent(sent, _) => refusal_or(sent.number, if sent.length > LED { "led" } else { "not led" }),
+        Answer::PanelHeard(_, heard) => refusal_or(heard.number, &format!("kind {}", heard.kind)),
         Answer::Compared(compared, _) => refusal_or(compared.number, if compared.backwards { "back" } else { "none" }),
         Answer::Verdict(verdict) => refusal_or(verdict.number, &format!("rule {}", verdict.rule)),
         Answer::Plan(plan, _) => refusal_or(plan.number, if plan.planned { "planned" } else { "unplanned" }),

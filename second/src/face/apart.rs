@@ -70,6 +70,7 @@ impl Side for Board {
         let answer = wire::get_answer(act, &mut room);
         match answer.device() {
             Some(_) => answer,
+            None if matches!(act, Act::Panel(_)) => answer,
             None => or_touched(answer, device, Device::get(&mut room)),
         }
     }

@@ -1,8 +1,8 @@
 //! A call of the face with what it is lent, and all that it gives: the same two for both programs.
 
 use super::{
-    Changed, Command, Compared, Day, Device, Digest, Greeting, Kept, Log, Opened, PanelCall, PanelChanged, PanelSent,
-    Part, Plan, Reading, Received, Said, Verdict, Written,
+    Changed, Command, Compared, Day, Device, Digest, Greeting, Heard, Kept, Log, Opened, PanelCall, PanelChanged,
+    PanelSent, Part, Plan, Reading, Received, Said, Verdict, Written,
 };
 
 /// A call, all but the record that some of them are lent. `lent` is the reply memory with what it holds beforehand.
@@ -158,6 +158,8 @@ pub enum Answer {
     Reading(Reading),
     PanelChanged(Box<PanelChanged>),
     PanelSent(Box<PanelSent>, Vec<u8>),
+    /// Of a line, by the call that tells what it was: the panel after it, and what it tells.
+    PanelHeard(Box<PanelChanged>, Box<Heard>),
     Compared(Compared, Vec<i64>),
     Verdict(Verdict),
     Plan(Plan, Vec<u8>),
@@ -170,8 +172,8 @@ pub enum Answer {
 }
 
 impl Act {
-    /// Whether the call has a form that changes the record where it lies, or reads it there: each of the projector's
-    /// calls, and what is made of these.
+    /// Whether the call has a form that changes the record where it lies, or reads it there: each call of a projector or
+    /// of a panel, and what is made of these.
     pub fn has_in_place(&self) -> bool {
         match self {
             Act::SetUp(_) | Act::SetUp2(_) | Act::Load { .. } => true,
@@ -179,10 +181,10 @@ impl Act {
             Act::HandOn { .. } | Act::Interleave { .. } => true,
             Act::Pass { .. } | Act::PassInPlace { .. } => true,
             Act::SetFault { .. } | Act::SetErrors { .. } | Act::SetMark { .. } => true,
-            Act::Legal | Act::Store { .. } => true,
+            Act::Legal | Act::Store { .. } | Act::Panel(_) => true,
             Act::WhichSetting(_) | Act::WhichSetting2(_) | Act::Digest { .. } => false,
             Act::Write { .. } | Act::ReadGreeting { .. } | Act::ReadReply { .. } => false,
-            Act::Panel(_) | Act::CompareLamps { .. } | Act::CheckDay { .. } | Act::PlanDay { .. } => false,
+            Act::CompareLamps { .. } | Act::CheckDay { .. } | Act::PlanDay { .. } => false,
             Act::LogBegun { .. } | Act::Record { .. } | Act::Play { .. } | Act::Keep { .. } => false,
         }
     }

@@ -3,7 +3,7 @@
 use super::wire::Wire;
 use super::{
     Answer, Changed, Command, Compared, Connection, Device, Digest, Entry, Greeting, Line, Log, Name, Opened, Own,
-    PLACES, Panel, PanelChanged, PanelSent, Plan, Reading, Received, Settings, Text, Verdict, Written,
+    Heard, PLACES, Panel, PanelChanged, PanelSent, Plan, Reading, Received, Settings, Text, Verdict, Written,
 };
 
 /// A value's fields, as (path, value) in their order.
@@ -66,6 +66,7 @@ records! {
     Panel { count, entries }
     PanelChanged { number, panel }
     PanelSent { number, length, panel }
+    Heard { number, kind, reading }
     Compared { number, backwards, place }
     Verdict { number, rule, first, second }
     Plan { number, planned, job }
@@ -183,6 +184,10 @@ impl Fields for Answer {
             Answer::PanelSent(sent, memory) => {
                 sent.list(path, into);
                 lent(memory, into);
+            }
+            Answer::PanelHeard(changed, heard) => {
+                changed.list(path, into);
+                heard.list("heard", into);
             }
             Answer::Compared(compared, places) => {
                 compared.list(path, into);

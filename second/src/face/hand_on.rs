@@ -11,8 +11,8 @@ pub trait Side {
     /// the record that lies there then.
     fn call_in_place(&mut self, device: &Device, act: &Act) -> Answer;
 
-    /// The same for receiving and closing in the session of that random number, and for passing time that tells the
-    /// places which it closed. None where no way leads to these calls.
+    /// The same for receiving and closing in the session of that random number, for passing time that tells the places
+    /// which it closed, and for a panel's line of which it is told what it was. None where no way leads to these calls.
     fn call_named(&mut self, _device: &Device, _random: u32, _act: &Act) -> Option<Answer> {
         None
     }

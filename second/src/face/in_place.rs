@@ -1,6 +1,6 @@
 //! The calls on a record that is lent, linked: `linked` has those by value, and what makes each call safe.
 
-use super::setting_up;
+use super::{setting_up, workroom};
 use super::{Act, Answer, Changed, Device, Opened, Opening, Passing, Received, Receiving, Written};
 
 unsafe extern "C" {
@@ -99,6 +99,7 @@ pub fn answer(lent: &Device, act: &Act) -> Answer {
         Act::SetErrors { digits } => set_errors(&mut device, digits),
         Act::SetMark { lamp, enabled } => set_mark(&mut device, *lamp, *enabled),
         Act::Legal | Act::Store { .. } => return only_read(lent, device, act),
+        Act::Panel(call) => return workroom::answer_in_place(call),
         _ => unreachable!("not made in place"),
     };
     Answer::Changed(Changed { number, device })
@@ -125,6 +126,7 @@ pub fn named(lent: &Device, random: u32, act: &Act) -> Answer {
             let Passing { number, closed } = unsafe { pj_pass_telling_in_place(&mut device, *seconds) };
             Answer::Passed(Changed { number, device }, closed)
         }
+        Act::Panel(call) => workroom::heard(call),
         _ => unreachable!("in no session"),
     }
 }

@@ -13,7 +13,7 @@ pub mod wire;
 
 pub use call::{Act, Answer, Lent, Lent2};
 pub use hand_on::{InPlace, Side};
-pub use panel::{Entry, Panel, PanelAct, PanelCall, PanelChanged, PanelSent};
+pub use panel::{Entry, Heard, Panel, PanelAct, PanelCall, PanelChanged, PanelSent};
 pub use recorded::{Again, Kept, Log, Part, Said};
 pub use service::{Compared, Day, Plan, Verdict};
 

@@ -1,6 +1,6 @@
 //! The workroom panel (RULES, Panel): its records, field by field as `include/ceiling.h` has them, and the calls on it.
 
-use super::{Command, Text};
+use super::{Command, Reading, Text};
 
 /// One projector of a panel. `greeting` is 0 where none has come yet, 1 for `PJLINK 0`, 2 for `PJLINK 1`.
 #[repr(C)]
@@ -46,6 +46,15 @@ pub struct PanelSent {
     pub panel: Panel,
 }
 
+/// What a call tells of a line that it hears: what it was, by `enum pj_heard_kind`, and what it says.
+#[repr(C)]
+#[derive(Clone, Copy, PartialEq, Eq, Debug)]
+pub struct Heard {
+    pub number: u32,
+    pub kind: u8,
+    pub reading: Reading,
+}
+
 /// A call on a panel, with the panel that it is lent.
 #[derive(Clone, PartialEq, Eq, Debug)]
 pub struct PanelCall {
@@ -53,7 +62,7 @@ pub struct PanelCall {
     pub act: PanelAct,
 }
 
-/// `None` is lent no panel.
+/// `None` is lent no panel by value.
 #[derive(Clone, PartialEq, Eq, Debug)]
 pub enum PanelAct {
     None,

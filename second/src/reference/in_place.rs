@@ -5,7 +5,7 @@
 
 use super::calls;
 use super::rules::{Mistake, made_now};
-use crate::face::{Act, Answer, Connection, Device, PLACES};
+use crate::face::{Act, Answer, Connection, Device, PLACES, Panel, PanelAct};
 
 /// What a mistake makes of a call in place on a record that holds this one, where the call by value gives that. None by
 /// the rules, and where no mistake changes it.
@@ -40,6 +40,12 @@ pub fn mistaken(lent: &Device, act: &Act, by_value: &Answer) -> Option<Answer> {
         (Mistake::NoneAgesInPlace, Act::Pass { .. } | Act::PassInPlace { .. }, answer) => {
             served(answer)?.connections = lent.connections;
         }
+        (Mistake::PanelIsLeftInPlace, Act::Panel(call), answer) => *panel(answer, true)? = call.panel,
+        (Mistake::RefusedIsNoneInPlace, Act::Panel(_), answer) => *panel(answer, false)? = Panel::NONE,
+        (Mistake::LineNotWrittenInPlace, Act::Panel(call), Answer::PanelSent(_, out)) => {
+            let PanelAct::Command { lent, .. } = &call.act else { return None };
+            out.clone_from(lent);
+        }
         (Mistake::FaultStaysInPlace, Act::SetFault { .. }, answer) => served(answer)?.own.fault |= lent.own.fault,
         (Mistake::WorseDigitsInPlace, Act::SetErrors { .. }, answer) => {
             let errors = &mut served(answer)?.own.errors;
@@ -58,6 +64,16 @@ pub fn mistaken(lent: &Device, act: &Act, by_value: &Answer) -> Option<Answer> {
         _ => return None,
     }
     Some(answer)
+}
+
+/// The panel of a call that is served, or refused.
+fn panel(answer: &mut Answer, is_served: bool) -> Option<&mut Panel> {
+    let (number, panel) = match answer {
+        Answer::PanelChanged(changed) => (changed.number, &mut changed.panel),
+        Answer::PanelSent(sent, _) => (sent.number, &mut sent.panel),
+        _ => return None,
+    };
+    ((number == 0) == is_served).then_some(panel)
 }
 
 /// The record of a call that is refused.

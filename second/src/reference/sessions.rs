@@ -1,10 +1,12 @@
 //! A connection named by its place and the random number of its opening. By RULES, The C face: "In a session
 //! `pj_receive_session_in_place` is receiving and `pj_close_session_in_place` closing. Where the connection at the place is
 //! closed, or was opened with another number, they are refused with 4, after 1, 2 and 3"; and "`pj_pass_telling_in_place`
-//! passes time, and tells the places that this closed: bit p for place p, none with a refusal".
+//! passes time, and tells the places that this closed: bit p for place p, none with a refusal". And by RULES, Panel, "the
+//! same step, and tells what the line was", which `panel::calls` has.
 
+use super::panel;
 use super::rules::{Mistake, made_now};
-use crate::face::{Act, Answer, Changed, Device, PLACES, Received};
+use crate::face::{Act, Answer, Changed, Device, PLACES, PanelAct, Received};
 
 /// The numbers by which the call is named: that of the connection at its place, one that differs in a bit, and none. Of
 /// a call that is at no place it is passed over.
@@ -15,6 +17,7 @@ pub fn numbers(device: &Device, act: &Act) -> Vec<u32> {
             vec![its, its ^ 1 << (its % 32), 0]
         }
         Act::Pass { .. } | Act::PassInPlace { .. } => vec![0],
+        Act::Panel(call) if matches!(call.act, PanelAct::Line { .. }) => vec![0],
         _ => Vec::new(),
     }
 }
@@ -41,6 +44,11 @@ pub fn named(device: &Device, random: u32, act: &Act, alone: Answer) -> Answer {
                 }
             });
             Answer::Passed(passed, closed.map(|place| 1 << place).sum())
+        }
+        (Act::Panel(call), Answer::PanelChanged(changed)) => {
+            let PanelAct::Line { projector, line } = &call.act else { unreachable!("no line") };
+            let heard = panel::calls::heard(&call.panel, *projector, line, changed.number);
+            Answer::PanelHeard(changed, Box::new(heard))
         }
         (_, alone) => alone,
     }

@@ -3,9 +3,10 @@
 
 use super::known::Known;
 use super::{Entry, MOST_PROJECTORS, NOT_READY, Panel};
-use crate::face::{self, PanelChanged, PanelSent};
-use crate::reference::calls::{NOT_LEGAL, OUT_OF_RANGE, ROOM_SHORT, WRITER_ROOM};
-use crate::reference::controller::Command;
+use crate::face::{self, Heard, PanelChanged, PanelSent, Reading};
+use crate::reference::calls::{self, NOT_LEGAL, OUT_OF_RANGE, ROOM_SHORT, WRITER_ROOM};
+use crate::reference::controller::{self, Command, Greeting};
+use crate::reference::replies::{OTHER_COMMAND, PARAMETER_NOT_ALLOWED};
 use crate::reference::rules::{Mistake, made};
 use crate::reference::set_up::{is_password, is_short};
 
@@ -90,6 +91,48 @@ pub fn line(record: &face::Panel, projector: usize, line: &[u8]) -> PanelChanged
     }
     given
 }
+
+/// "It tells what the line was, which is kept nowhere: its greeting, an accepted reply, ERRA, late, foreign or malformed;
+/// and, where a command is under way, what the reader takes from the line. A refused call tells nothing." The number is
+/// that of the step.
+pub fn heard(record: &face::Panel, projector: usize, line: &[u8], number: u32) -> Heard {
+    let nothing = Reading { number: 0, ..calls::read_reply(face::Command { code: 255, first: 0, second: 0 }, b"") };
+    let told = |kind, reading| Heard { number, kind, reading };
+    if number != 0 {
+        return told(if made(Mistake::RefusedLineTold) { MALFORMED } else { 0 }, nothing);
+    }
+    let entry = &record.entries[projector];
+    if entry.greeting == 0 {
+        return match controller::greeting(line) {
+            Some(Greeting::Plain | Greeting::Secured(_)) => told(1, nothing),
+            Some(Greeting::Erra) if made(Mistake::EarlyErraTold) => told(3, nothing),
+            _ => told(MALFORMED, nothing),
+        };
+    }
+    if !entry.under_way {
+        return told(LATE, nothing);
+    }
+    let reading = calls::read_reply(entry.command, line);
+    let kind = match reading {
+        Reading { number: 0, kind: ERRA, .. } if made(Mistake::ErraToldMalformed) => MALFORMED,
+        Reading { number: 0, kind: ERRA, .. } => 3,
+        Reading { number: 0, .. } => 2,
+        Reading { number: OTHER_COMMAND, .. } if made(Mistake::ForeignToldMalformed) => MALFORMED,
+        Reading { number: OTHER_COMMAND, .. } => 5,
+        Reading { number: PARAMETER_NOT_ALLOWED, .. } if made(Mistake::NotAllowedToldForeign) => 5,
+        _ => MALFORMED,
+    };
+    match kind {
+        2 if made(Mistake::ReplyUnread) => told(kind, nothing),
+        5 | MALFORMED if made(Mistake::StrayNumberLeftOut) => told(kind, nothing),
+        _ => told(kind, reading),
+    }
+}
+
+/// The kinds of `enum pj_heard_kind` that are named above more than once, and ERRA of `enum pj_reading_kind`.
+const LATE: u8 = 4;
+const MALFORMED: u8 = 6;
+const ERRA: u8 = 11;
 
 /// No rule leaves these; a mistake does.
 fn leave_earlier_hours(before: &face::Entry, after: &mut face::Entry) {

@@ -1,7 +1,7 @@
 use Rattle.workroom.proofs.WrongPanelsFall.{takes_foreign_falls, ends_on_malformed_falls, keeps_after_erra_falls}
 use Rattle.workroom.proofs.WrongPanelsFall.{stray_count_wraps_falls, shows_late_falls, counts_nothing_falls}
 use Rattle.workroom.proofs.WrongPanelsFall.{shows_no_reply_falls, forgets_at_addition_falls, tells_the_password_falls}
-use Rattle.workroom.proofs.WrongPanelsFall.{refuses_what_it_does_falls}
+use Rattle.workroom.proofs.WrongPanelsFall.{refuses_what_it_does_falls, hides_the_wrong_password_falls}
 use Rattle.workroom.proofs.theorems.wrong_panels_fall.Goals as goal
 
 pub returns : goal.returns
@@ -16,4 +16,5 @@ returns c = record {
   forgets_at_an_addition = forgets_at_addition_falls;
   tells_the_password = tells_the_password_falls;
   refuses_what_it_does = refuses_what_it_does_falls;
+  hides_the_wrong_password = hides_the_wrong_password_falls;
 }

@@ -1,0 +1,48 @@
+// Of which version and kit the archive is, and what its numbers and settings are in words (RULES, The C face). A text
+// is lent as it lies in the archive, with a NUL after it: an exported call returns no pointer, so each fills one.
+ghost use Rattle.std.specs.Prelude.{◌≡◌};
+ghost use Rattle.reasons.specs.Reasons.{number_text, setting_text, in_c};
+ghost use Rattle.reasons.specs.About.{face_number, about_text};
+
+use reasons::{about, numbers, settings};
+
+/// The version of the face.
+#[unsafe(no_mangle)]
+pub extern "C" fn pj_face() -> u32
+    ensures { result ≡ face_number }
+{
+    about::face_number()
+}
+
+/// The same. Its name has the version in it, and the header makes each host need it: no host of another version's
+/// header is linked.
+#[unsafe(no_mangle)]
+pub extern "C" fn pj_face_13() -> u32
+    ensures { result ≡ face_number }
+{
+    about::face_number()
+}
+
+/// What the archive says of itself: the version of the face, and the kit that proved it.
+#[unsafe(no_mangle)]
+pub extern "C" fn pj_face_words(words: &mut &'static [u8])
+    ensures { words.new.now ≡ in_c about_text }
+{
+    *words = about::about_text_in_c().as_bytes();
+}
+
+/// What a number that a call gives says.
+#[unsafe(no_mangle)]
+pub extern "C" fn pj_number_words(number: u32, words: &mut &'static [u8])
+    ensures { words.new.now ≡ in_c (number_text number) }
+{
+    *words = numbers::number_text_in_c(number).as_bytes();
+}
+
+/// What a setting of a set-up is called, by its number (`pj_which_setting`).
+#[unsafe(no_mangle)]
+pub extern "C" fn pj_setting_words(setting: u32, words: &mut &'static [u8])
+    ensures { words.new.now ≡ in_c (setting_text setting) }
+{
+    *words = settings::setting_text_in_c(setting).as_bytes();
+}

@@ -1,0 +1,49 @@
+// What a line from a projector was (RULES, Panel).
+ghost use Rattle.std.specs.Prelude.{◌≡◌, ◌≤◌, Some, length};
+ghost use Rattle.pjlink.specs.Said.{parameter_most};
+ghost use Rattle.panel.specs.Hearing.{heard_by_code, heard_bytes, heard_kind, heard_reading};
+
+use codes::readings::FlatReading;
+use controller::reading::{Misread, Reading};
+
+/// What a line from a projector was.
+#[derive(Drop)]
+pub enum Heard<'a> {
+    /// Its greeting, which is accepted.
+    Greeting,
+    /// No greeting, where one is awaited: malformed.
+    NoGreeting,
+    /// Late: no command is under way.
+    Late,
+    /// What the reader takes from it as the reply to the command under way: an accepted reply, ERRA, or why it is
+    /// foreign (`OtherCommand`) or malformed.
+    Reply(Result<Reading<'a>, Misread>),
+}
+
+impl Heard<'_> {
+    /// What it was, by `enum pj_heard_kind`: 1 the greeting, 2 an accepted reply, 3 ERRA, 4 late, 5 foreign, 6
+    /// malformed.
+    pub fn kind(&self) -> u8
+        ensures { result ≡ heard_kind (Some (heard_by_code self.now)) }
+    {
+        match self {
+            Heard::Greeting => 1,
+            Heard::Reply(Ok(Reading::Means(_))) => 2,
+            Heard::Reply(Ok(Reading::Erra)) => 3,
+            Heard::Late => 4,
+            Heard::Reply(Err(Misread::OtherCommand)) => 5,
+            Heard::Reply(Err(Misread::NotALine | Misread::NotAllowed)) | Heard::NoGreeting => 6,
+        }
+    }
+
+    /// What it says, as the reader of replies tells it; nothing, all zero, where it was not read as a reply.
+    pub fn reading(&self) -> FlatReading
+        requires { length (heard_bytes (heard_by_code self.now)) ≤ parameter_most }
+        ensures { result ≡ heard_reading (Some (heard_by_code self.now)) }
+    {
+        match self {
+            Heard::Reply(reading) => FlatReading::of(reading),
+            Heard::Greeting | Heard::NoGreeting | Heard::Late => FlatReading::meaningless(0),
+        }
+    }
+}
