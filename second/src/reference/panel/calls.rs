@@ -93,7 +93,7 @@ pub fn line(record: &face::Panel, projector: usize, line: &[u8]) -> PanelChanged
 
 /// No rule leaves these; a mistake does.
 fn leave_earlier_hours(before: &face::Entry, after: &mut face::Entry) {
-    if after.lamps_known {
+    if after.lamps_known.is_raised() {
         for place in after.lamp_count..before.lamp_count {
             after.hours[place] = before.hours[place];
         }
