@@ -53,6 +53,8 @@ impl Read for Input {
 impl Opens for System<'_> {
     type Source = Input;
 
+    ghost log_bytes = { λ _ _. None };
+
     fn open_log(&self, name: &str) -> io::Result<Input> {
         if name == "-" {
             return Ok(Input::Standard(self.0.stdin()));
