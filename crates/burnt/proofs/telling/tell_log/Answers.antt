@@ -1,5 +1,5 @@
 -- what stands before the first stretch, and then what is told of the log, by the observer of its kind
-use Rattle.std.proofs.Common.{ap, subst, arith, ◌^◌}
+use Rattle.std.proofs.Common.{ap, subst, arith, ◌^◌, ◌∙◌}
 use Rattle.std.proofs.lemmas.Option.{IfSome_then}
 use Rattle.std.specs.Io.KnownBytes.{Appends}
 use Rattle.textio.specs.Ahead.{left_in}
@@ -10,13 +10,15 @@ use Rattle.floorlog.proofs.Observing.{on_failed}
 use Rattle.report.specs.Reports.{report_new, begun_text}
 use Rattle.burnt.specs.LogTold.{told, IsTooMuch}
 use Rattle.burnt.proofs.LinesTold.{begun_whole, begun_front, begun_cut}
-use Rattle.burnt.proofs.ByKinds.{writes, begun_so, too_much_bytes, all_told, too_much, told_so_far}
+use Rattle.burnt.proofs.ByKinds.{writes, begun_so, too_much_bytes, all_told, unplayed_left_so, too_much}
+use Rattle.burnt.proofs.ByKinds.{told_so_far}
 use Rattle.burnt.proofs.telling.tell_log.Goals as goal
 
 pub returns-in_err-map_err-clause-front : goal.returns-in_err-map_err-clause-front
 returns-in_err-map_err-clause-front g c =
     let n = begun_so c.args.begun c.args.sum c.args.drawn c.new-report.ensures c.new.result c.new.ensures.watch
-    c.new.ensures.report c.new.ensures.starts c.new.ensures.lines c.new.ensures.unplayed c.new-2.result c.new-2.ensures.watch c.new-2.ensures.report
+    c.new.ensures.report c.new.ensures.starts c.new.ensures.lines c.new.ensures.unplayed c.new-2.result
+    c.new-2.ensures.watch c.new-2.ensures.report
     c.new-2.ensures.starts c.new-2.ensures.log c.new-2.ensures.lines c.new-2.ensures.stray c.new-teller.result
     c.new-teller.ensures.observers c.new-teller.ensures.kind in
     begun_cut (left_in g.R.ByteSource.remaining c.args.from.now) _ _ (begun_text (report_new c.args.drawn))
@@ -26,7 +28,8 @@ returns-in_err-map_err-clause-front g c =
 pub returns-in-Ok-clause-front : goal.returns-in-Ok-clause-front
 returns-in-Ok-clause-front g c =
     let n = begun_so c.args.begun c.args.sum c.args.drawn c.new-report.ensures c.new.result c.new.ensures.watch
-    c.new.ensures.report c.new.ensures.starts c.new.ensures.lines c.new.ensures.unplayed c.new-2.result c.new-2.ensures.watch c.new-2.ensures.report
+    c.new.ensures.report c.new.ensures.starts c.new.ensures.lines c.new.ensures.unplayed c.new-2.result
+    c.new-2.ensures.watch c.new-2.ensures.report
     c.new-2.ensures.starts c.new-2.ensures.log c.new-2.ensures.lines c.new-2.ensures.stray c.new-teller.result
     c.new-teller.ensures.observers c.new-teller.ensures.kind in
     begun_front (left_in g.R.ByteSource.remaining c.args.from.now) _ _ _ (begun_text (report_new c.args.drawn))
@@ -36,7 +39,8 @@ returns-in-Ok-clause-front g c =
 pub returns-in-Err-clause-front : goal.returns-in-Err-clause-front
 returns-in-Err-clause-front g c =
     let n = begun_so c.args.begun c.args.sum c.args.drawn c.new-report.ensures c.new.result c.new.ensures.watch
-    c.new.ensures.report c.new.ensures.starts c.new.ensures.lines c.new.ensures.unplayed c.new-2.result c.new-2.ensures.watch c.new-2.ensures.report
+    c.new.ensures.report c.new.ensures.starts c.new.ensures.lines c.new.ensures.unplayed c.new-2.result
+    c.new-2.ensures.watch c.new-2.ensures.report
     c.new-2.ensures.starts c.new-2.ensures.log c.new-2.ensures.lines c.new-2.ensures.stray c.new-teller.result
     c.new-teller.ensures.observers c.new-teller.ensures.kind in
     begun_front (left_in g.R.ByteSource.remaining c.args.from.now) _ _ _ (begun_text (report_new c.args.drawn))
@@ -46,7 +50,8 @@ returns-in-Err-clause-front g c =
 pub returns-in-Ok-clause-whole : goal.returns-in-Ok-clause-whole
 returns-in-Ok-clause-whole g c =
     let n = begun_so c.args.begun c.args.sum c.args.drawn c.new-report.ensures c.new.result c.new.ensures.watch
-    c.new.ensures.report c.new.ensures.starts c.new.ensures.lines c.new.ensures.unplayed c.new-2.result c.new-2.ensures.watch c.new-2.ensures.report
+    c.new.ensures.report c.new.ensures.starts c.new.ensures.lines c.new.ensures.unplayed c.new-2.result
+    c.new-2.ensures.watch c.new-2.ensures.report
     c.new-2.ensures.starts c.new-2.ensures.log c.new-2.ensures.lines c.new-2.ensures.stray c.new-teller.result
     c.new-teller.ensures.observers c.new-teller.ensures.kind in
     begun_whole (left_in g.R.ByteSource.remaining c.args.from.now) _ _ _ (begun_text (report_new c.args.drawn))
@@ -56,7 +61,8 @@ returns-in-Ok-clause-whole g c =
 pub returns-in-Err-clause-broken : goal.returns-in-Err-clause-broken
 returns-in-Err-clause-broken g c =
     let n = begun_so c.args.begun c.args.sum c.args.drawn c.new-report.ensures c.new.result c.new.ensures.watch
-    c.new.ensures.report c.new.ensures.starts c.new.ensures.lines c.new.ensures.unplayed c.new-2.result c.new-2.ensures.watch c.new-2.ensures.report
+    c.new.ensures.report c.new.ensures.starts c.new.ensures.lines c.new.ensures.unplayed c.new-2.result
+    c.new-2.ensures.watch c.new-2.ensures.report
     c.new-2.ensures.starts c.new-2.ensures.log c.new-2.ensures.lines c.new-2.ensures.stray c.new-teller.result
     c.new-teller.ensures.observers c.new-teller.ensures.kind in
     on_failed c.in-Err.failure (λ p. IfSome_then (left_in g.R.ByteSource.remaining c.args.from.now) p
@@ -67,7 +73,8 @@ returns-in-Err-clause-broken g c =
 pub returns-in-Err-clause-err : goal.returns-in-Err-clause-err
 returns-in-Err-clause-err g c =
     let n = begun_so c.args.begun c.args.sum c.args.drawn c.new-report.ensures c.new.result c.new.ensures.watch
-    c.new.ensures.report c.new.ensures.starts c.new.ensures.lines c.new.ensures.unplayed c.new-2.result c.new-2.ensures.watch c.new-2.ensures.report
+    c.new.ensures.report c.new.ensures.starts c.new.ensures.lines c.new.ensures.unplayed c.new-2.result
+    c.new-2.ensures.watch c.new-2.ensures.report
     c.new-2.ensures.starts c.new-2.ensures.log c.new-2.ensures.lines c.new-2.ensures.stray c.new-teller.result
     c.new-teller.ensures.observers c.new-teller.ensures.kind in
     comes_of g.R.ByteSource.fails_with g.W.ByteSink.fails_with _ (left_in g.R.ByteSource.remaining c.args.from.now)
@@ -78,3 +85,13 @@ pub returns-in-Err-clause-short : goal.returns-in-Err-clause-short
 returns-in-Err-clause-short g c =
     short_enough g.R.ByteSource.fails_with g.W.ByteSink.fails_with IsTooMuch (2 ^ 32) too_much_bytes
     (left_in g.R.ByteSource.remaining c.args.from.now) _ (returns-in-Err-clause-err g c)
+
+pub returns-in-Ok-clause-unplayed : goal.returns-in-Ok-clause-unplayed
+returns-in-Ok-clause-unplayed g c =
+    let n = begun_so c.args.begun c.args.sum c.args.drawn c.new-report.ensures c.new.result c.new.ensures.watch
+    c.new.ensures.report c.new.ensures.starts c.new.ensures.lines c.new.ensures.unplayed c.new-2.result
+    c.new-2.ensures.watch c.new-2.ensures.report
+    c.new-2.ensures.starts c.new-2.ensures.log c.new-2.ensures.lines c.new-2.ensures.stray c.new-teller.result
+    c.new-teller.ensures.observers c.new-teller.ensures.kind in
+    IfSome_then (left_in g.R.ByteSource.remaining c.args.from.now) c.in-Ok.ensures.left
+    (λ log left. c.ending_of.ensures.unplayed ∙ unplayed_left_so n c.follow.new.observer log left)
