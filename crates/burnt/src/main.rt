@@ -13,6 +13,7 @@ use program::about::About;
 use program::outside::System;
 use program::run;
 use program::telling::{Ending, Telling};
+use report::Report;
 use std::process::ExitCode;
 use textio::lines::Failure;
 use textio::reader::{ByteSource, Reader};
@@ -51,7 +52,7 @@ impl Telling for Burnt {
         from: &mut Reader<R>,
         to: &mut W,
     ) -> Result<Ending, Failure> {
-        match telling::tell_log(begun.device, begun.sum, page, from, to)? {
+        match telling::tell_log(begun.device, begun.sum, Report::new(page), from, to)? {
             None => Ok(Ending::Whole),
             Some(line) => Ok(Ending::Stray(line)),
         }
