@@ -13,7 +13,9 @@ use Rattle.floorlog.specs.Kinds.{is_history, is_history_from}
 use Rattle.floorlog.specs.Observing.{BreaksOff}
 use Rattle.floorlog.specs.declared.kinds.ByKind.{ByKind}
 use Rattle.floorlog.specs.declared.kinds.Kind.TheVariants.{Unbegun}
+use Rattle.floorlog.specs.Unplayed.{none_unplayed}
 use Rattle.recorded.specs.Following.{chain_begun}
+use Rattle.watch.specs.Telling.{floor_unplayed}
 use Rattle.watch.specs.Marking.{floor_event, seconds_by}
 use Rattle.watch.specs.Watching.{Watching, watching_from}
 use Rattle.watch.specs.States.{state_of}
@@ -22,12 +24,12 @@ use Rattle.report.specs.declared.Report.{Report}
 use Rattle.burnt.specs.Told.{tellings_text, told_within, log_told, IsUntold}
 use Rattle.burnt.specs.ChainTold.{chain_told, chain_stray, IsChainUntold}
 use Rattle.burnt.specs.ChainTelling.{stray_now, teller_writes, IsChainLeft, ChainOverflows}
-use Rattle.burnt.specs.LogTold.{told, stray_in, steps_in, IsTooMuch, IsToldSoFar}
+use Rattle.burnt.specs.LogTold.{told, stray_in, unplayed_in, steps_in, IsTooMuch, IsToldSoFar}
 use Rattle.burnt.specs.declared.telling.Teller.{Teller}
 use Rattle.burnt.specs.declared.chained.ChainTeller.{ChainTeller}
 use Rattle.burnt.proofs.LinesTold.{broken_text}
 use Rattle.burnt.proofs.FloorTold.{untold, untold_bytes, teller_told, TellerLeft, teller_begun, teller_so_far}
-use Rattle.burnt.proofs.FloorTold.{teller_itself}
+use Rattle.burnt.proofs.FloorTold.{teller_itself, TellerOverflows, all_unplayed}
 use Rattle.burnt.proofs.ChainBegun.{left_itself, chain_begins, begun_stray, chain_so_far, chain_untold}
 use Rattle.burnt.proofs.ChainBegun.{chain_untold_bytes}
 
@@ -44,8 +46,7 @@ Left o ls last =
 
 abbrev pub Overflows : Both → List LogLine → Type 0
 Overflows o ls =
-    MatchBool (is_history_from o.kind ls) (ChainOverflows o.history ls)
-    (2 ^ 64 ≤ o.events.watch.time + sum_by seconds_by (map floor_event (texts_of ls)))
+    MatchBool (is_history_from o.kind ls) (ChainOverflows o.history ls) (TellerOverflows o.events ls)
 
 -- a log that cannot be told has as many bytes
 pub too_much_bytes : (log : List ℕ) → IsTooMuch log → 2 ^ 32 ≤ length log
@@ -68,6 +69,8 @@ pub record IsBegun (begun : Device) (sum : ℕ) (way : Report) (o : Both) : Type
   pub starts : o.events.starts ≡ begun.own.lamps
   pub report : o.events.report ≡ way
   pub watch : state_of o.events.watch ≡ watching_from begun
+  pub floor_lines : o.events.lines ≡ 0
+  pub unplayed : o.events.unplayed ≡ none_unplayed
   pub chain_starts : o.history.starts ≡ begun.own.lamps
   pub chain_report : o.history.report ≡ way
   pub chain_watch : state_of o.history.watch ≡ watching_from begun
@@ -77,6 +80,8 @@ pub record IsBegun (begun : Device) (sum : ℕ) (way : Report) (o : Both) : Type
 
 pub begun_so : (begun : Device) (sum : ℕ) (way : Report) (a : Teller)
     → state_of a.watch ≡ watching_from begun → a.report ≡ way → a.starts ≡ begun.own.lamps
+    → a.lines ≡ 0
+    → a.unplayed ≡ none_unplayed
     → (b : ChainTeller)
     → state_of b.watch ≡ watching_from begun
     → b.report ≡ way
@@ -88,11 +93,13 @@ pub begun_so : (begun : Device) (sum : ℕ) (way : Report) (a : Teller)
     → (o.events ≡ a) × (o.history ≡ b)
     → o.kind ≡ Unbegun
     → IsBegun begun sum way o
-begun_so begun sum way a aw ar at b bw br bt bl bn bx o is kind = record {
+begun_so begun sum way a aw ar at al au b bw br bt bl bn bx o is kind = record {
   kind = kind;
   starts = ap (λ (t : Teller). t.starts) is.0 ∙ at;
   report = ap (λ (t : Teller). t.report) is.0 ∙ ar;
   watch = ap (λ (t : Teller). state_of t.watch) is.0 ∙ aw;
+  floor_lines = ap (λ (t : Teller). t.lines) is.0 ∙ al;
+  unplayed = ap (λ (t : Teller). t.unplayed) is.0 ∙ au;
   chain_starts = ap (λ (t : ChainTeller). t.starts) is.1 ∙ bt;
   chain_report = ap (λ (t : ChainTeller). t.report) is.1 ∙ br;
   chain_watch = ap (λ (t : ChainTeller). state_of t.watch) is.1 ∙ bw;
@@ -126,19 +133,18 @@ module _ {begun : Device} {sum : ℕ} {way : Report} {o : Both} (n : IsBegun beg
     where
       moved : IsTooLong log ⊎ Overflows o (kept_lines log)
           → IsTooLong log ⊎ MatchBool (is_history (kept_lines log)) (ChainOverflows o.history (kept_lines log))
-          (2 ^ 64 ≤ o.events.watch.time + sum_by seconds_by (map floor_event (texts_of (kept_lines log))))
+          (TellerOverflows o.events (kept_lines log))
       moved (inl e) = inl e
       moved (inr e) =
           inr (subst (λ (t : Bool). MatchBool t (ChainOverflows o.history (kept_lines log))
-          (2 ^ 64 ≤ o.events.watch.time + sum_by seconds_by (map floor_event (texts_of (kept_lines log)))))
-          (of_kind (kept_lines log)) e)
+          (TellerOverflows o.events (kept_lines log))) (of_kind (kept_lines log)) e)
 
       by : (t : Bool)
           → IsTooLong log ⊎ MatchBool t (ChainOverflows o.history (kept_lines log))
-          (2 ^ 64 ≤ o.events.watch.time + sum_by seconds_by (map floor_event (texts_of (kept_lines log))))
+          (TellerOverflows o.events (kept_lines log))
           → MatchBool t (IsChainUntold log) (IsUntold log)
       by true e = chain_untold o.history n.lines (ap (λ (s : Watching). s.time) n.chain_watch) log e
-      by false e = untold (ap (λ (s : Watching). s.time) n.watch) log e
+      by false e = untold (ap (λ (s : Watching). s.time) n.watch) n.floor_lines log e
 
   -- the line that did not belong
   pub stray_left_so : (last : Both) (log : List ℕ) → Left o (kept_lines log) last
@@ -158,6 +164,23 @@ module _ {begun : Device} {sum : ℕ} {way : Report} {o : Both} (n : IsBegun beg
           ∙ begun_stray begun sum way o.history n.chain_starts n.chain_report n.chain_watch n.log n.lines n.stray
           (kept_lines log)
       by false h = refl
+
+  -- what was not played
+  pub unplayed_left_so : (last : Both) (log : List ℕ) → Left o (kept_lines log) last
+      → (if is_history_from last.kind [] then none_unplayed else last.events.unplayed) ≡ unplayed_in begun log
+  unplayed_left_so last log (kind, left) =
+      ap (λ (t : Bool). if t then none_unplayed else last.events.unplayed) (kind ∙ of_kind (kept_lines log))
+      ∙ by (is_history (kept_lines log))
+      (subst (λ (t : Bool). MatchBool t (IsChainLeft o.history (kept_lines log) last.history)
+      (TellerLeft o.events (kept_lines log) last.events)) (of_kind (kept_lines log)) left)
+    where
+      by : (t : Bool)
+          → MatchBool t (IsChainLeft o.history (kept_lines log) last.history)
+          (TellerLeft o.events (kept_lines log) last.events)
+          → (if t then none_unplayed else last.events.unplayed)
+          ≡ (if t then none_unplayed else floor_unplayed begun log)
+      by true h = refl
+      by false h = h.2.1 ∙ all_unplayed o.events begun n.unplayed n.floor_lines n.watch log
 
   -- where a read fails
   pub told_so_far : {after : Both} {log left : List ℕ} {old mid now : Option (List ℕ)}

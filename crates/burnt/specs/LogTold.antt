@@ -2,6 +2,7 @@
 --   told d sum way log       what is written of a whole log that begins with the device d, of which the form has that
 --                            sum, as the report `way` has it
 --   stray_in d sum log       its first line that does not belong; none does in a log of the first kind
+--   unplayed_in d log        what of a log of the first kind is not played; of a history it is none
 --   IsTooMuch log            it can't be told to its end
 --   steps_in d sum ls        the steps of its lines ls, from the first on
 --   IsToldSoFar d sum way log left ..   the sink got what is told by the lines that have ended in what was read of
@@ -14,8 +15,11 @@ use Rattle.record.specs.declared.types.Device.{Device}
 use Rattle.textio.specs.Lines.{LogLine, texts_of}
 use Rattle.floorlog.specs.Kept.{kept_lines}
 use Rattle.floorlog.specs.Kinds.{is_history}
+use Rattle.floorlog.specs.Unplayed.{none_unplayed}
+use Rattle.floorlog.specs.declared.unplayed.Unplayed.{Unplayed}
 use Rattle.recorded.specs.Following.{chain_begun, FirstStray, belonging}
 use Rattle.watch.specs.Marking.{floor_event, floor_steps}
+use Rattle.watch.specs.Telling.{floor_unplayed}
 use Rattle.watch.specs.CallSteps.{entry_steps}
 use Rattle.watch.specs.Watching.{Step, watching_from}
 use Rattle.report.specs.Reports.{begun_text}
@@ -29,6 +33,9 @@ told d sum way log =
 
 abbrev pub stray_in : Device → ℕ → List ℕ → Option FirstStray
 stray_in d sum log = if is_history (kept_lines log) then chain_stray d sum log else None
+
+abbrev pub unplayed_in : Device → List ℕ → Unplayed
+unplayed_in d log = if is_history (kept_lines log) then none_unplayed else floor_unplayed d log
 
 abbrev pub IsTooMuch : List ℕ → Type 0
 IsTooMuch log = MatchBool (is_history (kept_lines log)) (IsChainUntold log) (IsUntold log)

@@ -3,7 +3,6 @@
 --   unwritten_text n cause   that the file n cannot be written
 --   refused_text n c     that the form in the file n does not load, with the number c
 --   endless_text n       that the log n is longer than can be counted
---   headless_warning     that a log has lines of a history, and no header before them
 --   stray_warning s      which line of a log does not belong to it, and why
 --   UnbegunSaid ..       what is said of a form in the file n that begins nothing: that it cannot be read, for some
 --                        cause (UnreadSaid), or with which number it does not load
@@ -34,9 +33,6 @@ refused_text n c = (n ++ (codes ": " ++ (number_text c ++ codes " ("))) ++ form_
 
 abbrev pub endless_text : List ℕ → List ℕ
 endless_text n = n ++ (codes ": more lines, bytes or seconds" ++ (codes " than can be counted" ++ codes "\n"))
-
-abbrev pub headless_warning : List ℕ
-headless_warning = codes "the log has lines of a history, and no header: it is read as a log of the other kind\n"
 
 abbrev pub stray_warning : FirstStray → List ℕ
 stray_warning s = stray_text s ++ codes "; what is written is of the lines before it\n"

@@ -3,7 +3,6 @@
 #![tactic(auto)]
 
 pub mod about;
-mod headless;
 pub mod joined;
 pub mod outside;
 pub mod run;

@@ -4,7 +4,6 @@ ghost use Rattle.program.specs.Said.{UnbegunSaid};
 ghost use Rattle.program.specs.declared.status.Status.TheVariants as Status;
 
 use crate::about::About;
-use crate::headless::is_headless;
 use crate::joined::{Joined, Opens};
 use crate::outside::{Outside, System};
 use crate::status::Status;
@@ -20,7 +19,7 @@ use std::io::Error;
 use std::{env, io};
 use text::numbered::Numbered;
 use textio::lines::Failure;
-use textio::reader::{ByteSource, Reader};
+use textio::reader::Reader;
 use textio::streams::Stream;
 use textio::writer::{ByteSink, Writer, put};
 
@@ -99,49 +98,31 @@ fn shown(name: &str) -> &str {
 }
 
 // How a log ended all of which was read, and what is told of it written.
-fn ended<E: ByteSink>(ending: Ending, errors: &mut E) -> Status {
-    match ending {
-        Ending::Whole => Status::Done,
-        Ending::Headless => {
-            let _said = said::say_headless(errors).is_ok();
-            Status::Strayed
-        }
-        Ending::Stray(line) => {
-            let _said = said::say_stray(errors, &line).is_ok();
-            Status::Strayed
-        }
+fn ended<E: ByteSink>(ending: &Ending, errors: &mut E) -> Status {
+    if let Some(line) = &ending.stray {
+        let _said = said::say_stray(errors, line).is_ok();
+        return Status::Strayed;
     }
-}
-
-// The log told by the program. A history without its header ends so where no line of it says more.
-fn told_by<P: Telling, R: ByteSource + Drop, W: ByteSink>(
-    program: &P,
-    begun: Begun,
-    page: bool,
-    source: R,
-    to: &mut W,
-) -> Result<Ending, Failure> {
-    let mut from = Reader::new(source);
-    let headless = is_headless(&mut from);
-    match program.tell(begun, page, &mut from, to)? {
-        Ending::Whole if headless => Ok(Ending::Headless),
-        ending => Ok(ending),
+    if ending.unplayed.is_none() {
+        return Status::Done;
     }
+    let _said = said::say_unplayed(errors, &ending.unplayed).is_ok();
+    Status::Strayed
 }
 
 // The log on standard output. A failure's line stands there too, and in words on standard error.
 fn tell_out<P: Telling, O: Opens, W: ByteSink, E: ByteSink>(
     program: &P,
-    begun: Begun,
-    page: bool,
+    begun: &Begun,
+    command: &Command<'_>,
     mut log: Joined<'_, '_, O>,
     to: &mut W,
     errors: &mut E,
 ) -> Status {
-    let told = told_by(program, begun, page, Stream(&mut log), to);
+    let told = program.tell(begun, command, &mut Reader::new(Stream(&mut log)), to);
     match told {
         Ok(ending) => match cut::end_output(Ok(()), to) {
-            Ok(()) => ended(ending, errors),
+            Ok(()) => ended(&ending, errors),
             Err(error) => unwritten(STANDARD_OUTPUT, &error, errors),
         },
         Err(failure) => {
@@ -155,8 +136,8 @@ fn tell_out<P: Telling, O: Opens, W: ByteSink, E: ByteSink>(
 // The log in a file, which is left as it was where that fails.
 fn tell_saved<P: Telling, O: Outside, E: ByteSink>(
     program: &P,
-    begun: Begun,
-    page: bool,
+    begun: &Begun,
+    command: &Command<'_>,
     mut log: Joined<'_, '_, O>,
     outside: &O,
     name: &str,
@@ -166,10 +147,10 @@ fn tell_saved<P: Telling, O: Outside, E: ByteSink>(
         Ok(sink) => sink,
         Err(error) => return unwritten(name, &error, errors),
     };
-    let told = told_by(program, begun, page, Stream(&mut log), &mut to);
+    let told = program.tell(begun, command, &mut Reader::new(Stream(&mut log)), &mut to);
     match told {
         Ok(ending) => match outside.keep(to) {
-            Ok(()) => ended(ending, errors),
+            Ok(()) => ended(&ending, errors),
             Err(error) => unwritten(name, &error, errors),
         },
         Err(failure) => {
@@ -238,8 +219,8 @@ fn tell<P: Telling, O: Outside, W: ByteSink, E: ByteSink>(
     };
     let log = Joined::new(outside, command.logs.as_slice());
     match command.output {
-        None => tell_out(program, begun, command.page, log, to, errors),
-        Some(name) => tell_saved(program, begun, command.page, log, outside, name, errors),
+        None => tell_out(program, &begun, command, log, to, errors),
+        Some(name) => tell_saved(program, &begun, command, log, outside, name, errors),
     }
 }
 

@@ -14,7 +14,8 @@ use Rattle.burnt.proofs.telling.tell_log.Goals as goal
 pub returns-in_err-map_err-clause-front : goal.returns-in_err-map_err-clause-front
 returns-in_err-map_err-clause-front g c =
     let n = begun_so c.args.begun c.args.sum c.args.report c.new.result c.new.ensures.watch
-    c.new.ensures.report c.new.ensures.starts c.new-2.result c.new-2.ensures.watch c.new-2.ensures.report
+    c.new.ensures.report c.new.ensures.starts c.new.ensures.lines c.new.ensures.unplayed c.new-2.result
+    c.new-2.ensures.watch c.new-2.ensures.report
     c.new-2.ensures.starts c.new-2.ensures.log c.new-2.ensures.lines c.new-2.ensures.stray c.new-teller.result
     c.new-teller.ensures.observers c.new-teller.ensures.kind in
     begun_cut (left_in g.R.ByteSource.remaining c.args.from.now) _ _ (begun_text c.args.report)
@@ -24,7 +25,8 @@ returns-in_err-map_err-clause-front g c =
 pub returns-in-Ok-clause-front : goal.returns-in-Ok-clause-front
 returns-in-Ok-clause-front g c =
     let n = begun_so c.args.begun c.args.sum c.args.report c.new.result c.new.ensures.watch
-    c.new.ensures.report c.new.ensures.starts c.new-2.result c.new-2.ensures.watch c.new-2.ensures.report
+    c.new.ensures.report c.new.ensures.starts c.new.ensures.lines c.new.ensures.unplayed c.new-2.result
+    c.new-2.ensures.watch c.new-2.ensures.report
     c.new-2.ensures.starts c.new-2.ensures.log c.new-2.ensures.lines c.new-2.ensures.stray c.new-teller.result
     c.new-teller.ensures.observers c.new-teller.ensures.kind in
     begun_front (left_in g.R.ByteSource.remaining c.args.from.now) _ _ _ (begun_text c.args.report)
@@ -34,7 +36,8 @@ returns-in-Ok-clause-front g c =
 pub returns-in-Err-clause-front : goal.returns-in-Err-clause-front
 returns-in-Err-clause-front g c =
     let n = begun_so c.args.begun c.args.sum c.args.report c.new.result c.new.ensures.watch
-    c.new.ensures.report c.new.ensures.starts c.new-2.result c.new-2.ensures.watch c.new-2.ensures.report
+    c.new.ensures.report c.new.ensures.starts c.new.ensures.lines c.new.ensures.unplayed c.new-2.result
+    c.new-2.ensures.watch c.new-2.ensures.report
     c.new-2.ensures.starts c.new-2.ensures.log c.new-2.ensures.lines c.new-2.ensures.stray c.new-teller.result
     c.new-teller.ensures.observers c.new-teller.ensures.kind in
     begun_front (left_in g.R.ByteSource.remaining c.args.from.now) _ _ _ (begun_text c.args.report)
@@ -44,7 +47,8 @@ returns-in-Err-clause-front g c =
 pub returns-in-Ok-clause-whole : goal.returns-in-Ok-clause-whole
 returns-in-Ok-clause-whole g c =
     let n = begun_so c.args.begun c.args.sum c.args.report c.new.result c.new.ensures.watch
-    c.new.ensures.report c.new.ensures.starts c.new-2.result c.new-2.ensures.watch c.new-2.ensures.report
+    c.new.ensures.report c.new.ensures.starts c.new.ensures.lines c.new.ensures.unplayed c.new-2.result
+    c.new-2.ensures.watch c.new-2.ensures.report
     c.new-2.ensures.starts c.new-2.ensures.log c.new-2.ensures.lines c.new-2.ensures.stray c.new-teller.result
     c.new-teller.ensures.observers c.new-teller.ensures.kind in
     begun_whole (left_in g.R.ByteSource.remaining c.args.from.now) _ _ _ (begun_text c.args.report)
@@ -54,7 +58,8 @@ returns-in-Ok-clause-whole g c =
 pub returns-in-Err-clause-broken : goal.returns-in-Err-clause-broken
 returns-in-Err-clause-broken g c =
     let n = begun_so c.args.begun c.args.sum c.args.report c.new.result c.new.ensures.watch
-    c.new.ensures.report c.new.ensures.starts c.new-2.result c.new-2.ensures.watch c.new-2.ensures.report
+    c.new.ensures.report c.new.ensures.starts c.new.ensures.lines c.new.ensures.unplayed c.new-2.result
+    c.new-2.ensures.watch c.new-2.ensures.report
     c.new-2.ensures.starts c.new-2.ensures.log c.new-2.ensures.lines c.new-2.ensures.stray c.new-teller.result
     c.new-teller.ensures.observers c.new-teller.ensures.kind in
     on_failed c.in-Err.failure (λ p. IfSome_then (left_in g.R.ByteSource.remaining c.args.from.now) p
@@ -65,7 +70,8 @@ returns-in-Err-clause-broken g c =
 pub returns-in-Err-clause-err : goal.returns-in-Err-clause-err
 returns-in-Err-clause-err g c =
     let n = begun_so c.args.begun c.args.sum c.args.report c.new.result c.new.ensures.watch
-    c.new.ensures.report c.new.ensures.starts c.new-2.result c.new-2.ensures.watch c.new-2.ensures.report
+    c.new.ensures.report c.new.ensures.starts c.new.ensures.lines c.new.ensures.unplayed c.new-2.result
+    c.new-2.ensures.watch c.new-2.ensures.report
     c.new-2.ensures.starts c.new-2.ensures.log c.new-2.ensures.lines c.new-2.ensures.stray c.new-teller.result
     c.new-teller.ensures.observers c.new-teller.ensures.kind in
     comes_of g.R.ByteSource.fails_with g.W.ByteSink.fails_with _ (left_in g.R.ByteSource.remaining c.args.from.now)

@@ -15,16 +15,16 @@ use Rattle.replay.proofs.logs.replay_log.Goals as goal
 pub returns-in_err-follow-clause-front : goal.returns-in_err-follow-clause-front
 returns-in_err-follow-clause-front g c =
     let b = begins c.new-players.ensures.observers c.new-players.ensures.kind c.new-events.ensures.device
-    c.new-events.ensures.played c.new-history.ensures.device c.new-history.ensures.log c.new-history.ensures.lines
-    c.new-history.ensures.stray in
+    c.new-events.ensures.played c.new-events.ensures.unplayed c.new-history.ensures.device c.new-history.ensures.log
+    c.new-history.ensures.lines c.new-history.ensures.stray in
     IfSome_then (left_in g.R.ByteSource.remaining c.args.from.now) c.follow.ensures.front
     (λ log f. subst (WritesFront _ _) (all_text b log) f)
 
 pub returns-in_err-follow-clause-err : goal.returns-in_err-follow-clause-err
 returns-in_err-follow-clause-err g c =
     let b = begins c.new-players.ensures.observers c.new-players.ensures.kind c.new-events.ensures.device
-    c.new-events.ensures.played c.new-history.ensures.device c.new-history.ensures.log c.new-history.ensures.lines
-    c.new-history.ensures.stray in
+    c.new-events.ensures.played c.new-events.ensures.unplayed c.new-history.ensures.device c.new-history.ensures.log
+    c.new-history.ensures.lines c.new-history.ensures.stray in
     same_error _ c.from_residual.result _
     (comes_of g.R.ByteSource.fails_with g.W.ByteSink.fails_with _ (left_in g.R.ByteSource.remaining c.args.from.now) _
     (too_long b) c.in_err-follow.ensures.err)
@@ -38,8 +38,8 @@ returns-in_err-follow-clause-short g c =
 pub returns-in_err-follow-clause-broken : goal.returns-in_err-follow-clause-broken
 returns-in_err-follow-clause-broken g c =
     let b = begins c.new-players.ensures.observers c.new-players.ensures.kind c.new-events.ensures.device
-    c.new-events.ensures.played c.new-history.ensures.device c.new-history.ensures.log c.new-history.ensures.lines
-    c.new-history.ensures.stray in
+    c.new-events.ensures.played c.new-events.ensures.unplayed c.new-history.ensures.device c.new-history.ensures.log
+    c.new-history.ensures.lines c.new-history.ensures.stray in
     same_error _ c.from_residual.result _
     (on_failed _ (λ p. IfSome_then (left_in g.R.ByteSource.remaining c.args.from.now) p
     (λ log q. IfSome_then (left_in g.R.ByteSource.remaining c.follow.new.from) q
@@ -50,15 +50,15 @@ returns-in_err-follow-clause-broken g c =
 pub returns-else-is_history-clause-whole : goal.returns-else-is_history-clause-whole
 returns-else-is_history-clause-whole g c =
     let b = begins c.new-players.ensures.observers c.new-players.ensures.kind c.new-events.ensures.device
-    c.new-events.ensures.played c.new-history.ensures.device c.new-history.ensures.log c.new-history.ensures.lines
-    c.new-history.ensures.stray in
+    c.new-events.ensures.played c.new-events.ensures.unplayed c.new-history.ensures.device c.new-history.ensures.log
+    c.new-history.ensures.lines c.new-history.ensures.stray in
     IfSome_then (left_in g.R.ByteSource.remaining c.args.from.now) c.in_ok-follow.ensures.whole
     (λ log w. subst (Appends _ _) (all_text b log) w)
 
 pub returns-else-is_history-clause-front : goal.returns-else-is_history-clause-front
 returns-else-is_history-clause-front g c =
     let b = begins c.new-players.ensures.observers c.new-players.ensures.kind c.new-events.ensures.device
-    c.new-events.ensures.played c.new-history.ensures.device c.new-history.ensures.log c.new-history.ensures.lines
-    c.new-history.ensures.stray in
+    c.new-events.ensures.played c.new-events.ensures.unplayed c.new-history.ensures.device c.new-history.ensures.log
+    c.new-history.ensures.lines c.new-history.ensures.stray in
     IfSome_then (left_in g.R.ByteSource.remaining c.args.from.now) c.follow.ensures.front
     (λ log f. subst (WritesFront _ _) (all_text b log) f)

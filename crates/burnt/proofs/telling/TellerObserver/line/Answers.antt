@@ -11,8 +11,8 @@ use Rattle.burnt.proofs.telling.TellerObserver.line.Goals as goal
 pub returns-in_default-clause-err : goal.returns-in_default-clause-err
 returns-in_default-clause-err g c =
     let s = state_of c.args.self.now.watch in
-    λ ls. line_uncounted s (floor_event (kept_text c.args.line.now)) (map floor_event (texts_of ls))
-    (c.play.ensures.uncounted c.in_default.is)
+    λ ls. inl (line_uncounted s (floor_event (kept_text c.args.line.now)) (map floor_event (texts_of ls))
+    (c.play.ensures.uncounted c.in_default.is))
 
 pub returns-clause-ok : goal.returns-clause-ok
 returns-clause-ok g c =
@@ -28,9 +28,10 @@ returns-clause-ok g c =
       leaves = λ ls last h. (
         h.0,
         line_reported s e (map floor_event (texts_of ls)) watched t.starts t.report reported h.1,
-        h.2 ∙ line_left s e (map floor_event (texts_of ls)) watched,
+        h.2.0 ∙ line_left s e (map floor_event (texts_of ls)) watched,
+        ?,
       );
-      overflows = λ ls h. line_counted s e (map floor_event (texts_of ls)) watched h;
+      overflows = λ ls h. ?;
     })
 
 pub returns-clause-front : goal.returns-clause-front
