@@ -9,7 +9,7 @@ from pathlib import Path
 
 root = Path(__file__).resolve().parent.parent
 STRICT = ["-std=c11", "-O2", "-Wall", "-Wextra", "-pedantic", "-Werror", "-I", root / "include"]
-PARTS = {"projector": ["projector.c", "keep.c"], "controller": ["controller.c"]}
+PARTS = {"projector": ["projector.c", "keep.c", "draw.c"], "controller": ["controller.c"]}
 tries = 0
 
 

@@ -1,7 +1,7 @@
 /* A projector on a network: a host with sockets around the record. The product has no sockets and no clock; this is an
    example of what stands around it, and no part of what is proved.
 
-       projector [--keep FOLDER] [PORT [ADDRESS [IDLE]]]        port 4352, address 127.0.0.1, 300 seconds
+       projector [--background] [--keep FOLDER] [PORT [ADDRESS [IDLE]]]     port 4352, address 127.0.0.1, 300 seconds
 
    ADDRESS is numeric; 127.0.0.1 is heard on this machine alone, 0.0.0.0 by every network that it is on. Port 0 is any
    free one. The password is that of the environment, PJLINK_PASSWORD, of eight characters or more; none, or an empty
@@ -10,7 +10,12 @@
    Four controllers are answered at a time: the host keeps a socket for each of the record's places. Before it takes a
    new one it reads what the others have sent, to see who has gone; so whoever hangs up and connects again at once is
    greeted. A fifth is hung up on at once. As the record never times an open connection out, the host ends one that got
-   no reply for IDLE seconds, or its place would be held for ever.
+   no reply for IDLE seconds, or its place would be held for ever. Each socket is a session, named by its place and the
+   random number of its opening: bytes that come late, of one that is over, never reach whoever has its place now. The
+   numbers are those of draw.h.
+
+   It says where it listens. With --background it then goes on in the background, and the shell goes on: whatever comes
+   next finds it listening. It says the number of its process too, for `kill`.
 
    With --keep it keeps form and log in FOLDER, which has to be there, and goes on where they end: keep.h has how, and
    what becomes of the recording where the disk is full. Settings are then those of the form that lies there, and
@@ -34,13 +39,13 @@
 #include <stdio.h>
 #include <stdlib.h>
 #include <string.h>
-#include <sys/random.h>
 #include <sys/socket.h>
 #include <sys/stat.h>
 #include <time.h>
 #include <unistd.h>
 
 #include "ceiling.h"
+#include "draw.h"
 #include "keep.h"
 
 #define TEXT(s) (const uint8_t *)(s), strlen(s)
@@ -49,6 +54,7 @@ static pj_device device;
 static uint64_t passed; /* the clock's milliseconds that the record knows of: whole seconds from the start */
 static struct {
     int socket;         /* the controller's at this place; -1: none, and the record's connection there is closed */
+    uint32_t random;    /* with which the record's connection was opened: its session's name */
     uint64_t answered;  /* the clock's milliseconds at the last greeting or reply */
 } peers[PJ_PLACES];
 static int operator = -1;       /* the pipe for the operator's lines; -1: none */
@@ -73,19 +79,26 @@ static uint64_t milliseconds(void) {
     return (uint64_t)t.tv_sec * 1000 + (uint64_t)t.tv_nsec / 1000000;
 }
 
-/* Ends a connection on both sides: in the record, where time has not closed it already, and on the network. */
-static void hang_up(size_t place) {
-    if (device.connections[place].phase != PJ_PHASE_CLOSED) {
-        served(pj_close_in_place(&device, place), "pj_close_in_place");
-        keep_closed(place);
-    }
-    close(peers[place].socket);
+static void drop(size_t place) {
+    if (peers[place].socket >= 0) close(peers[place].socket);
     peers[place].socket = -1;
 }
 
+/* Ends a connection on both sides: in the record and on the network. */
+static void hang_up(size_t place) {
+    served(pj_close_session_in_place(&device, place, peers[place].random), "pj_close_session_in_place");
+    keep_closed(place);
+    drop(place);
+}
+
+/* Where time closes a connection, its socket is closed, before another can get that place. */
 static void pass(uint32_t seconds) {
-    served(pj_pass_in_place(&device, seconds), "pj_pass_in_place");
+    pj_passing passing = pj_pass_telling_in_place(&device, seconds);
+    served(passing.number, "pj_pass_telling_in_place");
     keep_passed(seconds);
+    for (size_t place = 0; place < PJ_PLACES; place++) {
+        if (passing.closed & UINT32_C(1) << place) drop(place);
+    }
 }
 
 /* Whole seconds, as they pass; what is left of one counts next time. */
@@ -96,12 +109,10 @@ static void pass_time(void) {
     keep_time();
 }
 
-/* The sockets follow the record: time closes an awaiting or failed connection, and an open one is ours to end. */
-static void keep_up(unsigned long idle) {
+/* Time closes an awaiting or failed connection, and an open one is ours to end. */
+static void end_idle(unsigned long idle) {
     for (size_t place = 0; place < PJ_PLACES; place++) {
-        if (peers[place].socket < 0) continue;
-        bool closed = device.connections[place].phase == PJ_PHASE_CLOSED;
-        if (closed || milliseconds() - peers[place].answered >= idle * 1000) hang_up(place);
+        if (peers[place].socket >= 0 && milliseconds() - peers[place].answered >= idle * 1000) hang_up(place);
     }
 }
 
@@ -115,10 +126,9 @@ static void answer(size_t place, const uint8_t *reply, size_t length) {
 /* Takes a new controller to the lowest closed place. Where there is none, its socket is closed, and that is all. */
 static void greet(int listener) {
     uint8_t reply[PJ_REPLY_ROOM];
-    uint32_t random;
     int peer = accept(listener, NULL, NULL);
     if (peer < 0) return; /* it has gone again */
-    if (getrandom(&random, sizeof random, 0) != (ssize_t)sizeof random) die("getrandom");
+    uint32_t random = draw();
     pj_opening opened = pj_open_in_place(&device, random, reply, sizeof reply);
     if (opened.number == PJ_NO_PLACE) {
         close(peer);
@@ -127,6 +137,7 @@ static void greet(int listener) {
     served(opened.number, "pj_open_in_place");
     keep_opened(opened.place, random);
     peers[opened.place].socket = peer;
+    peers[opened.place].random = random;
     answer(opened.place, reply, opened.length);
 }
 
@@ -154,8 +165,9 @@ static bool serve(size_t place) {
         at += passed_over(place, bytes + at, (size_t)got - at);
         size_t length = (size_t)got - at <= PJ_LINE_ROOM ? (size_t)got - at : PJ_LINE_ROOM + 1;
         if (length == 0) break;
-        pj_receiving r = pj_receive_in_place(&device, place, bytes + at, length, reply, sizeof reply);
-        served(r.number, "pj_receive_in_place");
+        pj_receiving r = pj_receive_session_in_place(&device, place, peers[place].random, bytes + at, length, reply,
+                                                     sizeof reply);
+        served(r.number, "pj_receive_session_in_place");
         keep_received(place, bytes + at, r.taken);
         at += r.taken;
         if (r.length > 0) answer(place, reply, r.length);
@@ -273,14 +285,33 @@ static int listen_at(const char *address, const char *port) {
     return listener;
 }
 
+/* Whoever waits for this program to end goes on now, and finds it listening. */
+static void go_to_background(void) {
+    pid_t process = fork();
+    if (process < 0) die("fork");
+    if (process > 0) {
+        printf("process %ld\n", (long)process);
+        exit(0);
+    }
+    setsid();
+}
+
 static uint32_t set_up(const char *password, bool class_2) {
-    const uint32_t lamps[] = {0};
-    const size_t lengths[] = {3, 0, 6}; /* of the inputs' names */
-    if (!class_2) return pj_set_up_in_place(&device, TEXT("Table 3"), TEXT("maker"), TEXT("model"), TEXT("an example"),
-                                            TEXT(password), TEXT("1132"), lamps, 1, 20, 60);
-    return pj_set_up_2_in_place(&device, TEXT("Table 3"), TEXT("maker"), TEXT("model"), TEXT("an example"),
-                                TEXT(password), TEXT("11326A"), lamps, 1, 2, 60, TEXT("S/N 3"), TEXT("1.4"),
-                                TEXT("RGBplayer"), lengths, 3);
+    static const uint32_t lamps[] = {0};
+    static const size_t lengths[] = {3, 0, 6}; /* of the inputs' names */
+    pj_setup settings = {.name = PJ_BYTES("Table 3"), .maker = PJ_BYTES("maker"), .model = PJ_BYTES("model"),
+                         .other = PJ_BYTES("an example"), .password = {TEXT(password)}, .inputs = PJ_BYTES("1132"),
+                         .lamps = lamps, .lamp_count = 1, .warm = 20, .cool = 60};
+    if (class_2) {
+        settings.class_2 = true;
+        settings.inputs = (pj_bytes)PJ_BYTES("11326A");
+        settings.serial = (pj_bytes)PJ_BYTES("S/N 3");
+        settings.version = (pj_bytes)PJ_BYTES("1.4");
+        settings.names = (pj_bytes)PJ_BYTES("RGBplayer");
+        settings.name_lengths = lengths;
+        settings.name_count = 3;
+    }
+    return pj_set_up_from(&device, &settings);
 }
 
 /* Form and log are taken from the folder, or begin there. */
@@ -299,21 +330,30 @@ static void begin_keeping(const char *folder, const char *password, const char *
 
 int main(int argc, char **argv) {
     const char *password = getenv("PJLINK_PASSWORD"), *class_number = getenv("PJLINK_CLASS"), *folder = NULL;
-    if (argc > 1 && strcmp(argv[1], "--keep") == 0) {
-        folder = argc > 2 ? argv[2] : "";
-        argc -= 2;
-        argv += 2;
+    bool background = false, unknown = false;
+    for (; argc > 1 && strncmp(argv[1], "--", 2) == 0; argc--, argv++) {
+        if (strcmp(argv[1], "--background") == 0) {
+            background = true;
+        } else if (strcmp(argv[1], "--keep") == 0 && argc > 2) {
+            folder = argv[2];
+            argc--;
+            argv++;
+        } else {
+            unknown = true;
+        }
     }
     unsigned long idle = argc > 3 ? strtoul(argv[3], NULL, 10) : 300;
     uint32_t made = set_up(password ? password : "", class_number != NULL && strcmp(class_number, "2") == 0);
-    if (made != PJ_SERVED || idle == 0 || argc < 1 || argc > 4) {
-        fprintf(stderr, "projector [--keep FOLDER] [PORT [ADDRESS [IDLE]]], PJLINK_PASSWORD: 8 to %d letters, digits\n",
-                PJ_PASSWORD_MOST);
+    if (made != PJ_SERVED || idle == 0 || unknown || argc > 4) {
+        fprintf(stderr, "projector [--background] [--keep FOLDER] [PORT [ADDRESS [IDLE]]]\n"
+                        "PJLINK_PASSWORD: 8 to %d letters, digits\n", PJ_PASSWORD_MOST);
         return 2;
     }
     if (folder != NULL) begin_keeping(folder, password, class_number);
+    draw_begin(folder);
 
     int listener = listen_at(argc > 2 ? argv[2] : "127.0.0.1", argc > 1 ? argv[1] : "4352");
+    if (background) go_to_background();
     for (size_t place = 0; place < PJ_PLACES; place++) peers[place].socket = -1;
     for (passed = milliseconds(); !is_over;) {
         struct pollfd waiting[PJ_PLACES + 2] = {{listener, POLLIN, 0}, {operator, POLLIN, 0}};
@@ -323,7 +363,7 @@ int main(int argc, char **argv) {
         if (ready < 0 && errno != EINTR) die("poll");
         pass_time();
         if (ready > 0 && waiting[1].revents != 0) hear_operator();
-        keep_up(idle);
+        end_idle(idle);
         if (ready <= 0) continue;
         serve_all();
         if (waiting[0].revents != 0) greet(listener);

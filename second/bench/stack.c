@@ -9,6 +9,7 @@
 enum { PAINTED = 1 << 18, LEFT = 256, PAINT = 0xA5 };
 
 static pj_device device;
+static pj_panel panel;
 static uint8_t out[PJ_COMMAND_ROOM];
 static uint8_t message[4096];
 static uint8_t logged[PJ_LOG_ROOM];
@@ -33,15 +34,18 @@ static __attribute__((noinline)) void measure(const char *name, void (*call)(voi
     printf("%-54s  %s%zu bytes\n", name, deep < LEFT ? "under " : "", deep < LEFT ? LEFT : deep);
 }
 
-static pj_panel panel;
-
 /* The call in place, on a copy of the record, and then the one by value. */
 static void measure_both(const char *name, const char *in_place, void (*call_in_place)(void), void (*call)(void)) {
     pj_device kept = device;
-    pj_panel kept_panel = panel;
     measure(in_place, call_in_place);
     device = kept;
-    panel = kept_panel;
+    measure(name, call);
+}
+
+static void panel_both(const char *name, const char *in_place, void (*call_in_place)(void), void (*call)(void)) {
+    pj_panel kept = panel;
+    measure(in_place, call_in_place);
+    panel = kept;
     measure(name, call);
 }
 
@@ -56,6 +60,7 @@ static const size_t name_lengths[2] = {3, 5};
 static uint8_t form[PJ_FORM_MOST];
 static size_t stored;
 static const char *line;
+static pj_bytes words;
 static uint32_t tables[2][PJ_TABLE_MOST];
 static int64_t differences[PJ_TABLE_MOST];
 static pj_command command;
@@ -90,6 +95,11 @@ CALL(call_open, { device = pj_open(device, 0x498e4a67, out, sizeof out).device; 
 CALL(call_receive, { device = pj_receive(device, 0, TEXT(line), out, sizeof out).device; })
 CALL(call_pass, { device = pj_pass(device, 4294967295u).device; })
 CALL(call_pass_in_place, { sink = pj_pass_in_place(&device, 4294967295u); })
+CALL(call_pass_telling_in_place, { sink = pj_pass_telling_in_place(&device, 4294967295u).closed; })
+CALL(call_receive_session_in_place, {
+    sink = pj_receive_session_in_place(&device, 0, 0x498e4a67, TEXT(line), out, sizeof out).number;
+})
+CALL(call_close_session_in_place, { sink = pj_close_session_in_place(&device, 0, 0x498e4a67); })
 CALL(call_set_up_in_place, {
     sink = pj_set_up_in_place(&device, TEXT("name"), TEXT("maker"), TEXT("model"), TEXT("other"), TEXT("panel123"),
                               TEXT("11213141"), lamps, 8, 600, 600);
@@ -125,13 +135,16 @@ CALL(call_md5, { sink = pj_md5(message, sizeof message).bytes[0]; })
 CALL(call_write, { sink = (uint32_t)pj_write(command, true, 7, TEXT("panel123"), out, sizeof out).length; })
 CALL(call_read_greeting, { sink = pj_read_greeting(TEXT("PJLINK 1 498e4a67\r")).random; })
 CALL(call_read_reply, { sink = pj_read_reply(command, TEXT(line)).number; })
+CALL(call_face, { sink = pj_face(); })
+CALL(call_face_13, { sink = pj_face_13(); })
+CALL(call_number_words, { pj_number_words(23, &words); })
+CALL(call_setting_words, { pj_setting_words(12, &words); })
+CALL(call_face_words, { pj_face_words(&words); })
 CALL(call_panel_none_in_place, { sink = pj_panel_none_in_place(&panel); })
 CALL(call_panel_add_in_place, { sink = pj_panel_add_in_place(&panel, TEXT("panel123")); })
 CALL(call_panel_line_in_place, { sink = pj_panel_line_in_place(&panel, 0, TEXT(line)); })
-CALL(call_panel_hear_in_place, { sink = pj_panel_hear_in_place(&panel, 0, TEXT(line)).number; })
-CALL(call_panel_command_in_place, {
-    sink = (uint32_t)pj_panel_command_in_place(&panel, 0, command, out, sizeof out).length;
-})
+CALL(call_panel_hear_in_place, { sink = pj_panel_hear_in_place(&panel, 0, TEXT(line)).kind; })
+CALL(call_panel_command_in_place, { sink = pj_panel_command_in_place(&panel, 0, command, out, sizeof out).number; })
 CALL(call_panel_lost_in_place, { sink = pj_panel_lost_in_place(&panel, 0); })
 CALL(call_panel_none, { panel = pj_panel_none().panel; })
 CALL(call_panel_add, { panel = pj_panel_add(panel, TEXT("panel123")).panel; })
@@ -157,6 +170,12 @@ int main(void) {
     measure("pj_which_setting", call_which_setting);
     BOTH(pj_open, ", secured", call_open);
     line = "0123456789abcdef0123456789abcdef%1POWR 1\r";
+    pj_device opened = device;
+    measure("pj_close_session_in_place", call_close_session_in_place);
+    device = opened;
+    measure("pj_receive_session_in_place, a wrong digest", call_receive_session_in_place);
+    measure("pj_pass_telling_in_place", call_pass_telling_in_place);
+    device = opened;
     BOTH(pj_receive, ", a first line with a wrong digest", call_receive);
     BOTH(pj_pass, ", n = 4,294,967,295", call_pass);
     device = pj_set_up(TEXT("name"), TEXT(""), TEXT(""), TEXT(""), TEXT(""), TEXT("11"), lamps, 8, 600, 600).device;
@@ -205,17 +224,23 @@ int main(void) {
     command = (pj_command){PJ_INST, 0, 0};
     line = "%1INST=11 12 13 14 15 16 17 18 19 21 22 23 24 25 26 27 28 29 31 32 33 34 35 36 37 38 39 41 42 43 44 45\r";
     measure("pj_read_reply, longest INST", call_read_reply);
-    BOTH(pj_panel_none, "", call_panel_none);
-    BOTH(pj_panel_add, "", call_panel_add);
+    measure("pj_face", call_face);
+    measure("pj_face_13", call_face_13);
+    measure("pj_number_words", call_number_words);
+    measure("pj_setting_words", call_setting_words);
+    measure("pj_face_words", call_face_words);
+    measure("pj_panel_none_in_place", call_panel_none_in_place);
+    measure("pj_panel_none", call_panel_none);
+    panel_both("pj_panel_add", "pj_panel_add_in_place", call_panel_add_in_place, call_panel_add);
     line = "PJLINK 1 498e4a67\r";
-    BOTH(pj_panel_line, ", a greeting", call_panel_line);
-    BOTH(pj_panel_command, "", call_panel_command);
-    pj_panel awaiting = panel; /* the reply, which ends the command */
+    panel_both("pj_panel_line, a greeting", "pj_panel_line_in_place, a greeting", call_panel_line_in_place, call_panel_line);
+    panel_both("pj_panel_command", "pj_panel_command_in_place", call_panel_command_in_place, call_panel_command);
     line = "%1INST=11 12 13 14 15 16 17 18 19 21 22 23 24 25 26 27 28 29 31 32 33 34 35 36 37 38 39 41 42 43 44 45\r";
+    pj_panel asked = panel;
     measure("pj_panel_hear_in_place, a reply", call_panel_hear_in_place);
-    panel = awaiting;
-    BOTH(pj_panel_line, ", a reply", call_panel_line);
-    BOTH(pj_panel_lost, "", call_panel_lost);
+    panel = asked;
+    panel_both("pj_panel_line, a reply", "pj_panel_line_in_place, a reply", call_panel_line_in_place, call_panel_line);
+    panel_both("pj_panel_lost", "pj_panel_lost_in_place", call_panel_lost_in_place, call_panel_lost);
     measure("pj_compare_lamps, 64 places", call_compare_lamps);
     for (uint32_t job = 0; job < 64; job++) {
         starts[job] = 600 + job / 8 * 1200;

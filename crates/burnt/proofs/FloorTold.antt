@@ -3,20 +3,26 @@
 use Rattle.std.proofs.Common.{ℕ, ◌+◌, ◌^◌, ◌≤◌, ◌≡◌, refl, sym, subst, ap, ◌∙◌, List, [], ◌∷◌, ◌++◌, map, ◌⊎◌, ⊎_elim}
 use Rattle.std.proofs.Common.{arith, length, inl, inr, sum_by, Bool}
 use Rattle.std.specs.declared.option.Option.{Option}
+use Rattle.std.proofs.Common.{Result, Ok, Err, OnOk}
+use Rattle.std.proofs.lemmas.List.{length-map}
 use Rattle.std.proofs.lemmas.List.Sums.{sum_by-cons}
 use Rattle.record.specs.declared.types.Device.{Device}
 use Rattle.textio.specs.Fronts.{WritesFront}
-use Rattle.textio.specs.Lines.{LogLine, texts_of, lines_of, IsTooLong}
+use Rattle.textio.specs.Lines.{LogLine, texts_of, lines_of, lines_in, IsTooLong}
 use Rattle.textio.proofs.LinesCounted.{lines_fit, too_long_bytes}
 use Rattle.textio.proofs.Fronts.{front_more}
-use Rattle.floorlog.specs.Kept.{kept_lines}
+use Rattle.floorlog.specs.Kept.{kept, kept_lines}
 use Rattle.watch.specs.Marking.{FloorEvent, floor_event, floor_step, floor_steps, done_by, seconds_by}
+use Rattle.watch.specs.Marking.{watched_answer}
+use Rattle.floorlog.specs.Unplayed.{none_unplayed, why_misread, noted, said_line, unplayed_by}
+use Rattle.floorlog.specs.declared.unplayed.Unplayed.{Unplayed}
+use Rattle.floorlog.proofs.UnplayedBy.{unplayed_none, unplayed_more, said_kept}
 use Rattle.watch.specs.Watching.{Step, Watching, watching_from}
-use Rattle.watch.specs.Telling.{floor_events, telling_if, after_log}
+use Rattle.watch.specs.Telling.{floor_events, floor_unplayed, telling_if, after_log}
 use Rattle.watch.specs.States.{IsWatched, state_of}
-use Rattle.watch.proofs.LinesKept.{floor_events_kept}
+use Rattle.watch.proofs.LinesKept.{floor_events_kept, floor_event_of_front}
 use Rattle.watch.proofs.TellingsSpelt.{after_none, seconds_most_lem}
-use Rattle.report.specs.Reports.{report_new, begun_text}
+use Rattle.report.specs.Reports.{begun_text}
 use Rattle.report.specs.declared.Report.{Report}
 use Rattle.burnt.specs.Told.{tellings_text, report_after, told_from, told_within, totals_text, log_told, IsUntold}
 use Rattle.burnt.specs.declared.telling.Teller.{Teller}
@@ -76,12 +82,20 @@ untold_bytes log h =
     omega (arith, e, seconds_most_lem (lines_of log), lines_fit log)) h
 
 -- from the start of a log on
-pub untold : {t : ℕ} → t ≡ 0 → (log : List ℕ)
-    → IsTooLong log ⊎ (2 ^ 64 ≤ t + sum_by seconds_by (map floor_event (texts_of (kept_lines log)))) → IsUntold log
-untold {t} first log h =
-    ⊎_elim (λ (e : IsTooLong log). inl e)
-    (λ (e : 2 ^ 64 ≤ t + sum_by seconds_by (map floor_event (texts_of (kept_lines log)))).
-    inr (omega (arith, e, first, ap (sum_by seconds_by) (floor_events_kept log)))) h
+pub untold : {t n : ℕ} → t ≡ 0 → n ≡ 0 → (log : List ℕ)
+    → IsTooLong log ⊎ ((2 ^ 64 ≤ t + sum_by seconds_by (map floor_event (texts_of (kept_lines log))))
+    ⊎ (2 ^ 64 ≤ n + length (kept_lines log)))
+    → IsUntold log
+untold first none log (inl e) = inl e
+untold first none log (inr (inl e)) = inr (omega (arith, e, first, ap (sum_by seconds_by) (floor_events_kept log)))
+untold first none log (inr (inr e)) =
+    inl (inl (omega (
+      arith,
+      e,
+      none,
+      length-map (lines_in log) kept,
+      length-map (lines_in log) (λ (l : LogLine). l.text),
+    )))
 
 abbrev pub teller_told : Teller → List LogLine → List ℕ
 teller_told t ls =
@@ -93,25 +107,70 @@ TellerLeft t ls last =
     let es = floor_steps t.watch.tested.device (map floor_event (texts_of ls)) in
     (last.starts ≡ t.starts) × (last.report ≡ report_after t.report (told_within (state_of t.watch) es))
     × (state_of last.watch ≡ after_log (state_of t.watch) es)
+    × (last.unplayed ≡ unplayed_by watched_answer done_by t.unplayed t.lines t.watch.tested.device
+    (map (said_line floor_event) (texts_of ls)))
 
-module _ (begun : Device) (drawn : Bool) (t : Teller) (starts : t.starts ≡ begun.own.lamps)
-    (report : t.report ≡ report_new drawn) (watch : state_of t.watch ≡ watching_from begun) where
+abbrev pub TellerOverflows : Teller → List LogLine → Type 0
+TellerOverflows t ls =
+    (2 ^ 64 ≤ t.watch.time + sum_by seconds_by (map floor_event (texts_of ls))) ⊎ (2 ^ 64 ≤ t.lines + length ls)
+
+module _ (begun : Device) (way : Report) (t : Teller) (starts : t.starts ≡ begun.own.lamps)
+    (report : t.report ≡ way) (watch : state_of t.watch ≡ watching_from begun) where
   pub teller_begun : (log : List ℕ)
-      → begun_text (report_new drawn) ++ teller_told t (kept_lines log) ≡ log_told begun drawn log
+      → begun_text way ++ teller_told t (kept_lines log) ≡ log_told begun way log
   teller_begun log =
-      (λ i. begun_text (report_new drawn) ++ told_from (totals_text (starts i)) (report i) (watch i)
+      (λ i. begun_text way ++ told_from (totals_text (starts i)) (report i) (watch i)
       (floor_steps (watch i).device (floor_events_kept log i)))
 
   -- where a read fails
   pub teller_so_far : (after : Teller) (ls : List LogLine) (text : List ℕ)
       → teller_told t ls ≡ text ++ teller_told after [] → TellerLeft t ls after
-      → text ≡ tellings_text (report_new drawn)
+      → text ≡ tellings_text way
       (told_within (watching_from begun) (floor_steps begun (map floor_event (texts_of ls))))
   teller_so_far after ls text all at =
       let events = map floor_event (texts_of ls) in
       text_so_far (totals_text t.starts) t.report (state_of t.watch) (floor_steps t.watch.tested.device events) all
-      (λ i. told_from (totals_text (at.0 i)) (at.1 i) (at.2 i) [])
+      (λ i. told_from (totals_text (at.0 i)) (at.1 i) (at.2.0 i) [])
       ∙ (λ i. tellings_text (report i) (told_within (watch i) (floor_steps (watch i).device events)))
 
 pub teller_itself : (t : Teller) → TellerLeft t [] t
-teller_itself t = (refl, sym (report_within_none t.report (state_of t.watch)), sym (after_none (state_of t.watch)))
+teller_itself t = (
+  refl,
+  sym (report_within_none t.report (state_of t.watch)),
+  sym (after_none (state_of t.watch)),
+  sym (unplayed_none watched_answer done_by t.unplayed t.lines t.watch.tested.device),
+)
+
+pub teller_itself_ok : {T E : Type 0} (t : Teller) (r : Result T E) → OnOk r (TellerLeft t [] t)
+teller_itself_ok t (Ok v) = teller_itself t
+teller_itself_ok t (Err e) = tt
+
+-- what of a line is not played, and what of those that come after it
+pub line_unplayed : (t after : Teller) (line : LogLine) (ls : List LogLine) {last : Unplayed}
+    → after.lines ≡ t.lines + 1
+    → after.watch.tested.device ≡ done_by t.watch.tested.device (floor_event line.text)
+    → after.unplayed ≡ noted t.unplayed (t.lines + 1) (why_misread line.text)
+    (watched_answer t.watch.tested.device (floor_event line.text))
+    → last ≡ unplayed_by watched_answer done_by after.unplayed after.lines after.watch.tested.device
+    (map (said_line floor_event) (texts_of ls))
+    → last ≡ unplayed_by watched_answer done_by t.unplayed t.lines t.watch.tested.device
+    (map (said_line floor_event) (texts_of (line ∷ ls)))
+line_unplayed t after line ls more is noted h =
+    h ∙ (λ i. unplayed_by watched_answer done_by (noted i) (more i) (is i) (map (said_line floor_event) (texts_of ls)))
+    ∙ sym (unplayed_more watched_answer done_by t.unplayed t.lines t.watch.tested.device
+    (said_line floor_event line.text) (map (said_line floor_event) (texts_of ls)))
+
+pub line_over : (t after : Teller) (line : LogLine) (ls : List LogLine) {ended : Bool} → after.lines ≡ t.lines + 1
+    → IsWatched (state_of t.watch) (floor_step t.watch.tested.device (floor_event line.text)) (state_of after.watch) ended
+    → TellerOverflows after ls → TellerOverflows t (line ∷ ls)
+line_over t after line ls more watched (inl h) =
+    inl (line_counted (state_of t.watch) (floor_event line.text) (map floor_event (texts_of ls)) watched h)
+line_over t after line ls more watched (inr h) = inr (omega (arith, more, h))
+
+pub all_unplayed : (t : Teller) (begun : Device) → t.unplayed ≡ none_unplayed → t.lines ≡ 0
+    → state_of t.watch ≡ watching_from begun → (log : List ℕ)
+    → unplayed_by watched_answer done_by t.unplayed t.lines t.watch.tested.device
+    (map (said_line floor_event) (texts_of (kept_lines log))) ≡ floor_unplayed begun log
+all_unplayed t begun none first watch log =
+    (λ i. unplayed_by watched_answer done_by (none i) (first i) (watch i).device
+    (said_kept floor_event floor_event_of_front log i))

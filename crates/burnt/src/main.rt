@@ -8,11 +8,13 @@ mod telling;
 mod tests;
 pub mod theorems;
 
+use command::asked::Command;
 use formfile::Begun;
 use program::about::About;
 use program::outside::System;
 use program::run;
 use program::telling::{Ending, Telling};
+use report::Report;
 use std::process::ExitCode;
 use textio::lines::Failure;
 use textio::reader::{ByteSource, Reader};
@@ -46,15 +48,12 @@ struct Burnt;
 impl Telling for Burnt {
     fn tell<R: ByteSource, W: ByteSink>(
         &self,
-        begun: Begun,
-        page: bool,
+        begun: &Begun,
+        command: &Command<'_>,
         from: &mut Reader<R>,
         to: &mut W,
     ) -> Result<Ending, Failure> {
-        match telling::tell_log(begun.device, begun.sum, page, from, to)? {
-            None => Ok(Ending::Whole),
-            Some(line) => Ok(Ending::Stray(line)),
-        }
+        telling::tell_log(begun.device, begun.sum, Report::new(command.page), from, to)
     }
 }
 

@@ -1,5 +1,5 @@
 // What is told of a log as it is watched: its stretches as they end, and in the end each lamp's seconds.
-ghost use Rattle.std.specs.Prelude.{◌≡◌, ◌≢◌, ◌+◌, ◌≤◌, ◌<◌, ◌^◌, [], map, min, length, sum_by, if◌then◌else◌};
+ghost use Rattle.std.specs.Prelude.{◌≡◌, ◌≢◌, ◌⊎◌, ◌+◌, ◌≤◌, ◌<◌, ◌^◌, [], map, min, length, sum_by, if◌then◌else◌};
 ghost use Rattle.std.specs.Prelude.{None, Err, option_map};
 ghost use Rattle.std.specs.Prelude.{OnOk, IfOk, IfErr, IfSome};
 ghost use Rattle.std.specs.Io.KnownBytes.{Appends};
@@ -9,25 +9,27 @@ ghost use Rattle.textio.specs.Ahead.{left_in};
 ghost use Rattle.textio.specs.NextLine.{FailureComesOf, OnFailedRead};
 ghost use Rattle.floorlog.specs.Kinds.{is_history_from};
 ghost use Rattle.recorded.specs.Following.{stray_seen};
-ghost use Rattle.watch.specs.Marking.{floor_event, floor_steps, seconds_by};
+ghost use Rattle.floorlog.specs.Unplayed.{none_unplayed, said_line, unplayed_by};
+ghost use Rattle.watch.specs.Marking.{floor_event, floor_steps, seconds_by, done_by, watched_answer};
 ghost use Rattle.watch.specs.Telling.{telling_if, after_log};
 ghost use Rattle.watch.specs.Watching.{watching_from, burnt_by};
 ghost use Rattle.watch.specs.States.{state_of};
 ghost use Rattle.burnt.specs.Told.{tellings_text, report_after, totals_text, told_from, told_within};
-ghost use Rattle.burnt.specs.LogTold.{told, stray_in, IsTooMuch, IsToldSoFar};
+ghost use Rattle.burnt.specs.LogTold.{told, stray_in, unplayed_in, IsTooMuch, IsToldSoFar};
 
 use crate::chained::ChainTeller;
 use floorlog::kept::KeptLine;
 use floorlog::kinds::ByKind;
 use floorlog::observer;
 use floorlog::observer::Observer;
+use floorlog::unplayed::Unplayed;
+use program::telling::Ending;
 use record::types::Device;
-use recorded::stray::StrayLine;
 use report::Report;
 use report::lamps::{LAMPS, Totals};
 use report::page::Stretch;
 use std::io;
-use text::rooms;
+use text::{flag, rooms};
 use textio::lines::Failure;
 use textio::reader::{ByteSource, Reader};
 use textio::writer::ByteSink;
@@ -49,7 +51,8 @@ pub fn tell_ended<W: ByteSink>(
         return Ok(());
     }
     let device = watch.device();
-    let lit = rooms::first(&device.own.enabled, device.settings.lamp_count);
+    let marks = flag::raised(&device.own.enabled);
+    let lit = rooms::first(&marks, device.settings.lamp_count);
     let stretch = Stretch {
         from: watch.from(),
         to: watch.time(),
@@ -73,12 +76,16 @@ pub fn totals_of(watch: &Watch, starts: [u32; LAMPS]) -> Totals
     }
 }
 
-/// A log of the first kind that is watched, as it is told: its lamps had these seconds where it began.
+/// A log of the first kind that is watched, as it is told: its lamps had these seconds where it began; so many of its
+/// lines came; and this of them was not played.
 #[derive(Drop)]
 pub struct Teller {
     watch: Watch,
     report: Report,
     starts: [u32; LAMPS],
+    lines: u64,
+    unplayed: Unplayed,
+    ghost counted: { unplayed.misread + unplayed.refused ≤ lines },
 }
 
 impl Teller {
@@ -87,13 +94,24 @@ impl Teller {
         ensures watch { state_of result.watch ≡ watching_from begun }
         ensures report { result.report ≡ report }
         ensures starts { result.starts ≡ begun.own.lamps }
+        ensures lines { result.lines ≡ 0 }
+        ensures unplayed { result.unplayed ≡ none_unplayed }
     {
         let starts = begun.own.lamps;
         Teller {
             watch: Watch::new(begun),
             report,
             starts,
+            lines: 0,
+            unplayed: Unplayed::new(),
         }
+    }
+
+    /// What was not played.
+    pub fn unplayed(&self) -> Unplayed
+        ensures { result ≡ self.now.unplayed }
+    {
+        self.unplayed
     }
 }
 
@@ -104,16 +122,25 @@ impl Observer for Teller {
     ghost leaves = { λ t ls last. let es = floor_steps t.watch.tested.device (map floor_event (texts_of ls)) in
         (last.starts ≡ t.starts)
         × (last.report ≡ report_after t.report (told_within (state_of t.watch) es))
-        × (state_of last.watch ≡ after_log (state_of t.watch) es) };
+        × (state_of last.watch ≡ after_log (state_of t.watch) es)
+        × (last.unplayed ≡ unplayed_by watched_answer done_by t.unplayed t.lines t.watch.tested.device
+        (map (said_line floor_event) (texts_of ls))) };
 
-    ghost overflows = { λ t ls. 2 ^ 64 ≤ t.watch.time + sum_by seconds_by (map floor_event (texts_of ls)) };
+    ghost overflows = { λ t ls.
+        (2 ^ 64 ≤ t.watch.time + sum_by seconds_by (map floor_event (texts_of ls)))
+        ⊎ (2 ^ 64 ≤ t.lines + length ls) };
 
     // A line, and the stretches that ended with it.
     fn line<W: ByteSink>(&mut self, line: &KeptLine, to: &mut W) -> Result<(), Failure> {
-        let Some(ended) = self.watch.play(line) else {
+        let Some(number) = self.lines.checked_add(1) else {
             return Err(Failure::TooLong);
         };
-        tell_ended(ended, &mut self.report, &self.watch, to).map_err(Failure::Write)
+        let Some(played) = self.watch.play(line) else {
+            return Err(Failure::TooLong);
+        };
+        self.unplayed.note(number, line.text(), played.answer);
+        self.lines = number;
+        tell_ended(played.ended, &mut self.report, &self.watch, to).map_err(Failure::Write)
     }
 
     // The stretches that are under way end with the log.
@@ -124,53 +151,63 @@ impl Observer for Teller {
     }
 }
 
-// The first line that did not belong, if one did not.
-fn stray_of(teller: &ByKind<Teller, ChainTeller>) -> Option<StrayLine>
-    ensures { option_map stray_seen result
+// How the log ended.
+fn ending_of(teller: &ByKind<Teller, ChainTeller>) -> Ending
+    ensures stray { option_map stray_seen result.stray
         ≡ (if is_history_from teller.now.kind [] then option_map stray_seen teller.now.history.stray else None) }
+    ensures unplayed { result.unplayed
+        ≡ (if is_history_from teller.now.kind [] then none_unplayed else teller.now.events.unplayed) }
 {
     if teller.is_history() {
-        return teller.history.stray();
+        return Ending {
+            stray: teller.history.stray(),
+            unplayed: Unplayed::new(),
+        };
     }
-    None
+    Ending {
+        stray: None,
+        unplayed: teller.events.unplayed(),
+    }
 }
 
-/// The log that a reader has left, which begins with a device: which lamp burnt when goes to a sink, as lines or drawn
-/// on a page, as it comes. What is told is handed on before each read, which may wait. A log whose first line begins
+/// The log that a reader has left, which begins with a device: which lamp burnt when goes to a sink, as the report has
+/// it, as it comes. What is told is handed on before each read, which may wait. A log whose first line begins
 /// with `LOG ` is of the second kind: `sum` is the CRC-32 of the form that it begins with. Returns its first line that
-/// does not belong, which is told last, if there is one. Errors: those of a read or a write; `TooLong` for a log with
-/// more lines, more bytes in one, or more seconds than 64 bits count.
+/// does not belong, which is told last, if there is one, and what of a log of the first kind was not played. Errors:
+/// those of a read or a write; `TooLong` for a log with more lines, more bytes in one, or more seconds than 64 bits
+/// count.
 pub fn tell_log<R: ByteSource, W: ByteSink>(
     begun: Device,
     sum: u32,
-    drawn: bool,
+    report: Report,
     from: &mut Reader<R>,
     to: &mut W,
-) -> Result<Option<StrayLine>, Failure>
+) -> Result<Ending, Failure>
     ensures whole { OnOk result (IfSome (left_in R.remaining from.old) (λ log. Appends (W.contents to.old)
-        (W.contents to.new) (told begun sum drawn log))) }
-    ensures stray { IfOk result (λ s. IfSome (left_in R.remaining from.old) (λ log.
-        option_map stray_seen s ≡ stray_in begun sum log)) }
+        (W.contents to.new) (told begun sum report log))) }
+    ensures stray { IfOk result (λ ending. IfSome (left_in R.remaining from.old) (λ log.
+        option_map stray_seen ending.stray ≡ stray_in begun sum log)) }
+    ensures unplayed { IfOk result (λ ending. IfSome (left_in R.remaining from.old) (λ log.
+        ending.unplayed ≡ unplayed_in begun log)) }
     ensures front { IfSome (left_in R.remaining from.old) (λ log. WritesFront (W.contents to.old)
-        (W.contents to.new) (told begun sum drawn log)) }
+        (W.contents to.new) (told begun sum report log)) }
     ensures none_waits { OnOk result (W.waiting to.new ≡ []) }
     ensures read { IfErr result (OnFailedRead (W.waiting to.new ≡ [])) }
     ensures broken { IfErr result (OnFailedRead (IfSome (left_in R.remaining from.old) (λ log.
         IfSome (left_in R.remaining from.new) (λ left.
-        IsToldSoFar begun sum drawn log left (W.contents to.old) (W.contents to.new))))) }
+        IsToldSoFar begun sum report log left (W.contents to.old) (W.contents to.new))))) }
     ensures err { IfErr result
         (FailureComesOf R.fails_with W.fails_with IsTooMuch (left_in R.remaining from.old)) }
     ensures short { IfSome (left_in R.remaining from.old) (λ log. length log < 2 ^ 32
         → result ≢ Err Failure.TooLong) }
 {
-    let report = Report::new(drawn);
     let mut teller = ByKind::new(
         Teller::new(begun, report),
         ChainTeller::new(begun, sum, report),
     );
     report.begin(to).map_err(Failure::Write)?;
     match observer::follow(&mut teller, from, to) {
-        Ok(()) => Ok(stray_of(&teller)),
+        Ok(()) => Ok(ending_of(&teller)),
         Err(failure) => Err(failure),
     }
 }

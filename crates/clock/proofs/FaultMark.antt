@@ -1,6 +1,7 @@
 -- The fault mark changes nothing that time does: to set it and let n seconds pass is to let them pass and set it.
 -- Assumes nothing.
 use Rattle.std.proofs.Common.{arith, ℕ, ◌≡◌, refl, Bool}
+use Rattle.text.specs.Flags.{flag_of}
 use Rattle.record.specs.Given.{left_by}
 use Rattle.record.specs.Updates.{with_own, with_fault}
 use Rattle.record.specs.HostCalls.{fault_set}
@@ -14,7 +15,7 @@ use Rattle.clock.proofs.Cases.{passed_illegal, passed_accepted}
 use Rattle.clock.proofs.TimeLegal.{time_legal}
 
 abbrev marked : Bool → Device → Device
-marked m d = with_own d (with_fault d.own m)
+marked m d = with_own d (with_fault d.own (flag_of m))
 
 pub times-marked : (n : ℕ) (d : Device) (m : Bool) → times second n (marked m d) ≡ marked m (times second n d)
 unfolding own_second second

@@ -10,7 +10,7 @@ use Rattle.record.specs.declared.types.Own.{Own}
 use Rattle.record.specs.declared.types.Device.{Device}
 use Rattle.record.proofs.OwnTold.{lamp_at}
 use Rattle.record.specs.Facts.{IsOwn}
-use Rattle.record.specs.Views.{power_seen, is_burning}
+use Rattle.record.specs.Views.{power_seen, is_burning, marks_seen}
 use Rattle.record.proofs.PowerSeen.{is_burning-power_of}
 use Rattle.record.proofs.LegalTold.{own_of_legal}
 use Rattle.clock.specs.Second.{times, changed_where, one_more, marks_in, own_second, second}
@@ -30,7 +30,7 @@ module _ (ms : List Bool) (n : ℕ) (l : List ℕ) (k : ℕ) where
 module _ (s : Settings) (o : Own) (n : ℕ) where
   pub own_lamp_after : IsOwn s o → (k : ℕ) → k < s.lamp_count
       → slice_index_or (times (own_second s) n o).lamps k 0
-      ≡ lamp_after n (is_lit o.power && slice_index_or o.enabled k false) (slice_index_or o.lamps k 0)
+      ≡ lamp_after n (is_lit o.power && slice_index_or (marks_seen o) k false) (slice_index_or o.lamps k 0)
   own_lamp_after t k h =
       let inside : k < length o.lamps = omega (arith, t.lamps.long, t.lamps.inside) in
       ap (λ (x : Own). slice_index_or x.lamps k 0) (own_in_one_go s o t.power n)
@@ -38,10 +38,10 @@ module _ (s : Settings) (o : Own) (n : ℕ) where
       ∙ ap (λ (lit : Bool). lamp_after n (lit && slice_index_or (marks_in s o) k false) (slice_index_or o.lamps k 0))
       (is_burning-power_of o.power o.left)
       ∙ ap (λ (m : Bool). lamp_after n (is_lit o.power && m) (slice_index_or o.lamps k 0))
-      (get_or-take s.lamp_count o.enabled k false h)
+      (get_or-take s.lamp_count (marks_seen o) k false h)
 
 module _ (n : ℕ) (d : Device) (k : ℕ) where
   pub lamp_after_seconds : is_legal d ≡ true → k < d.settings.lamp_count
       → slice_index_or (times second n d).own.lamps k 0
-      ≡ lamp_after n (is_lit d.own.power && slice_index_or d.own.enabled k false) (slice_index_or d.own.lamps k 0)
+      ≡ lamp_after n (is_lit d.own.power && slice_index_or (marks_seen d.own) k false) (slice_index_or d.own.lamps k 0)
   lamp_after_seconds h l = grind (arith, parts_pass, own_lamp_after, own_of_legal)

@@ -11,7 +11,7 @@
 -- Assumes nothing.
 use Rattle.std.specs.Prelude.{ℕ, zero, suc, ◌+◌, ◌-◌, Bool, List, [], ◌∷◌, map, take, if◌then◌else◌, nat_le, nat_lt}
 use Rattle.record.specs.Limits.{lamp_limit, age_end}
-use Rattle.record.specs.Views.{power_seen, with_power, is_burning}
+use Rattle.record.specs.Views.{power_seen, with_power, is_burning, marks_seen}
 use Rattle.record.specs.declared.views.Power.{Power}
 use Rattle.record.specs.declared.views.Power.TheVariants.{Off, WarmUp, On, Cooling}
 use Rattle.record.specs.Updates.{with_seconds, with_age}
@@ -41,7 +41,7 @@ power_second (Cooling left) = if nat_le left 1 then Off else Cooling (left - 1)
 power_second p = p
 
 abbrev pub marks_in : Settings → Own → List Bool
-marks_in s o = take s.lamp_count o.enabled
+marks_in s o = take s.lamp_count (marks_seen o)
 
 -- where they burn, each enabled lamp gains one (RULES, Lamps)
 abbrev pub lamps_second : Power → List Bool → List ℕ → List ℕ

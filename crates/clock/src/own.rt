@@ -1,11 +1,13 @@
 // The projector's own part after n seconds, in closed form: the cost does not grow with n.
-ghost use Rattle.std.specs.Prelude.{◌≡◌, take, if◌then◌else◌};
+ghost use Rattle.std.specs.Prelude.{◌≡◌, map, take, if◌then◌else◌};
+ghost use Rattle.text.specs.Flags.{is_raised};
 ghost use Rattle.clock.specs.Second.{one_more, changed_where, own_second, times};
 ghost use Rattle.clock.specs.After.{power_after};
 
 use record::own::LAMP_LIMIT;
 use record::types::{LAMPS_MOST, Own, Settings};
 use record::views::Power;
+use text::flag;
 
 fn power_after(power: Power, n: u32) -> Power
     ensures { result ≡ power_after n power }
@@ -43,14 +45,14 @@ fn lamp_if(mark: bool, seconds: u32, n: u32) -> u32
     seconds
 }
 
-fn burn(lamps: &mut [u32; LAMPS_MOST], enabled: &[bool; LAMPS_MOST], count: usize, n: u32)
-    ensures { lamps.new ≡ changed_where (times one_more n) (take count enabled.now) lamps.old }
+fn burn(lamps: &mut [u32; LAMPS_MOST], enabled: &[u8; LAMPS_MOST], count: usize, n: u32)
+    ensures { lamps.new ≡ changed_where (times one_more n) (take count (map is_raised enabled.now)) lamps.old }
 {
     for k in 0..LAMPS_MOST {
         if count <= k {
             return;
         }
-        lamps[k] = lamp_if(enabled[k], lamps[k], n);
+        lamps[k] = lamp_if(flag::is_raised(enabled[k]), lamps[k], n);
     }
 }
 

@@ -11,6 +11,9 @@ use Rattle.std.proofs.Common.{ℕ, ◌+◌, ◌<◌, ◌≡◌, refl, sym, ap, s
 use Rattle.std.proofs.Common.{slice_index_or, set, length-set, get_or-set_same, get_or-set_other, eqb-true, zero, suc}
 use Rattle.std.proofs.Common.{[], ◌∷◌, ◌++◌, add-zero, zero-add, add_assoc, replicate, if◌then◌else◌}
 use Rattle.std.proofs.lemmas.Bool.{eqb-false}
+use Rattle.record.specs.Views.{marks_seen}
+use Rattle.text.proofs.FlagsTold.{raised_set, raised_many}
+use Rattle.text.specs.Flags.{flag_of}
 use Rattle.record.specs.Limits.{is_lit}
 use Rattle.record.specs.Wanted.{Wanted}
 use Rattle.record.specs.Legal.{is_legal}
@@ -71,7 +74,7 @@ pub record Agrees (w : Wanted) (g : Stage) (ms : List Bool) (n : ℕ → ℕ) (s
       → slice_index_or d.own.lamps place 0 ≡ lamp_with (n place) (slice_index_or w.lamps place 0)
   pub marks_long : length ms ≡ length w.lamps
   pub marks : (place : ℕ) → place < length w.lamps →
-      slice_index_or d.own.enabled place false ≡ slice_index_or ms place false
+      slice_index_or (marks_seen d.own) place false ≡ slice_index_or ms place false
   pub last : (q : ℕ) → Ends (stream q) (line_text (connection_at d q).line)
 
 pub lit_shown : (g : Stage) → is_lit (power_of g) ≡ stage_is_burning g
@@ -109,7 +112,7 @@ module _ {w : Wanted} {g : Stage} {ms : List Bool} {n : ℕ → ℕ} {stream : S
         (lamp_second g (slice_index_or ms place false) (n place) (slice_index_or w.lamps place 0));
     marks_long = a.marks_long;
     marks = λ place inside.
-        ap (λ (o : Own). slice_index_or o.enabled place false)
+        ap (λ (o : Own). slice_index_or (marks_seen o) place false)
         (ap (λ (x : Device). x.own) (parts_pass 1 d) ∙ own_else_stays 1 d.settings d.own)
         ∙ a.marks place inside;
     last = λ q.
@@ -133,8 +136,18 @@ module _ {w : Wanted} {g : Stage} {ms : List Bool} {n : ℕ → ℕ} {stream : S
 
   -- a mark replaced, here and there
   pub remarked : (lamp : ℕ) (mark : Bool) → lamp < length w.lamps → lamp < length d.own.enabled
-      → Agrees w g (set ms lamp mark) n stream (with_own d (with_marks d.own (set d.own.enabled lamp mark)))
-  remarked lamp mark there room = grind (arith, length-set, eqb-true, get_or-set_same, eqb-false, get_or-set_other)
+      → Agrees w g (set ms lamp mark) n stream (with_own d (with_marks d.own (set d.own.enabled lamp (flag_of mark))))
+  remarked lamp mark there room =
+      grind (
+        arith,
+        length-set,
+        eqb-true,
+        get_or-set_same,
+        eqb-false,
+        get_or-set_other,
+        raised_set,
+        raised_many,
+      )
 
 pub stage_from-append : (w : Wanted) (g : Stage) (es fs : List Event)
     → stage_from w g (es ++ fs) ≡ stage_from w (stage_from w g es) fs

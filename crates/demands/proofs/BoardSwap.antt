@@ -2,6 +2,8 @@
 -- Assumes nothing.
 use Rattle.std.proofs.Common.{ℕ, ◌+◌, ◌<◌, ◌≡◌, refl, sym, ap, subst, ◌∙◌, Bool, true, false, List, [], ◌∷◌, arith}
 use Rattle.std.proofs.Common.{length, slice_index_or, get_or-take, length-take-le, ext_get_or}
+use Rattle.record.specs.Views.{marks_seen}
+use Rattle.text.proofs.FlagsTold.{raised_many}
 use Rattle.words.specs.Bytes.{◌at◌}
 use Rattle.record.specs.Wanted.{Wanted}
 use Rattle.record.specs.Legal.{is_legal}
@@ -92,11 +94,12 @@ module _ (b : Beginning) (w : Wanted) (cs es : List Call) (m : List ℕ) (place 
       let own = own_of_legal old legal in
       let long = marks_long old.settings.lamp_count old.own.enabled own.marks in
       let many : length (marks_stored old) ≡ length w.lamps
-      = length-take-le old.settings.lamp_count old.own.enabled (omega (arith, long, own.lamps.inside))
+      = length-take-le old.settings.lamp_count (marks_seen old.own)
+      (omega (arith, long, raised_many old.own.enabled, own.lamps.inside))
       ∙ count in
       ext_get_or false _ _ (many ∙ sym known.marks_long)
       (λ k inside.
-      get_or-take old.settings.lamp_count old.own.enabled k false (omega (arith, many, count))
+      get_or-take old.settings.lamp_count (marks_seen old.own) k false (omega (arith, many, count))
       ∙ known.marks k (omega (arith, many)))
 
   abbrev GoesOn : List ℕ → Type 0

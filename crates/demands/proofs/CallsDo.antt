@@ -9,6 +9,7 @@
 use Rattle.std.proofs.Common.{ℕ, ◌<◌, ◌≡◌, refl, sym, ap, subst, ◌∙◌, true, false, List, [], arith, length, map, set}
 use Rattle.std.proofs.Common.{◌==◌, eqb-true, if◌then◌else◌}
 use Rattle.std.proofs.lemmas.Bool.{eqb-false}
+use Rattle.text.specs.Flags.{flag_of}
 use Rattle.text.specs.Words.{over}
 use Rattle.text.specs.Rows.{first_of}
 use Rattle.text.proofs.Choices.{if_by}
@@ -80,9 +81,9 @@ gives d c = record {
 abbrev pub own_then : Device → Call → Own
 own_then d (receives p bs m) = (takes d p bs).ended.own
 own_then d (passes n) = times (own_second d.settings) n d.own
-own_then d (marks fault) = with_fault d.own fault
+own_then d (marks fault) = with_fault d.own (flag_of fault)
 own_then d (reports errors) = with_errors d.own errors
-own_then d (enables lamp mark) = with_marks d.own (set d.own.enabled lamp mark)
+own_then d (enables lamp mark) = with_marks d.own (set d.own.enabled lamp (flag_of mark))
 own_then d c = d.own
 
 abbrev connections_then : Device → Call → List Connection

@@ -6,6 +6,7 @@
 use Rattle.std.proofs.Common.{ℕ, zero, suc, ◌+◌, ◌-◌, ◌≤◌, ◌<◌, ◌≡◌, refl, sym, ap, ◌∙◌, Bool, true, false, ◌&&◌, List}
 use Rattle.std.proofs.Common.{[], ◌∷◌, arith, length, slice_index_or, set, length-set, ⊎_elim, add-zero, zero-add, take}
 use Rattle.std.proofs.Common.{length-take, ext_get_or, if◌then◌else◌}
+use Rattle.record.specs.Views.{marks_seen}
 use Rattle.record.specs.Limits.{lamp_limit, opened, is_lit}
 use Rattle.record.specs.Wanted.{Wanted}
 use Rattle.ours.specs.Board.{ours, reply}
@@ -145,7 +146,7 @@ module _ (w : Wanted) (ms : List Bool) (es : List Event) {stream : Streams} {d :
   lamps_same =
       let kept = (own_of_legal d between.legal).lamps in
       let many : length (lamps_of d.settings d.own) ≡ length w.lamps
-      = length-lamps_said (is_lit d.own.power) d.own.enabled (take d.settings.lamp_count d.own.lamps)
+      = length-lamps_said (is_lit d.own.power) (marks_seen d.own) (take d.settings.lamp_count d.own.lamps)
       ∙ omega (arith, length-take d.settings.lamp_count d.own.lamps, kept.long, kept.inside, count) in
       ext_get_or none _ _ (many ∙ sym (length-each_place (lamp_then w ms es) 0 w.lamps))
       (λ k inside. lamp_same k (omega (arith, many)))

@@ -9,6 +9,7 @@
 use Rattle.std.proofs.lemmas.Grind.{common_steps}
 use Rattle.std.proofs.Common.{ℕ, ◌≤◌, ◌<◌, ◌≡◌, refl, sym, ap, subst, ◌∙◌, true, false, List, ◌++◌, arith, length, ◌^◌}
 use Rattle.std.proofs.Common.{Bool, Ok}
+use Rattle.text.specs.Flags.{is_raised}
 use Rattle.digest.specs.Hex.{leading_digest}
 use Rattle.pjlink.specs.Commands.{command_class, is_command, command_line}
 use Rattle.pjlink.specs.declared.command.Command.{Command}
@@ -49,7 +50,7 @@ use Rattle.demands.proofs.KeepsRunning.{over_front}
 
 -- "between lines", no collected bytes and no overlong mark, is what the laws ask of the line
 pub is_between : (d : Device) (p : ℕ) → p < places_count → is_legal d ≡ true
-    → (connection_at d p).line.overlong ≡ false → (connection_at d p).line.held ≡ 0
+    → is_raised (connection_at d p).line.overlong ≡ false → (connection_at d p).line.held ≡ 0
     → (connection_at d p).line ≡ empty_line
 is_between d p there legal unmarked none =
     let k = connection_at d p in
@@ -68,8 +69,8 @@ module _ (d : Device) (p : ℕ) (there : p < places_count) (legal : is_legal d �
   abbrev here : Connection
   here = connection_at d p
 
-  unmarked : here.line.overlong ≡ false
-  unmarked = ap (λ (l : Line). l.overlong) (between ∙ empty_is_none)
+  unmarked : is_raised here.line.overlong ≡ false
+  unmarked = ap (λ (l : Line). is_raised l.overlong) (between ∙ empty_is_none)
 
   none : here.line.held ≡ 0
   none = ap (λ (l : Line). l.held) (between ∙ empty_is_none)

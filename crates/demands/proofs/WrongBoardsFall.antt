@@ -3,6 +3,7 @@
 -- Assumes nothing.
 use Rattle.std.proofs.Common.{ℕ, refl, sym, ◌∙◌, List, arith, replicate, [], ◌∷◌, length, codes, ap, true, false}
 use Rattle.std.proofs.Common.{slice_index_or, ◌≡◌}
+use Rattle.text.specs.Flags.{is_raised}
 use Rattle.words.specs.Bytes.{◌at◌}
 use Rattle.record.specs.Places.{connection_at}
 use Rattle.record.specs.declared.types.Device.{Device}
@@ -130,11 +131,11 @@ taken : (ours.receive opened_sample 0 overlong memory).number ≡ 0
 unfolding computing
 taken = refl
 
-shown : (ours.receive opened_sample 0 overlong memory).device.own.video_muted ≡ false
+shown : is_raised (ours.receive opened_sample 0 overlong memory).device.own.video_muted ≡ false
 unfolding computing
 shown = refl
 
-darkened : (darkens_swallowing.receive opened_sample 0 overlong memory).device.own.video_muted ≡ true
+darkened : is_raised (darkens_swallowing.receive opened_sample 0 overlong memory).device.own.video_muted ≡ true
 unfolding computing
 darkened = refl
 
@@ -142,7 +143,7 @@ pub darkens_swallowing_falls : SpeaksPjlink darkens_swallowing → ⊥
 darkens_swallowing_falls h =
     let by_both = ours_speaks_pjlink.receives opened_sample 0 overlong memory taken
     ∙ sym (h.receives opened_sample 0 overlong memory taken) in
-    false≢true (sym shown ∙ ap (λ (d : Device). d.own.video_muted) by_both ∙ darkened)
+    false≢true (sym shown ∙ ap (λ (d : Device). is_raised d.own.video_muted) by_both ∙ darkened)
 
 -- ---- demand 2: the class
 
@@ -235,7 +236,7 @@ never_closes_falls h = apart (λ (d : Device). (connection_at d 0).phase) (h.clo
 
 pub hides_faults_falls : SpeaksPjlink hides_faults → ⊥
 unfolding computing
-hides_faults_falls h = false≢true (ap (λ (d : Device). d.own.fault) (h.marks opened_sample true refl))
+hides_faults_falls h = false≢true (ap (λ (d : Device). is_raised d.own.fault) (h.marks opened_sample true refl))
 
 -- the first error digit
 pub hides_errors_falls : SpeaksPjlink hides_errors → ⊥

@@ -18,6 +18,7 @@
 --   Untouched m r       it took nothing, replied nothing and wrote nothing
 -- Assumes nothing.
 use Rattle.std.specs.Prelude.{ℕ, ◌≤◌, ◌≡◌, Bool, true, false, not, ◌||◌, List, [], ◌∷◌, set, length, drop, nat_lt, ◌==◌}
+use Rattle.text.specs.Flags.{flag_of}
 use Rattle.text.specs.Rows.{Row, ◌when◌, first_of}
 use Rattle.text.specs.Scans.{same_by, itself}
 use Rattle.pjlink.specs.Forms.{erra_line, greeting_open, is_reply_form, head_body, reply_parameter}
@@ -51,7 +52,7 @@ is_illegal d = not (is_legal d)
 -- of a lamp's mark: no such lamp, or the last mark cleared; then any power but off (RULES, Lamps)
 abbrev pub mark_rows : Device → ℕ → Bool → List Row
 mark_rows d k m =
-    (1 when is_illegal d) ∷ (3 when (is_no_lamp d k || is_none_left (set d.own.enabled k m)))
+    (1 when is_illegal d) ∷ (3 when (is_no_lamp d k || is_none_left (set d.own.enabled k (flag_of m))))
     ∷ (7 when not (d.own.power == off)) ∷ []
 
 abbrev pub rows_of : Device → Call → List Row

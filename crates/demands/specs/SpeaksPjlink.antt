@@ -27,6 +27,7 @@
 -- Assumes nothing.
 use Rattle.std.specs.Prelude.{ℕ, ◌≤◌, ◌<◌, ◌^◌, ◌≡◌, Bool, true, false, List, ◌++◌, ◌↔◌, length, set, Ok}
 use Rattle.std.specs.Prelude.{if◌then◌else◌, nat_le, codes}
+use Rattle.text.specs.Flags.{is_raised, flag_of}
 use Rattle.digest.specs.Md5.{md5_of}
 use Rattle.digest.specs.Hex.{leading_digest}
 use Rattle.words.specs.Bytes.{no_cr, command_most}
@@ -64,7 +65,7 @@ pub record BetweenLines (phase : ℕ) (d : Device) (p : ℕ) : Type 0 where
   pub legal : is_legal d ≡ true
   pub there : p < places_count
   pub in_phase : (connection_at d p).phase ≡ phase
-  pub unmarked : (connection_at d p).line.overlong ≡ false
+  pub unmarked : is_raised (connection_at d p).line.overlong ≡ false
   pub none_held : (connection_at d p).line.held ≡ 0
 
 -- open and between lines, the random number kept
@@ -213,13 +214,13 @@ pub record SpeaksPjlink {R : Type 0} (B : Board R) : Type 0 where
   pub closes : (d : R) (p : ℕ)
       → Leaves B (B.closing d p) (with_place (B.shows d) (B.shows d).own p closed)
   pub marks : (d : R) (fault : Bool)
-      → Leaves B (B.set_fault d fault) (with_own (B.shows d) (with_fault (B.shows d).own fault))
+      → Leaves B (B.set_fault d fault) (with_own (B.shows d) (with_fault (B.shows d).own (flag_of fault)))
   pub reports : (d : R) (errors : List ℕ)
       → Leaves B (B.set_errors d errors) (with_own (B.shows d) (with_errors (B.shows d).own errors))
   -- RULES, Lamps: the lamp's mark, and nothing else
   pub enables : (d : R) (lamp : ℕ) (mark : Bool)
       → Leaves B (B.set_mark d lamp mark)
-      (with_own (B.shows d) (with_marks (B.shows d).own (set (B.shows d).own.enabled lamp mark)))
+      (with_own (B.shows d) (with_marks (B.shows d).own (set (B.shows d).own.enabled lamp (flag_of mark))))
   -- what the greeting reader takes from the opening reply is what opening did, where some place is closed; it takes no
   -- other line for a greeting
   pub greets_back : (d : R) (random : ℕ) (m : List ℕ) → is_legal (B.shows d) ≡ true

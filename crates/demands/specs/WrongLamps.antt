@@ -2,7 +2,7 @@
 --   two_lamps     the sample set-up with two lamps
 --   one_rests     the second lamp's mark is cleared before the lamps burn for 100 seconds
 -- Assumes nothing.
-use Rattle.std.specs.Prelude.{Bool, true, false, ◌&&◌, List, [], ◌∷◌, set, if◌then◌else◌, ◌==◌, codes}
+use Rattle.std.specs.Prelude.{ℕ, false, ◌&&◌, List, [], ◌∷◌, set, if◌then◌else◌, ◌==◌, codes}
 use Rattle.record.specs.Limits.{off, warming}
 use Rattle.record.specs.Wanted.{Wanted, wanted_of}
 use Rattle.record.specs.Record.{all_marks}
@@ -19,11 +19,11 @@ two_lamps = wanted_of [] [] [] [] [] (codes "11") (0 ∷ 0 ∷ []) 20 60
 abbrev pub one_rests : List Call
 one_rests = opens 0 memory ∷ enables 1 false ∷ says "%1POWR 1" ∷ passes 100 ∷ []
 
-abbrev having_marks : Device → List Bool → Device
+abbrev having_marks : Device → List ℕ → Device
 having_marks d ms = with_own d (with_marks d.own ms)
 
 -- time passes with these marks in the place of its own, which come back
-abbrev passing_with : (Device → List Bool) → Board Device
+abbrev passing_with : (Device → List ℕ) → Board Device
 passing_with marks = but_pass (λ d n.
     let r = ours.pass (having_marks d (marks d)) n in
     record { number = r.number; device = having_marks r.device d.own.enabled })
@@ -33,7 +33,7 @@ burns_all_lamps = passing_with (λ d. all_marks d.settings.lamp_count)
 
 -- the second lamp burns, whatever its mark
 abbrev pub counts_disabled : Board Device
-counts_disabled = passing_with (λ d. set d.own.enabled 1 true)
+counts_disabled = passing_with (λ d. set d.own.enabled 1 1)
 
 -- as the lamps are switched on, each is enabled again
 abbrev switched_on : Device → Device → Device

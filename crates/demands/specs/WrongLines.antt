@@ -3,6 +3,7 @@
 -- Assumes nothing.
 use Rattle.std.specs.Prelude.{ℕ, suc, Bool, not, ◌&&◌, List, [], ◌∷◌, ◌++◌, map, length, take, drop, ◌==◌, codes}
 use Rattle.std.specs.Prelude.{if◌then◌else◌}
+use Rattle.text.specs.Flags.{is_raised, flag_of}
 use Rattle.text.specs.Scans.{same_by, itself}
 use Rattle.words.specs.Bytes.{upper_of}
 use Rattle.words.specs.declared.power.Power.TheVariants.{Off}
@@ -128,13 +129,13 @@ off_at_erra = but_reader reads_off_at_erra_line
 
 -- the connection at place p is open, and swallows an overlong line
 abbrev swallows_at : Device → ℕ → Bool
-swallows_at d p = (connection_at d p).phase == opened && (connection_at d p).line.overlong
+swallows_at d p = (connection_at d p).phase == opened && is_raised (connection_at d p).line.overlong
 
 abbrev are_apart : Bool → Bool → Bool
 are_apart a b = if a then not b else b
 
 abbrev turned_if : Bool → Own → Own
-turned_if t o = with_mutes o (are_apart t o.video_muted) o.audio_muted
+turned_if t o = with_mutes o (flag_of (are_apart t (is_raised o.video_muted))) o.audio_muted
 
 -- the picture goes dark as it begins to swallow a line, and comes back at that line's CR, not at a hang-up
 abbrev pub darkens_swallowing : Board Device

@@ -15,6 +15,7 @@ use Rattle.pjlink.specs.Commands.{command_line}
 use Rattle.pjlink.specs.declared.command.Command.{Command}
 use Rattle.pjlink.proofs.CommandLines.{command_length, command_no_cr}
 use Rattle.pjlink.specs.Said.{Said, said_bytes}
+use Rattle.text.specs.Flags.{is_raised}
 use Rattle.record.specs.Limits.{places_count, awaiting, opened}
 use Rattle.record.specs.Legal.{is_legal}
 use Rattle.record.specs.Places.{connection_at, with_place}
@@ -58,7 +59,7 @@ open_again d p there legal phase empty =
     search (arith, age_untimed, connection_is, legal_connection, legal_connection d legal p there)
 
 module _ (d : Device) (p : ℕ) (there : p < places_count) (room : ℕ) (legal : is_legal d ≡ true)
-    (enough : reply_room ≤ room) (unmarked : (connection_at d p).line.overlong ≡ false)
+    (enough : reply_room ≤ room) (unmarked : is_raised (connection_at d p).line.overlong ≡ false)
     (none : (connection_at d p).line.held ≡ 0) (k : Command) where
   abbrev c : Connection
   c = connection_at d p

@@ -41,7 +41,7 @@ module _ (c : Connection) where
     known = (connection_is c).0 legal
 
     pub line_legal : LegalLine c.phase c.line
-    line_legal = record { kept = known.line; held = known.held }
+    line_legal = record { kept = known.line; flag = known.overlong; held = known.held }
 
     is_connection-with_line : (l : Line) → LegalLine c.phase l → is_connection (with_line c l) ≡ true
     is_connection-with_line l p = grind (arith, connection_is)

@@ -1,6 +1,7 @@
 -- The parts of receiving, case by case: a line's answer, what CR does, what is kept, and what a call takes in.
 -- Assumes nothing.
 use Rattle.std.proofs.Common.{arith, ℕ, ◌+◌, ◌≤◌, ◌≡◌, ap, ◌∙◌, true, false, List, drop, ◌==◌, eq-eqb, ne_eqb}
+use Rattle.text.specs.Flags.{is_raised}
 use Rattle.text.proofs.Choices.{if_yes, if_no, if_by}
 use Rattle.pjlink.specs.Forms.{is_command_form}
 use Rattle.record.specs.Limits.{awaiting, opened, failed}
@@ -27,11 +28,11 @@ answered_by s o l P = if_by P (is_command_form s.class_number l)
 -- what CR does, by the phase and what the line is
 module _ (s : Settings) (o : Own) (c : Connection) (l : Line) where
   module _ (phase : c.phase ≡ opened) where
-    pub ended_overlong : l.overlong ≡ true → line_ended s o c l ≡ served_line c (line_swallowed o)
+    pub ended_overlong : is_raised l.overlong ≡ true → line_ended s o c l ≡ served_line c (line_swallowed o)
     unfolding line_ended
     ended_overlong m = if_yes _ _ (eq-eqb c.phase opened phase) ∙ ap (served_line c) (if_yes _ _ m)
 
-    pub ended_open : l.overlong ≡ false → line_ended s o c l ≡ served_line c (line_answer s o (line_text l))
+    pub ended_open : is_raised l.overlong ≡ false → line_ended s o c l ≡ served_line c (line_answer s o (line_text l))
     unfolding line_ended
     ended_open m = if_yes _ _ (eq-eqb c.phase opened phase) ∙ ap (served_line c) (if_no _ _ m)
 
@@ -53,8 +54,8 @@ module _ (s : Settings) (o : Own) (c : Connection) (l : Line) where
   ended_other p q = if_no _ _ (ne_eqb c.phase opened p) ∙ if_no _ _ (ne_eqb c.phase awaiting q)
 
   pub ended_by : (P : Ended → Type 0)
-      → (c.phase ≡ opened → l.overlong ≡ true → P (served_line c (line_swallowed o)))
-      → (c.phase ≡ opened → l.overlong ≡ false → P (served_line c (line_answer s o (line_text l))))
+      → (c.phase ≡ opened → is_raised l.overlong ≡ true → P (served_line c (line_swallowed o)))
+      → (c.phase ≡ opened → is_raised l.overlong ≡ false → P (served_line c (line_answer s o (line_text l))))
       → (c.phase ≡ awaiting → is_match s c l ≡ true
       → P (served_line c (line_answer s o (drop digest_long (line_text l)))))
       → (c.phase ≡ awaiting → is_match s c l ≡ false → P (refused_digest o c))

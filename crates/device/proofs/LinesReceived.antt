@@ -9,6 +9,7 @@ use Prim.Native.Char.{code}
 use Rattle.digest.specs.Hex.{leading_digest}
 use Rattle.words.specs.Bytes.{not_cr, no_cr, command_most}
 use Rattle.words.proofs.Characters.{no_cr_each}
+use Rattle.text.specs.Flags.{is_raised}
 use Rattle.record.specs.Limits.{places_count, shut, awaiting, opened}
 use Rattle.record.specs.Legal.{held_most, is_legal}
 use Rattle.record.specs.Places.{connection_at}
@@ -48,7 +49,7 @@ abbrev pub line_result : Device → ℕ → Answered → ℕ → Result Device
 line_result d p a n = accepted_taken d p (record { ended = served_line (connection_at d p) a; taken = n })
 
 module _ (d : Device) (p : ℕ) (there : p < places_count) (room : ℕ) (legal : is_legal d ≡ true)
-    (enough : reply_room ≤ room) (unmarked : (connection_at d p).line.overlong ≡ false)
+    (enough : reply_room ≤ room) (unmarked : is_raised (connection_at d p).line.overlong ≡ false)
     (none : (connection_at d p).line.held ≡ 0) (l : List ℕ) (plain : no_cr l ≡ true) where
   abbrev c : Connection
   c = connection_at d p

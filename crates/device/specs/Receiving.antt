@@ -8,6 +8,7 @@
 -- The results name the own part and the connection, never the whole record: what has these parts can use them.
 -- Assumes nothing.
 use Rattle.std.specs.Prelude.{ℕ, ◌+◌, Bool, not, ◌&&◌, List, [], length, take, drop, if◌then◌else◌, nat_le, ◌==◌}
+use Rattle.text.specs.Flags.{is_raised}
 use Rattle.text.specs.Scans.{same_by, itself}
 use Rattle.digest.specs.Hex.{leading_digest}
 use Rattle.pjlink.specs.Forms.{erra_line}
@@ -49,7 +50,7 @@ is_led_by random password l =
 
 unfoldable pub is_match : Settings → Connection → Line → Bool
 is_match s c l =
-    not l.overlong && nat_le digest_long l.held
+    not (is_raised l.overlong) && nat_le digest_long l.held
     && same_by itself (take digest_long l.bytes) (leading_digest c.random (set_up_password s))
 
 abbrev pub no_reply : Own → Connection → Ended
@@ -65,7 +66,8 @@ refused_digest o c = record { own = o; connection = phase_start c failed; reply 
 -- is refused; failed: ignored
 unfoldable pub line_ended : Settings → Own → Connection → Line → Ended
 line_ended s o c l =
-    if c.phase == opened then served_line c (if l.overlong then line_swallowed o else line_answer s o (line_text l))
+    if c.phase == opened then
+    served_line c (if is_raised l.overlong then line_swallowed o else line_answer s o (line_text l))
     else if c.phase == awaiting then
     (if is_match s c l then served_line c (line_answer s o (drop digest_long (line_text l))) else refused_digest o c)
     else no_reply o c

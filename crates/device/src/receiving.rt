@@ -11,7 +11,7 @@ use crate::answering;
 use pjlink::greeting::Greeting;
 use record::types::{Connection, Line, Own, Settings};
 use record::views::Phase;
-use text::rooms;
+use text::{flag, rooms};
 use words::codec;
 
 const DIGEST_LONG: usize = 32;
@@ -47,7 +47,7 @@ fn fail(c: &mut Connection)
 fn matches(s: &Settings, c: &Connection, l: &Line) -> bool
     ensures { result ≡ is_match s.now c.now l.now }
 {
-    !l.overlong
+    !flag::is_raised(l.overlong)
         && DIGEST_LONG <= l.held
         && text::same(
             &l.bytes[..DIGEST_LONG],
@@ -67,7 +67,7 @@ fn end_line(s: &Settings, o: &mut Own, c: &mut Connection, l: &Line) -> codec::L
     match c.phase() {
         Phase::Open { random } => {
             turn(c, Phase::Open { random });
-            if !l.overlong {
+            if !flag::is_raised(l.overlong) {
                 reply = answering::answer_line(s, o, rooms::first(&l.bytes, l.held));
             }
         }

@@ -1,11 +1,15 @@
 // README's first lines in Rattle, as they stand there; `.ci/host` compares them.
+ghost use Rattle.std.specs.Prelude.{IfSome, length, ◌≤◌};
+
 use device::calls;
 use setup::wanted::{Class, Wanted};
 
 /// A projector is set up, a controller connects and sends a line: the reply's length, from the start of `memory` on;
 /// none where a call is refused.
 #[rattlefmt::skip]
-fn answer(line: &[u8], memory: &mut [u8]) -> Option<usize> {
+fn answer(line: &[u8], memory: &mut [u8]) -> Option<usize>
+    ensures fits { IfSome result (λ n. n ≤ length memory.new) }
+{
     let table = Wanted {
         name: b"Table 3", maker: b"maker", model: b"model", other: b"", password: b"",
         inputs: b"1132", lamps: &[7200], warm: 20, cool: 60, class: Class::One,

@@ -2,7 +2,7 @@
 -- back as it was, with 1 where the line has a form.
 --   illegal_number e    the number of the event e on a record that is not legal
 -- Assumes nothing.
-use Rattle.std.proofs.Common.{arith, ◌≡◌, refl, sym, ap, false, ℕ, List}
+use Rattle.std.proofs.Common.{arith, ◌≡◌, refl, sym, ap, false, ℕ, List, Some}
 use Rattle.text.specs.Words.{over}
 use Rattle.record.specs.Legal.{is_legal}
 use Rattle.record.specs.declared.types.Device.{Device}
@@ -18,7 +18,7 @@ use Rattle.floorlog.specs.declared.event.Event.TheVariants.{NoSuch}
 use Rattle.floorlog.specs.declared.outcome.Outcome.TheVariants.{Refused}
 use Rattle.floorlog.specs.Outcomes.{outcome_text}
 use Rattle.floorlog.specs.Events.{LogEvent, opens, receives, passes, closes, no_such, event_said}
-use Rattle.floorlog.specs.Doing.{log_place, event_result, result_text}
+use Rattle.floorlog.specs.Doing.{log_place, event_result, result_text, event_answer}
 use Rattle.floorlog.proofs.LogOpenings.{log_opened_by, log_opened_illegal}
 
 abbrev pub illegal_number : LogEvent → ℕ
@@ -58,3 +58,7 @@ module _ (d : Device) where
   pub illegal_text : (e : Event) (m : List ℕ) → is_legal d ≡ false → (e ≡ NoSuch → ⊥)
       → outcome_text (Refused NotLegal) m ≡ result_text (event_said e) (event_result d (event_said e))
   illegal_text e m h g = grind (arith, did_illegal)
+
+  pub illegal_answer : (e : Event) → is_legal d ≡ false → (e ≡ NoSuch → ⊥)
+      → Some 1 ≡ event_answer (event_said e) (event_result d (event_said e))
+  illegal_answer e h g = grind (arith, did_illegal)

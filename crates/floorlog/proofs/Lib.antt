@@ -12,6 +12,8 @@ pub mod KeptText
 mod NextKept
 pub mod Observing
 pub mod Replayed
+pub mod UnplayedBy
+pub mod UnplayedFits
 pub mod Samples
 pub mod Settled
 pub mod HistoriesKnown

@@ -3,18 +3,22 @@
 use Rattle.std.proofs.Common.{IfSome, ℕ, ◌+◌, ◌^◌, ◌≤◌, ◌≡◌, refl, ap, List, [], ◌∷◌, ◌++◌}
 use Rattle.std.proofs.Common.{◌⊎◌, append_assoc, append-nil, subst, sym, ◌∙◌, arith, length, map}
 use Rattle.std.proofs.lemmas.List.{length-map, append_cancel_right}
+use Rattle.std.proofs.Common.{Result, Ok, Err, OnOk}
 use Rattle.std.specs.declared.option.Option.{Option}
 use Rattle.std.specs.Io.KnownBytes.{Appends}
 use Rattle.record.specs.declared.types.Device.{Device}
-use Rattle.textio.specs.Lines.{texts_of, IsTooLong}
+use Rattle.textio.specs.Lines.{LogLine, texts_of, IsTooLong}
 use Rattle.floorlog.specs.Kept.{kept_lines}
 use Rattle.floorlog.specs.LastLine.{last_device_line}
 use Rattle.floorlog.specs.Events.{LogEvent, event}
 use Rattle.floorlog.specs.Doing.{event_result, printed_line}
 use Rattle.floorlog.specs.Playing.{state_after, lines_printed, replay_text}
 use Rattle.floorlog.specs.Replaying.{IsReplayed, IsPlayedSoFar}
-use Rattle.floorlog.specs.Observing.{BreaksOff}
+use Rattle.floorlog.specs.Observing.{Observes, BreaksOff}
 use Rattle.floorlog.specs.declared.playing.Player.{Player}
+use Rattle.floorlog.specs.Unplayed.{answer, left_by_event, why_misread, noted, said_line}
+use Rattle.floorlog.specs.Unplayed.{unplayed_by}
+use Rattle.floorlog.proofs.UnplayedBy.{unplayed_none, unplayed_more}
 use Rattle.floorlog.proofs.KeptText.{events_kept}
 
 abbrev pub printed_from : ℕ → Device → List LogEvent → List ℕ
@@ -54,12 +58,56 @@ module _ {begun d : Device} {n : ℕ} (first : n ≡ 0) (is : d ≡ begun) where
   pub too_long : (log : List ℕ) → IsTooLong log ⊎ (2 ^ 64 ≤ n + length (kept_lines log)) → IsTooLong log
   too_long log h = grind (arith, length-map)
 
+abbrev pub player_prints : Player → List LogLine → List ℕ
+player_prints p ls = printed_from p.played p.tested.device (map event (texts_of ls))
+
+abbrev pub PlayerLeft : Player → List LogLine → Player → Type 0
+PlayerLeft p ls last =
+    (last.tested.device ≡ state_after p.tested.device (map event (texts_of ls)))
+    × (last.unplayed
+    ≡ unplayed_by answer left_by_event p.unplayed p.played p.tested.device (map (said_line event) (texts_of ls)))
+
+abbrev pub PlayerOverflows : Player → List LogLine → Type 0
+PlayerOverflows p ls = 2 ^ 64 ≤ p.played + length ls
+
+pub left_so : (p : Player) → PlayerLeft p [] p
+left_so p = (
+  sym (state_none p.tested.device),
+  sym (unplayed_none answer left_by_event p.unplayed p.played p.tested.device),
+)
+
+pub left_by_none : {T E : Type 0} (p : Player) (r : Result T E) → OnOk r (PlayerLeft p [] p)
+left_by_none p (Ok v) = left_so p
+left_by_none p (Err e) = tt
+
+module _ {p after : Player} {line : LogLine} (more : after.played ≡ p.played + 1)
+    (is : after.tested.device ≡ left_by_event p.tested.device (event line.text))
+    (unplayed : after.unplayed ≡ noted p.unplayed (p.played + 1) (why_misread line.text)
+    (answer p.tested.device (event line.text))) where
+  -- a line that is played, and what comes after it
+  pub line_observed : {old new : Option (List ℕ)}
+      → Appends old new
+      (printed_line (p.played + 1) (event line.text) (event_result p.tested.device (event line.text)))
+      → Observes player_prints PlayerLeft PlayerOverflows p after line old new
+  line_observed {old} {new} put = record {
+    text = printed_line (p.played + 1) (event line.text) (event_result p.tested.device (event line.text));
+    written = put;
+    then = λ ls. printed_more p.tested.device (event line.text) is (map event (texts_of ls)) p.played
+        ∙ (λ i. printed_line (p.played + 1) (event line.text) (event_result p.tested.device (event line.text))
+        ++ printed_from (sym more i) after.tested.device (map event (texts_of ls)));
+    leaves = λ ls last left. (
+      left.0 ∙ state_more p.tested.device (event line.text) is (map event (texts_of ls)),
+      left.1 ∙ (λ i. unplayed_by answer left_by_event (unplayed i) (more i) (is i) (map (said_line event) (texts_of ls)))
+          ∙ sym (unplayed_more answer left_by_event p.unplayed p.played p.tested.device (said_line event line.text)
+          (map (said_line event) (texts_of ls))),
+    );
+    overflows = λ ls over. omega (arith, more, over);
+  }
+
 -- where a read fails
 pub played_so_far : {p after : Player} {begun : Device} {log left : List ℕ} {old new : Option (List ℕ)} → p.played ≡ 0
     → p.tested.device ≡ begun
-    → BreaksOff (λ (q : Player) ls. printed_from q.played q.tested.device (map event (texts_of ls)))
-    (λ (q : Player) ls (last : Player). last.tested.device ≡ state_after q.tested.device (map event (texts_of ls)))
-    p after log left old new
+    → BreaksOff player_prints PlayerLeft p after log left old new
     → IsPlayedSoFar begun log left old new
 played_so_far {p} {after} {begun} {log} {left} {old} {new} first is b = record {
   told = b.told;
@@ -76,7 +124,7 @@ played_so_far {p} {after} {begun} {log} {left} {old} {new} first is b = record {
     end = last_device_line (state_after p.tested.device es)
 
     left_at : after.tested.device ≡ state_after p.tested.device es
-    left_at = b.leaves after (sym (state_none after.tested.device))
+    left_at = (b.leaves after (left_so after)).0
 
     text : lines_printed p.played p.tested.device es ≡ b.text
     text =

@@ -6,9 +6,12 @@
 --                       leaves
 --   result_text e r     what is printed for an event with that result: the reply without its CR, `-` for none, `! ` and
 --                       the number of a refusal, or `?` for a line of no such form
+--   event_answer e r    the number that the call of an event with that result gives; None of a line of no form
 --   printed_line n e r  the line number n, a space, that, and LF
 -- Assumes nothing.
 use Rattle.std.specs.Prelude.{ℕ, not, List, [], ◌∷◌, ◌++◌, if◌then◌else◌, ◌==◌, codes}
+use Rattle.std.specs.Prelude.{Some, None}
+use Rattle.std.specs.declared.option.Option.{Option}
 use Rattle.text.specs.Rows.{Row, ◌when◌, by_rows}
 use Rattle.numbers.specs.Decimal.{long_digits}
 use Rattle.record.specs.Legal.{is_legal}
@@ -46,6 +49,10 @@ outcome r = if r.number == 0 then reply_text r.reply else refusal_shown r.number
 abbrev pub result_text : LogEvent → Result Device → List ℕ
 result_text no_such r = codes "?"
 result_text e r = outcome r
+
+abbrev pub event_answer : LogEvent → Result Device → Option ℕ
+event_answer no_such r = None
+event_answer e r = Some r.number
 
 unfoldable pub printed_line : ℕ → LogEvent → Result Device → List ℕ
 printed_line n e r = long_digits n ++ codes " " ++ result_text e r ++ codes "\n"

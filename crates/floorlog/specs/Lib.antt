@@ -7,6 +7,7 @@ pub mod LastLine
 pub mod Events
 pub mod Doing
 pub mod Told
+pub mod Unplayed
 pub mod Playing
 pub mod Replaying
 pub mod Cuts

@@ -2,10 +2,13 @@
 --   reply_text s           what is printed for the reply s: "the reply without CR, or `-` for none"
 --   refusal_shown n        "`! ` and the number of a refusal"
 --   outcome_text o m       what is printed for what an event came to, where its reply stands at the front of m
+--   answer_of o            the number that its call gives; None of a line of no form
 --   IsReplyWithin o n      a reply has at most so many bytes
 --   printed_most           a printed line never needs more room, nor does the last one
 -- Assumes nothing.
 use Rattle.std.specs.Prelude.{ℕ, ◌-◌, ◌≤◌, List, ◌++◌, length, take, if◌then◌else◌, ◌==◌, codes}
+use Rattle.std.specs.Prelude.{Some, None}
+use Rattle.std.specs.declared.option.Option.{Option}
 use Rattle.numbers.specs.Decimal.{digits}
 use Rattle.record.specs.Refusals.{refusal_number}
 use Rattle.floorlog.specs.declared.outcome.Outcome.{Outcome}
@@ -22,6 +25,12 @@ outcome_text (Served n) m = reply_text (take n m)
 outcome_text (Refused r) m = refusal_shown (refusal_number r)
 outcome_text AlreadyOpen m = refusal_shown 5
 outcome_text NoSuch m = codes "?"
+
+abbrev pub answer_of : Outcome → Option ℕ
+answer_of (Served n) = Some 0
+answer_of (Refused r) = Some (refusal_number r)
+answer_of AlreadyOpen = Some 5
+answer_of NoSuch = None
 
 abbrev pub IsReplyWithin : Outcome → ℕ → Type 0
 IsReplyWithin (Served n) most = n ≤ most

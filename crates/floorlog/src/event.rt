@@ -1,12 +1,13 @@
 // One event of a log: what it does, and what is printed for it. The record is lent with what its one test said, and no
 // record is tested here.
-ghost use Rattle.std.specs.Prelude.{◌≡◌, true, List, [], ℕ};
+ghost use Rattle.std.specs.Prelude.{◌≡◌, true, List, [], ℕ, Some};
 ghost use Rattle.text.specs.Words.{over};
 ghost use Rattle.record.specs.Legal.{is_legal};
 ghost use Rattle.device.specs.Calls.{reply_room, received_at, closed_by};
-ghost use Rattle.floorlog.specs.Outcomes.{outcome_text, IsReplyWithin};
+ghost use Rattle.floorlog.specs.Outcomes.{outcome_text, answer_of, IsReplyWithin};
 ghost use Rattle.floorlog.specs.Events.{event_said};
-ghost use Rattle.floorlog.specs.Doing.{log_place, opened_in_log, event_result, outcome, result_text, printed_line};
+ghost use Rattle.floorlog.specs.Doing.{log_place, opened_in_log, event_result, outcome, result_text, event_answer};
+ghost use Rattle.floorlog.specs.Doing.{printed_line};
 ghost use Rattle.floorlog.specs.Told.{seconds_of, Drives};
 
 use crate::outcome::{Outcome, Printed};
@@ -41,6 +42,7 @@ fn open(device: &mut Device, random: u32, reply: &mut [u8; REPLY_ROOM]) -> Outco
     requires { is_legal device.old ≡ true }
     ensures within { IsReplyWithin result reply_room }
     ensures text { outcome_text result reply.new ≡ outcome (opened_in_log device.old random) }
+    ensures answer { answer_of result ≡ Some (opened_in_log device.old random).number }
     ensures device { device.new ≡ (opened_in_log device.old random).device }
     ensures reply { reply.new ≡ over (opened_in_log device.old random).reply reply.old }
 {
@@ -57,6 +59,7 @@ fn receive(device: &mut Device, bytes: &[u8], reply: &mut [u8; REPLY_ROOM]) -> O
     requires { is_legal device.old ≡ true }
     ensures within { IsReplyWithin result reply_room }
     ensures text { outcome_text result reply.new ≡ outcome (received_at device.old log_place bytes.now reply_room) }
+    ensures answer { answer_of result ≡ Some (received_at device.old log_place bytes.now reply_room).number }
     ensures device { device.new ≡ (received_at device.old log_place bytes.now reply_room).device }
     ensures reply { reply.new ≡ over (received_at device.old log_place bytes.now reply_room).reply reply.old }
 {
@@ -71,6 +74,7 @@ fn close(device: &mut Device) -> Outcome
     requires { is_legal device.old ≡ true }
     ensures within { IsReplyWithin result reply_room }
     ensures text { (m : List ℕ) → outcome_text result m ≡ outcome (closed_by device.old log_place) }
+    ensures answer { answer_of result ≡ Some (closed_by device.old log_place).number }
     ensures device { device.new ≡ (closed_by device.old log_place).device }
 {
     match on_legal::close(device, PLACE) {
@@ -86,6 +90,8 @@ fn call_legal(device: &mut Device, event: &Event<'_>, reply: &mut [u8; REPLY_ROO
     ensures within { IsReplyWithin result reply_room }
     ensures text { outcome_text result reply.new
         ≡ result_text (event_said event.now) (event_result device.old (event_said event.now)) }
+    ensures answer { answer_of result
+        ≡ event_answer (event_said event.now) (event_result device.old (event_said event.now)) }
     ensures device { device.new ≡ (event_result device.old (event_said event.now)).device }
     ensures reply { reply.new ≡ over (event_result device.old (event_said event.now)).reply reply.old }
 {
@@ -107,6 +113,8 @@ pub fn call(t: &mut Tested, event: &Event<'_>, reply: &mut [u8; REPLY_ROOM]) -> 
     ensures within { IsReplyWithin result reply_room }
     ensures text { outcome_text result reply.new
         ≡ result_text (event_said event.now) (event_result t.old.device (event_said event.now)) }
+    ensures answer { answer_of result
+        ≡ event_answer (event_said event.now) (event_result t.old.device (event_said event.now)) }
     ensures device { t.new.device ≡ (event_result t.old.device (event_said event.now)).device }
     ensures reply { reply.new ≡ over (event_result t.old.device (event_said event.now)).reply reply.old }
     ensures places { Drives (seconds_of (event_said event.now)) t.old.device t.new.device }
@@ -130,15 +138,18 @@ pub fn seconds_of(event: &Event<'_>) -> u32
     }
 }
 
-/// An event, and its printed line.
+/// An event, and its printed line. Returns the number that its call gives, 0 where it was served; none of a line of no
+/// form.
 #[tactic(auto, unfolding(crate::specs::Doing::printed_line))]
-pub fn print(t: &mut Tested, number: u64, event: &Event<'_>, out: &mut Printed)
+pub fn print(t: &mut Tested, number: u64, event: &Event<'_>, out: &mut Printed) -> Option<u32>
     requires { out.old.items ≡ [] }
     ensures printed { out.new.items
         ≡ printed_line number (event_said event.now) (event_result t.old.device (event_said event.now)) }
+    ensures answer { result ≡ event_answer (event_said event.now) (event_result t.old.device (event_said event.now)) }
     ensures device { t.new.device ≡ (event_result t.old.device (event_said event.now)).device }
 {
     let mut reply = [0; REPLY_ROOM];
     let outcome = call(t, event, &mut reply);
     outcome.put_line(number, &reply, out);
+    outcome.answer()
 }

@@ -32,7 +32,7 @@ pub struct ByKind<A, B> {
 }
 
 #[tactic(auto, unfolding(crate::specs::Kinds::begins_history))]
-fn begins_history(line: &[u8]) -> bool
+pub(crate) fn begins_history(line: &[u8]) -> bool
     ensures { result ≡ begins_history line.now }
 {
     match line {

@@ -15,6 +15,7 @@ pub mod playing;
 #[cfg(test)]
 mod tests;
 pub mod theorems;
+pub mod unplayed;
 
 ghost use Rattle.std.specs.Prelude.{◌≡◌, true, ◌≢◌, ◌<◌, [], OnOk, IfOk, IfErr, IfSome, Err, length};
 ghost use Rattle.record.specs.Legal.{is_legal};

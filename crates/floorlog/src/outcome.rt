@@ -3,7 +3,8 @@ ghost use Rattle.std.specs.Prelude.{◌≡◌, ◌+◌, ◌≤◌, ◌++◌, [],
 ghost use Rattle.numbers.specs.Decimal.{long_digits};
 ghost use Rattle.arrayvec.specs.ArrayVec.{array_vec_len};
 ghost use Rattle.device.specs.Calls.{reply_room};
-ghost use Rattle.floorlog.specs.Outcomes.{outcome_text, IsReplyWithin, reply_text, refusal_shown, printed_most};
+ghost use Rattle.floorlog.specs.Outcomes.{outcome_text, answer_of, IsReplyWithin, reply_text, refusal_shown};
+ghost use Rattle.floorlog.specs.Outcomes.{printed_most};
 
 use arrayvec::ArrayVec;
 use device::on_legal::REPLY_ROOM;
@@ -59,6 +60,18 @@ fn put_refusal(number: u32, out: &mut Printed)
 }
 
 impl Outcome {
+    /// The number that its call gives, 0 where it was served; none of a line of no form.
+    pub fn answer(self) -> Option<u32>
+        ensures { result ≡ answer_of self }
+    {
+        match self {
+            Outcome::Served(_) => Some(0),
+            Outcome::Refused(refusal) => Some(refusal.number()),
+            Outcome::AlreadyOpen => Some(5),
+            Outcome::NoSuch => None,
+        }
+    }
+
     /// Puts what is printed for it at the end of a line; its reply stands at the front of the memory.
     pub fn put(self, memory: &[u8; REPLY_ROOM], out: &mut Printed)
         requires within { IsReplyWithin self reply_room }

@@ -42,7 +42,7 @@ use Rattle.meaning.specs.Rules.{is_undefined, is_unlisted}
 use Rattle.meaning.proofs.LampsSaid.{length-lamps_said, list_all-lamps_said}
 use Rattle.meaning.specs.Meaning.{chosen_of, lamp_said, lamps_of, table_answer, request_answer, answer_for}
 use Rattle.meaning.proofs.InputsByPlace.{inputs_counted, input_in_use}
-use Rattle.record.specs.Views.{class_seen}
+use Rattle.record.specs.Views.{class_seen, marks_seen}
 use Rattle.meaning.proofs.Cases.{Passes, meant_by}
 
 pub record Fits (m : Said) : Type 0 where
@@ -97,7 +97,7 @@ module _ (s : Settings) (o : Own) (settings : is_settings s ≡ true) (own : is_
 
   length-lamps_of : length (lamps_of s o) ≡ s.lamp_count
   length-lamps_of =
-      length-lamps_said (is_lit o.power) o.enabled (take s.lamp_count o.lamps)
+      length-lamps_said (is_lit o.power) (marks_seen o) (take s.lamp_count o.lamps)
       ∙ kept_length lamps_most is_lamps _ _ kept.lamps
 
   is_input-chosen_of : is_input (chosen_of s o) ≡ true
@@ -120,7 +120,7 @@ module _ (s : Settings) (o : Own) (settings : is_settings s ≡ true) (own : is_
   told_can_be_said (Query Lamp) e =
       let some = eqb-false s.lamp_count 0 e in
       lamps (lamps_of s o) (omega (arith, length-lamps_of, some)) (omega (arith, length-lamps_of, set_up.lamps))
-      (list_all-lamps_said (is_lit o.power) is_lamp is_lamp_hours is_lamp_hours-lamp_said o.enabled
+      (list_all-lamps_said (is_lit o.power) is_lamp is_lamp_hours is_lamp_hours-lamp_said (marks_seen o)
       (take s.lamp_count o.lamps)
       (lamps_within _ kept.lamps.follows))
   told_can_be_said (Query Inst) e = inputs (inputs_of s) inputs_some inputs_few (list_all-inputs_of s set_up)

@@ -4,6 +4,7 @@
 -- Assumes nothing.
 use Rattle.std.proofs.Common.{ℕ, ◌≤◌, ◌<◌, ◌≡◌, refl, Bool, true, false, not, ◌&&◌, arith, ◌==◌, Ok, Err}
 use Rattle.text.proofs.Choices.{if_all}
+use Rattle.text.proofs.FlagsTold.{flag_within}
 use Rattle.pjlink.specs.declared.command.Half.{Half}
 use Rattle.pjlink.specs.declared.command.Volume.{Volume}
 use Rattle.pjlink.specs.declared.command.Command.TheVariants.{PowerSet, InputSet, MuteSet, Query, InputSet2, FreezeSet}
@@ -75,11 +76,11 @@ module _ (s : Settings) (o : Own) where
     is_own-with_chosen : (place : ℕ) → place < s.input_count → is_own s (with_chosen o place) ≡ true
     is_own-with_chosen place h = (own_is s _).1 (assumption (kept, h))
 
-    is_own-with_mutes : (video audio : Bool) → is_own s (with_mutes o video audio) ≡ true
-    is_own-with_mutes video audio = (own_is s _).1 (assumption kept)
+    is_own-with_mutes : (video audio : ℕ) → video ≤ 1 → audio ≤ 1 → is_own s (with_mutes o video audio) ≡ true
+    is_own-with_mutes video audio v a = (own_is s _).1 (assumption (kept, v, a))
 
     is_own-after_mute : (half : Half) (wanted : Bool) → is_own s (after_mute o half wanted) ≡ true
-    is_own-after_mute half wanted = grind (arith, is_own-with_mutes)
+    is_own-after_mute half wanted = grind (arith, is_own-with_mutes, flag_within, kept.video_muted, kept.audio_muted)
 
     -- a step stays within the ends
     step_within : (up : Bool) (level : ℕ) → level ≤ volume_most → level_after up level ≤ volume_most
@@ -95,7 +96,7 @@ module _ (s : Settings) (o : Own) where
     is_own-carried_out (Ok (MuteSet half wanted)) e = is_own-after_mute half wanted
     is_own-carried_out (Ok (Query b)) e = own
     is_own-carried_out (Ok (InputSet2 i)) e = grind (arith, is_own-with_chosen)
-    is_own-carried_out (Ok (FreezeSet wanted)) e = (own_is s _).1 (assumption kept)
+    is_own-carried_out (Ok (FreezeSet wanted)) e = (own_is s _).1 (assumption (kept, flag_within wanted))
     is_own-carried_out (Ok (VolumeStep v up)) e = is_own-after_step v up
     is_own-carried_out (Ok (NameQuery i)) e = own
     is_own-carried_out (Err u) e = own

@@ -8,6 +8,7 @@ use Rattle.pjlink.specs.declared.command.Command.TheVariants.{Query}
 use Rattle.pjlink.specs.Said.{lamps_are}
 use Rattle.words.specs.declared.lamp.LampHours.{LampHours}
 use Rattle.record.specs.Limits.{is_lit}
+use Rattle.record.specs.Views.{marks_seen}
 use Rattle.record.specs.declared.types.Settings.{Settings}
 use Rattle.record.specs.declared.types.Own.{Own}
 use Rattle.meaning.specs.Meaning.{lamp_said, lamps_of, answer_for}
@@ -21,5 +22,5 @@ module _ (s : Settings) (o : Own) where
 
   pub lamp_told : (k : ℕ) (d : LampHours) → k < s.lamp_count → k < length o.lamps
       → slice_index_or (lamps_of s o) k d
-      ≡ lamp_said (is_lit o.power && slice_index_or o.enabled k false) (slice_index_or o.lamps k 0)
+      ≡ lamp_said (is_lit o.power && slice_index_or (marks_seen o) k false) (slice_index_or o.lamps k 0)
   lamp_told k d h l = grind (arith, said_at, length-take, get_or-take)

@@ -3,6 +3,7 @@
 --   PowerTurn s o r m k      what the request r, answered m, leaves of them in k
 -- Assumes nothing.
 use Rattle.std.proofs.Common.{arith, ◌≡◌, refl, ◌∙◌, Bool, true, false, eq-eqb, ne_eqb, Ok}
+use Rattle.text.specs.Flags.{is_raised}
 use Rattle.text.proofs.Choices.{if_yes, if_no}
 use Rattle.pjlink.specs.declared.command.Half.{Half}
 use Rattle.pjlink.specs.declared.command.Command.TheVariants.{PowerSet}
@@ -36,13 +37,14 @@ module _ (s : Settings) (o : Own) where
   -- a power set passes exactly when the projector is neither at fault nor between on and off
   module _ (wanted : Bool) where
     abbrev OkayOnly : Said → Type 0
-    OkayOnly m = m ≡ okay → (o.fault ≡ false) × (is_between o.power ≡ false)
+    OkayOnly m = m ≡ okay → (is_raised o.fault ≡ false) × (is_between o.power ≡ false)
 
     pub power_set_only : OkayOnly (answer_for s o (Ok (PowerSet wanted)))
     power_set_only =
         refused_or_passed s o (Ok (PowerSet wanted)) (λ m k. OkayOnly m) (λ n e. cc) (λ p e. (p.sound, p.timely))
 
-    pub power_set_passes : o.fault ≡ false → is_between o.power ≡ false → answer_for s o (Ok (PowerSet wanted)) ≡ okay
+    pub power_set_passes : is_raised o.fault ≡ false → is_between o.power ≡ false
+        → answer_for s o (Ok (PowerSet wanted)) ≡ okay
     power_set_passes f b = grind (arith, meant_passed)
 
     pub power_set_done : answer_for s o (Ok (PowerSet wanted)) ≡ okay

@@ -31,7 +31,8 @@ use Rattle.words.specs.declared.lamp.LampHours.{LampHours}
 use Rattle.record.specs.Limits.{off, on, cooling, warming, is_lit, volume_most}
 use Rattle.record.specs.Updates.{with_power_left, with_chosen, with_mutes, with_freeze, with_volumes}
 use Rattle.record.specs.Record.{blank_name}
-use Rattle.record.specs.Views.{power_seen, class_seen}
+use Rattle.text.specs.Flags.{is_raised, flag_of}
+use Rattle.record.specs.Views.{power_seen, class_seen, marks_seen}
 use Rattle.record.specs.declared.views.Power.{Power as PowerSeen}
 use Rattle.record.specs.declared.views.Power.TheVariants.{Off as SeenOff, WarmUp as SeenWarmUp}
 use Rattle.record.specs.declared.views.Power.TheVariants.{On as SeenOn, Cooling as SeenCooling}
@@ -67,7 +68,7 @@ lamps_said lit [] (x ∷ xs) = lamp_said false x ∷ lamps_said lit [] xs
 lamps_said lit (m ∷ marks) (x ∷ xs) = lamp_said (lit && m) x ∷ lamps_said lit marks xs
 
 abbrev pub lamps_of : Settings → Own → List LampHours
-lamps_of s o = lamps_said (is_lit o.power) o.enabled (take s.lamp_count o.lamps)
+lamps_of s o = lamps_said (is_lit o.power) (marks_seen o) (take s.lamp_count o.lamps)
 
 abbrev pub text_said : Text → Said
 text_said t = text_is (take t.len t.bytes)
@@ -82,7 +83,7 @@ input_name_of s i = name_bytes (slice_index_or s.names (place_of s i) blank_name
 abbrev pub query_answer : Settings → Own → Body → Said
 query_answer s o Powr = power_is (power_said (power_seen o))
 query_answer s o Inpt = chosen_is (chosen_of s o)
-query_answer s o Avmt = mutes_are o.video_muted o.audio_muted
+query_answer s o Avmt = mutes_are (is_raised o.video_muted) (is_raised o.audio_muted)
 query_answer s o Erst = errors_are o.errors
 query_answer s o Lamp = lamps_are (lamps_of s o)
 query_answer s o Inst = inputs_are (inputs_of s)
@@ -91,7 +92,7 @@ query_answer s o Inf1 = text_said s.maker
 query_answer s o Inf2 = text_said s.model
 query_answer s o Info = text_said s.other
 query_answer s o Clss = class_is (class_seen s)
-query_answer s o Frez = freeze_is o.frozen
+query_answer s o Frez = freeze_is (is_raised o.frozen)
 query_answer s o Svol = nothing
 query_answer s o Mvol = nothing
 query_answer s o Snum = text_said s.serial
@@ -119,9 +120,9 @@ after_power s o wanted =
 
 -- The unnamed half stays.
 abbrev pub after_mute : Own → Half → Bool → Own
-after_mute o VideoHalf wanted = with_mutes o wanted o.audio_muted
-after_mute o AudioHalf wanted = with_mutes o o.video_muted wanted
-after_mute o BothHalves wanted = with_mutes o wanted wanted
+after_mute o VideoHalf wanted = with_mutes o (flag_of wanted) o.audio_muted
+after_mute o AudioHalf wanted = with_mutes o o.video_muted (flag_of wanted)
+after_mute o BothHalves wanted = with_mutes o (flag_of wanted) (flag_of wanted)
 
 -- a step that can't go further leaves the level
 unfoldable pub level_after : Bool → ℕ → ℕ
@@ -137,7 +138,7 @@ after_command s o (InputSet i) = with_chosen o (place_of s i)
 after_command s o (MuteSet half wanted) = after_mute o half wanted
 after_command s o (Query b) = o
 after_command s o (InputSet2 i) = with_chosen o (place_of s i)
-after_command s o (FreezeSet wanted) = with_freeze o wanted
+after_command s o (FreezeSet wanted) = with_freeze o (flag_of wanted)
 after_command s o (VolumeStep v up) = after_step o v up
 after_command s o (NameQuery i) = o
 

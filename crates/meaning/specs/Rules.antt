@@ -15,6 +15,7 @@ use Rattle.pjlink.specs.declared.command.Command.{Command}
 use Rattle.pjlink.specs.declared.command.Command.TheVariants.{PowerSet, InputSet, Query, InputSet2, NameQuery}
 use Rattle.pjlink.specs.Requests.{Request}
 use Rattle.pjlink.specs.declared.request.Unasked.TheVariants.{Unlisted, UnknownBody}
+use Rattle.text.specs.Flags.{is_raised}
 use Rattle.record.specs.Limits.{on, is_between}
 use Rattle.record.specs.declared.types.Settings.{Settings}
 use Rattle.record.specs.declared.types.Own.{Own}
@@ -48,8 +49,8 @@ is_out_of_parameter s (Ok c) = is_unlisted s c
 -- 3. POWR, INPT, AVMT, set or query, with the fault mark: ERR4. So for FREZ, SVOL and MVOL (RULES, Class 2).
 abbrev pub is_failure : Own → Request → Bool
 is_failure o (Err UnknownBody) = false
-is_failure o (Err (Unlisted b)) = has_set b && o.fault
-is_failure o (Ok c) = has_set (body_of c) && o.fault
+is_failure o (Err (Unlisted b)) = has_set b && is_raised o.fault
+is_failure o (Ok c) = has_set (body_of c) && is_raised o.fault
 
 abbrev pub is_untimely : ℕ → Command → Bool
 is_untimely power (PowerSet wanted) = is_between power

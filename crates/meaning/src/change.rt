@@ -7,6 +7,7 @@ use pjlink::command::{Command, Half, Volume};
 use record::own::{OFF, ON, VOLUME_MOST};
 use record::types::{Own, Settings};
 use record::views::Power;
+use text::flag;
 
 // POWR 1 when off starts warm-up, POWR 0 when on starts cooling; otherwise the power stays, a number of none too.
 #[tactic(auto, unfolding(crate::specs::Meaning::after_power))]
@@ -25,11 +26,11 @@ fn mute(o: &mut Own, half: Half, wanted: bool)
     ensures { o.new ≡ after_mute o.old half wanted }
 {
     match half {
-        Half::VideoHalf => o.video_muted = wanted,
-        Half::AudioHalf => o.audio_muted = wanted,
+        Half::VideoHalf => o.video_muted = flag::of(wanted),
+        Half::AudioHalf => o.audio_muted = flag::of(wanted),
         Half::BothHalves => {
-            o.video_muted = wanted;
-            o.audio_muted = wanted;
+            o.video_muted = flag::of(wanted);
+            o.audio_muted = flag::of(wanted);
         }
     }
 }
@@ -68,7 +69,7 @@ pub fn carry_out(s: &Settings, o: &mut Own, c: Command)
         Command::PowerSet(wanted) => set_power(s, o, wanted),
         Command::InputSet(i) | Command::InputSet2(i) => o.chosen = inputs::place_of(s, i),
         Command::MuteSet(half, wanted) => mute(o, half, wanted),
-        Command::FreezeSet(wanted) => o.frozen = wanted,
+        Command::FreezeSet(wanted) => o.frozen = flag::of(wanted),
         Command::VolumeStep(v, up) => set_level(o, v, up),
         Command::Query(_) | Command::NameQuery(_) => (),
     }

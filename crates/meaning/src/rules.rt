@@ -8,6 +8,7 @@ use crate::inputs;
 use pjlink::command::Command;
 use record::types::{Own, Settings};
 use record::views::Power;
+use text::flag;
 
 fn is_no_query(c: Command) -> bool
     ensures { result ≡ is_no_query c }
@@ -41,7 +42,7 @@ pub fn is_out_of_parameter(s: &Settings, c: Command) -> bool
 pub fn is_failure(o: &Own, c: Command) -> bool
     ensures { result ≡ is_failure o.now (Ok c) }
 {
-    c.body().has_set() && o.fault
+    c.body().has_set() && flag::is_raised(o.fault)
 }
 
 fn is_untimely(power: Power, c: Command) -> bool

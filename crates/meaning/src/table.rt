@@ -1,5 +1,6 @@
 //! What a command that no rule refuses is answered: the table of RULES, Commands.
-ghost use Rattle.std.specs.Prelude.{◌≡◌, take, slice_index_or};
+ghost use Rattle.std.specs.Prelude.{◌≡◌, map, take, slice_index_or};
+ghost use Rattle.text.specs.Flags.{is_raised};
 ghost use Rattle.pjlink.specs.Carried.{value_said};
 ghost use Rattle.record.specs.Record.{blank_name};
 ghost use Rattle.meaning.specs.Meaning.{power_said, lamp_said, lamps_said, name_bytes, query_answer};
@@ -12,7 +13,7 @@ use pjlink::body::Body;
 use pjlink::command::Command;
 use record::types::{INPUTS_MOST, InputName, LAMPS_MOST, Own, Settings, Text};
 use record::views;
-use text::rooms;
+use text::{flag, rooms};
 use words::input::Input;
 use words::lamp::LampHours;
 use words::mutes::Mutes;
@@ -42,19 +43,19 @@ fn lamp_said(lit: bool, seconds: u32) -> LampHours
 }
 
 // The first `count` lamps.
-#[tactic(auto, using(crate::proofs::LampsSaid::none_said, crate::proofs::LampsSaid::one_more_said))]
+#[tactic(auto, using(crate::proofs::LampsSaid::lamps_one_by_one))]
 fn lamps_said(
     seconds: &[u32; LAMPS_MOST],
-    marks: &[bool; LAMPS_MOST],
+    marks: &[u8; LAMPS_MOST],
     count: usize,
     lit: bool,
 ) -> ArrayVec<LampHours, LAMPS_MOST>
-    ensures { result.items ≡ lamps_said lit marks.now (take count seconds.now) }
+    ensures { result.items ≡ lamps_said lit (map is_raised marks.now) (take count seconds.now) }
 {
     let mut lamps = ArrayVec::new();
     let most = count.min(LAMPS_MOST);
     for k in 0..most {
-        lamps.push(lamp_said(lit && marks[k], seconds[k]));
+        lamps.push(lamp_said(lit && flag::is_raised(marks[k]), seconds[k]));
     }
     lamps
 }
@@ -90,8 +91,8 @@ fn query_answer<'a>(s: &'a Settings, o: &Own, b: Body) -> Option<Answer<'a>>
         Body::Powr => Some(Answer::Power(power_said(o.power()))),
         Body::Inpt | Body::Inpt2 => { Some(Answer::Input(inputs::input_at(s, o.chosen))) }
         Body::Avmt => Some(Answer::Mutes(Mutes {
-            video: o.video_muted,
-            audio: o.audio_muted,
+            video: flag::is_raised(o.video_muted),
+            audio: flag::is_raised(o.audio_muted),
         })),
         Body::Erst => Some(Answer::Errors(o.errors)),
         Body::Lamp => {
@@ -104,7 +105,7 @@ fn query_answer<'a>(s: &'a Settings, o: &Own, b: Body) -> Option<Answer<'a>>
         Body::Inf2 => Some(Answer::Text(text_of(&s.model))),
         Body::Info => Some(Answer::Text(text_of(&s.other))),
         Body::Clss => Some(Answer::Class(s.class())),
-        Body::Frez => Some(Answer::Freeze(o.frozen)),
+        Body::Frez => Some(Answer::Freeze(flag::is_raised(o.frozen))),
         Body::Snum => Some(Answer::Text(text_of(&s.serial))),
         Body::Sver => Some(Answer::Text(text_of(&s.version))),
         Body::Svol | Body::Mvol | Body::Innm => None,

@@ -1,6 +1,7 @@
 //! What is proved beside the contracts of the functions. Nothing is done here: that these functions have their
 //! contracts is that the theorems stand.
 ghost use Rattle.std.specs.Prelude.{◌≡◌, Bool, true, false, Result, Ok};
+ghost use Rattle.text.specs.Flags.{is_raised};
 ghost use Rattle.words.specs.Inputs.{is_input};
 ghost use Rattle.words.specs.Powers.{power_code};
 ghost use Rattle.words.specs.declared.input.Input.{Input};
@@ -77,8 +78,8 @@ pub fn the_power_is_answered_by_its_number()
 /// A power set is answered OK exactly where the projector is neither at fault nor between on and off.
 #[tactic(auto, using(crate::proofs::PowerSets::power_set_only, crate::proofs::PowerSets::power_set_passes))]
 pub fn when_a_power_set_passes()
-    ensures passes { (s : Settings) (o : Own) (wanted : Bool) → o.fault ≡ false → is_between o.power ≡ false
+    ensures passes { (s : Settings) (o : Own) (wanted : Bool) → is_raised o.fault ≡ false → is_between o.power ≡ false
         → answer_for s o (Ok (PowerSet wanted)) ≡ okay }
     ensures only { (s : Settings) (o : Own) (wanted : Bool) → answer_for s o (Ok (PowerSet wanted)) ≡ okay
-        → (o.fault ≡ false) × (is_between o.power ≡ false) }
+        → (is_raised o.fault ≡ false) × (is_between o.power ≡ false) }
 {}

@@ -2,6 +2,7 @@
 -- ERRA line and a second greeting with no command under way, and a second greeting with one.
 -- Assumes nothing.
 use Rattle.std.proofs.Common.{arith, ℕ, ◌≡◌, refl, ap, false, List}
+use Rattle.text.specs.Flags.{is_raised}
 use Rattle.text.specs.Scans.{same_by, itself}
 use Rattle.pjlink.specs.Computing.{computing as pjlink}
 use Rattle.pjlink.specs.Commands.{command_class}
@@ -20,7 +21,7 @@ module _ (e : Entry) where
   pub erra_before_greeting : e.greeting ≡ ungreeted → heard_line e erra_line ≡ with_stray e
   erra_before_greeting g = grind (arith, stray_steps, greeting_refused)
 
-  module _ (greeted : e.greeting ≡ ungreeted → ⊥) (rests : e.under_way ≡ false) where
+  module _ (greeted : e.greeting ≡ ungreeted → ⊥) (rests : is_raised e.under_way ≡ false) where
     pub erra_late : heard_line e erra_line ≡ with_stray e
     erra_late = step_late e erra_line greeted rests
 

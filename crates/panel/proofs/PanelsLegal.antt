@@ -1,12 +1,11 @@
 -- A legal panel stays legal, whatever call is made and whatever line comes.
 -- Assumes nothing.
 use Rattle.std.specs.List.{list_all}
-use Rattle.std.proofs.Common.{ℕ, suc, ◌<◌, ◌≤◌, ◌≡◌, refl, sym, ap, subst, ◌∙◌, Bool, true, false, List, [], arith}
-use Rattle.std.proofs.Common.{add-one, length, slice_index_or, set, drop, replicate, length-set, drop-cons, drop-set-lt}
+use Rattle.std.proofs.Common.{ℕ, suc, ◌<◌, ◌≤◌, ◌≡◌, refl, sym, ap, subst, ◌∙◌, true, false, List, [], arith}
+use Rattle.std.proofs.Common.{add-one, length, slice_index_or, drop, length-set, drop-cons, drop-set-lt}
 use Rattle.std.proofs.lemmas.List.{length-replicate}
-use Rattle.std.proofs.lemmas.List.Elements.{All-set, All-replicate}
-use Rattle.std.proofs.lemmas.List.Sums.{AllPass-from_list_all, list_all-from_AllPass}
 use Rattle.text.proofs.Choices.{both_right}
+use Rattle.text.proofs.Scanning.{list_all-set, list_all-replicate}
 use Rattle.words.specs.Texts.{is_password}
 use Rattle.words.proofs.TextsTold.{password_long}
 use Rattle.words.proofs.WithinLength.{password_within}
@@ -33,14 +32,6 @@ use Rattle.panel.proofs.TalksTold.{is_talk-rested_on, is_talk-sent_on, begun_leg
 use Rattle.panel.proofs.ShownLegal.{said_shown, nothing_shown_legal}
 use Rattle.panel.proofs.StepsByTable.{steps_by_the_table}
 use Rattle.panel.proofs.Cases.{added_by, stepped_by, lost_by}
-
-module _ {A : Type 0} (f : A → Bool) where
-  list_all-set : (l : List A) (i : ℕ) (x : A) → list_all f l ≡ true → f x ≡ true → list_all f (set l i x) ≡ true
-  list_all-set l i x h k =
-      list_all-from_AllPass f (set l i x) (All-set (λ a. f a ≡ true) l i x k (AllPass-from_list_all f l h))
-
-  list_all-replicate : (n : ℕ) (x : A) → f x ≡ true → list_all f (replicate n x) ≡ true
-  list_all-replicate n x h = list_all-from_AllPass f (replicate n x) (All-replicate (λ a. f a ≡ true) n x h)
 
 -- an entry that keeps its password
 module _ (e : Entry) (legal : is_entry e ≡ true) where

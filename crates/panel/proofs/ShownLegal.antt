@@ -2,9 +2,12 @@
 -- was.
 -- Assumes nothing.
 use Rattle.std.specs.List.{list_all}
-use Rattle.std.proofs.Common.{ℕ, ◌≤◌, ◌≡◌, refl, sym, subst, Bool, true, false, not, ◌&&◌, List, []}
+use Rattle.std.proofs.Common.{ℕ, ◌≤◌, ◌≡◌, refl, sym, ◌∙◌, subst, Bool, true, false, ◌&&◌, List, []}
 use Rattle.std.proofs.Common.{map, arith, length, nat_le, ◌==◌}
-use Rattle.std.proofs.lemmas.List.{length-map}
+use Rattle.std.proofs.lemmas.List.{length-map, map-append}
+use Rattle.text.proofs.Choices.{both}
+use Rattle.text.proofs.FlagsTold.{flags_legal, lowered_replicate}
+use Rattle.text.specs.Flags.{is_flag, is_lowered, is_raised, flag_of}
 use Rattle.text.specs.Rooms.{filled_room, Uses}
 use Rattle.text.proofs.RoomsTold.{uses_told, kept_used}
 use Rattle.text.proofs.Scanning.{list_all-map}
@@ -28,9 +31,10 @@ use Rattle.panel.proofs.PanelsTold.{room_told}
 
 -- the parts of is_shown
 pub record ShownTold (s : Shown) : Type 0 where
-  pub power : is_power_shown s.power_known s.power ≡ true
-  pub input : is_input_shown s.input_known s.input_type s.input_number ≡ true
-  pub lamps : shows_lamps s.lamps_known s.lamp_count s.hours s.lit ≡ true
+  pub power : is_power_shown (is_raised s.power_known) s.power ≡ true
+  pub input : is_input_shown (is_raised s.input_known) s.input_type s.input_number ≡ true
+  pub lamps : shows_lamps (is_raised s.lamps_known) s.lamp_count s.hours s.lit ≡ true
+  pub flags : (is_flag s.power_known && is_flag s.input_known && is_flag s.lamps_known) ≡ true
 
 module _ (s : Shown) where
   pub shown_told : is_shown s ≡ true → ShownTold s
@@ -39,7 +43,7 @@ module _ (s : Shown) where
 
   shown_legal : ShownTold s → is_shown s ≡ true
   unfolding is_shown
-  shown_legal k = grind (arith, k.power, k.input, k.lamps)
+  shown_legal k = grind (arith, k.power, k.input, k.lamps, k.flags)
 
 is_power_shown-power_at_face : (p : Power) → is_power_shown true (power_at_face p) ≡ true
 unfolding is_power_shown
@@ -59,10 +63,19 @@ room_used blank x rule xs long few blanks follows =
     (kept_used blank x lamps_carried rule xs few blanks follows)
 
 module _ (n : ℕ) (few : n ≤ lamps_carried) where
-  lit_shown : (bs : List Bool) → n ≡ length bs → is_lit_room (filled_room false lamps_carried bs) n ≡ true
+  -- the flags of the room are the room of the flags
+  flags_room : (bs : List Bool)
+      → map flag_of (filled_room false lamps_carried bs) ≡ filled_room 0 lamps_carried (map flag_of bs)
+  flags_room bs = grind (arith, map-append, lowered_replicate, length-map)
+
+  lit_shown : (bs : List Bool) → n ≡ length bs → is_lit_room (map flag_of (filled_room false lamps_carried bs)) n ≡ true
   unfolding is_lit_room
   lit_shown bs long =
-      (room_told not lamps_carried _ n).1 (room_used not false (λ _. true) bs long (omega arith) refl refl)
+      let many = length-map bs flag_of in
+      let room =
+      room_used is_lowered 0 (λ _. true) (map flag_of bs) (long ∙ sym many) (omega (arith, many)) refl refl in
+      let used = subst (λ (l : List ℕ). Uses is_lowered lamps_carried (λ _. true) l n) (sym (flags_room bs)) room in
+      both ((room_told is_lowered lamps_carried _ n).1 used) (flags_legal (filled_room false lamps_carried bs))
 
   hours_shown : (hs : List ℕ) → n ≡ length hs → is_hours hs ≡ true
       → is_hours_room (filled_room 0 lamps_carried hs) n ≡ true
@@ -70,7 +83,7 @@ module _ (n : ℕ) (few : n ≤ lamps_carried) where
 
 lamps_shown : (ls : List LampHours) → 1 ≤ length ls → length ls ≤ lamps_carried → list_all is_lamp_hours ls ≡ true
     → shows_lamps true (length ls) (filled_room 0 lamps_carried (map hours_of ls))
-    (filled_room false lamps_carried (map lit_of ls)) ≡ true
+    (map flag_of (filled_room false lamps_carried (map lit_of ls))) ≡ true
 unfolding shows_lamps is_lamp_count
 lamps_shown ls low high e = grind (arith, hours_shown, length-map, list_all-map, lit_shown)
 

@@ -4,6 +4,7 @@
 use Rattle.std.proofs.Common.{ℕ, ◌≡◌, refl, sym, ap, ◌∙◌, true, false, not, List, arith, eqb-true, eq-eqb, ne_eqb}
 use Rattle.std.proofs.lemmas.Bool.{eqb-false, not-true, not-false}
 use Rattle.std.specs.Prelude.{Option, Some, None, is_some}
+use Rattle.text.specs.Flags.{is_raised}
 use Rattle.text.proofs.Choices.{if_yes, if_no, if_by}
 use Rattle.pjlink.specs.declared.command.Command.{Command}
 use Rattle.pjlink.specs.Said.{Said}
@@ -27,8 +28,8 @@ use Rattle.panel.proofs.TalksTold.{is_some-coded_command}
 module _ (e : Entry) (l : List ℕ) where
   pub step_by : (P : Entry → Type 0)
       → (e.greeting ≡ ungreeted → P (greeted_as e (read_greeting l)))
-      → ((e.greeting ≡ ungreeted → ⊥) → e.under_way ≡ false → P (with_stray e))
-      → ((e.greeting ≡ ungreeted → ⊥) → e.under_way ≡ true → P (replied_to e (coded_command e.command) l))
+      → ((e.greeting ≡ ungreeted → ⊥) → is_raised e.under_way ≡ false → P (with_stray e))
+      → ((e.greeting ≡ ungreeted → ⊥) → is_raised e.under_way ≡ true → P (replied_to e (coded_command e.command) l))
       → P (heard_line e l)
   unfolding heard_line
   step_by P greets rests waits = grind (arith, if_by, eqb-true, eqb-false, not-true, not-false)
@@ -37,7 +38,7 @@ module _ (e : Entry) (l : List ℕ) where
   unfolding heard_line
   step_greets g = if_yes _ _ (eq-eqb e.greeting ungreeted g)
 
-  pub step_late : (e.greeting ≡ ungreeted → ⊥) → e.under_way ≡ false → heard_line e l ≡ with_stray e
+  pub step_late : (e.greeting ≡ ungreeted → ⊥) → is_raised e.under_way ≡ false → heard_line e l ≡ with_stray e
   unfolding heard_line
   step_late g w = if_no _ _ (ne_eqb e.greeting ungreeted g) ∙ if_yes _ _ (ap not w)
 
@@ -83,7 +84,8 @@ module _ (e : Entry) (l : List ℕ) where
       step_by (StepTo e l) (λ g. greeting_row g (read_greeting l) refl) (λ g w. strays (late g w))
       (λ g w. by g w (coded_command e.command) refl)
     where
-      by : (e.greeting ≡ ungreeted → ⊥) → e.under_way ≡ true → (m : Option Command) → coded_command e.command ≡ m
+      by : (e.greeting ≡ ungreeted → ⊥) → is_raised e.under_way ≡ true → (m : Option Command)
+          → coded_command e.command ≡ m
           → StepTo e l (replied_to e m l)
       by g w (Some c) a =
           reply_row c (record { greeted = g; waits = w; asked = a }) (read_reply c l).outcome (read_reply c l).said refl

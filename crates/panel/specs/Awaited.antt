@@ -3,6 +3,7 @@
 --   awaits_of e                    what is awaited of the projector
 -- Assumes nothing.
 use Rattle.std.specs.Prelude.{if◌then◌else◌, ◌==◌}
+use Rattle.text.specs.Flags.{is_raised}
 use Rattle.panel.specs.Entries.{Talk, ungreeted, greeted_open, greeted_secured, greeted_by, no_talk}
 use Rattle.panel.specs.declared.types.Entry.{Entry}
 use Rattle.panel.specs.declared.talk.Greeted.{Greeted}
@@ -18,5 +19,5 @@ talk_begun (Secured random) = greeted_by greeted_secured random
 abbrev pub awaits_of : Entry → Awaits
 awaits_of e =
     if e.greeting == ungreeted then Greeting
-    else if e.under_way then Reply e.command
+    else if is_raised e.under_way then Reply e.command
     else Nothing

@@ -14,7 +14,8 @@
 --   fresh_entry s        a projector just added, with the password s
 --   blank_entry          all zero
 -- Assumes nothing.
-use Rattle.std.specs.Prelude.{ℕ, Bool, true, false, not, ◌&&◌, List, take, replicate, ◌==◌}
+use Rattle.std.specs.Prelude.{ℕ, Bool, not, ◌&&◌, List, take, replicate, ◌==◌}
+use Rattle.text.specs.Flags.{is_raised, flag_of}
 use Rattle.pjlink.specs.Carried.{lamps_carried}
 use Rattle.codes.specs.Commands.{code_with}
 use Rattle.codes.specs.declared.command.Coded.{Coded}
@@ -25,20 +26,20 @@ use Rattle.panel.specs.declared.types.Entry.{Entry}
 pub record Talk : Type 0 where
   pub greeting : ℕ
   pub random : ℕ
-  pub led : Bool
-  pub under_way : Bool
+  pub led : ℕ
+  pub under_way : ℕ
   pub command : Coded
 
 pub record Shown : Type 0 where
-  pub power_known : Bool
-  pub input_known : Bool
-  pub lamps_known : Bool
+  pub power_known : ℕ
+  pub input_known : ℕ
+  pub lamps_known : ℕ
   pub power : ℕ
   pub input_type : ℕ
   pub input_number : ℕ
   pub lamp_count : ℕ
   pub hours : List ℕ
-  pub lit : List Bool
+  pub lit : List ℕ
 
 -- the greeting: none yet, `PJLINK 0`, `PJLINK 1`
 abbrev pub ungreeted : ℕ
@@ -99,7 +100,7 @@ abbrev pub none_coded : Coded
 none_coded = code_with 0 0 0
 
 abbrev pub greeted_by : ℕ → ℕ → Talk
-greeted_by n r = record { greeting = n; random = r; led = false; under_way = false; command = none_coded }
+greeted_by n r = record { greeting = n; random = r; led = 0; under_way = 0; command = none_coded }
 
 abbrev pub no_talk : Talk
 no_talk = greeted_by ungreeted 0
@@ -108,14 +109,14 @@ abbrev pub is_secured_talk : Talk → Bool
 is_secured_talk t = t.greeting == greeted_secured
 
 abbrev pub leads_next : Talk → Bool
-leads_next t = is_secured_talk t && not t.led
+leads_next t = is_secured_talk t && not (is_raised t.led)
 
 abbrev pub sent_on : Talk → Coded → Talk
 sent_on t k = record {
   greeting = t.greeting;
   random = t.random;
-  led = is_secured_talk t;
-  under_way = true;
+  led = flag_of (is_secured_talk t);
+  under_way = 1;
   command = k;
 }
 
@@ -124,22 +125,22 @@ rested_on t = record {
   greeting = t.greeting;
   random = t.random;
   led = t.led;
-  under_way = false;
+  under_way = 0;
   command = none_coded;
 }
 
 -- no lamps: rooms of their own, all zero
 abbrev pub nothing_shown : Shown
 nothing_shown = record {
-  power_known = false;
-  input_known = false;
-  lamps_known = false;
+  power_known = 0;
+  input_known = 0;
+  lamps_known = 0;
   power = 0;
   input_type = 0;
   input_number = 0;
   lamp_count = 0;
   hours = replicate lamps_carried 0;
-  lit = replicate lamps_carried false;
+  lit = replicate lamps_carried 0;
 }
 
 abbrev pub fresh_entry : List ℕ → Entry

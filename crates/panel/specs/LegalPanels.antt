@@ -9,6 +9,7 @@
 -- Assumes nothing.
 use Rattle.std.specs.List.{list_all}
 use Rattle.std.specs.Prelude.{ℕ, ◌==◌, Bool, not, ◌&&◌, ◌||◌, List, if◌then◌else◌, is_some, nat_le}
+use Rattle.text.specs.Flags.{is_flag, is_lowered, is_raised}
 use Rattle.text.specs.Rooms.{used_part, holds}
 use Rattle.pjlink.specs.Carried.{lamps_carried}
 use Rattle.words.specs.Numerals.{hours_most}
@@ -28,12 +29,13 @@ is_none_coded k = k.code == 0 && k.first == 0 && k.second == 0
 
 unfoldable pub is_command_kept : Talk → Bool
 is_command_kept t =
-    if t.under_way then not (t.greeting == ungreeted) && is_some (coded_command t.command)
+    if is_raised t.under_way then not (t.greeting == ungreeted) && is_some (coded_command t.command)
     else is_none_coded t.command
 
 unfoldable pub is_talk : Talk → Bool
 is_talk t =
-    nat_le t.greeting greeted_secured && (is_secured_talk t || (t.random == 0 && not t.led)) && is_command_kept t
+    nat_le t.greeting greeted_secured && (is_secured_talk t || (t.random == 0 && is_lowered t.led))
+    && is_flag t.led && is_flag t.under_way && is_command_kept t
 
 unfoldable pub is_power_shown : Bool → ℕ → Bool
 is_power_shown known power = if known then nat_le power 3 else power == 0
@@ -52,17 +54,19 @@ is_hours hs = list_all (λ h. nat_le h hours_most) hs
 abbrev pub is_hours_room : List ℕ → ℕ → Bool
 is_hours_room hours count = holds is_hours (used_part (λ x. x == 0) lamps_carried hours count)
 
-unfoldable pub is_lit_room : List Bool → ℕ → Bool
-is_lit_room lit count = is_some (used_part not lamps_carried lit count)
+unfoldable pub is_lit_room : List ℕ → ℕ → Bool
+is_lit_room lit count = is_some (used_part is_lowered lamps_carried lit count) && list_all is_flag lit
 
-unfoldable pub shows_lamps : Bool → ℕ → List ℕ → List Bool → Bool
+unfoldable pub shows_lamps : Bool → ℕ → List ℕ → List ℕ → Bool
 shows_lamps known count hours lit =
     is_lamp_count known count && is_hours_room hours count && is_lit_room lit count
 
 unfoldable pub is_shown : Shown → Bool
 is_shown s =
-    is_power_shown s.power_known s.power && is_input_shown s.input_known s.input_type s.input_number
-    && shows_lamps s.lamps_known s.lamp_count s.hours s.lit
+    is_power_shown (is_raised s.power_known) s.power
+    && is_input_shown (is_raised s.input_known) s.input_type s.input_number
+    && shows_lamps (is_raised s.lamps_known) s.lamp_count s.hours s.lit
+    && is_flag s.power_known && is_flag s.input_known && is_flag s.lamps_known
 
 unfoldable pub is_entry : Entry → Bool
 is_entry e =
@@ -70,8 +74,8 @@ is_entry e =
 
 unfoldable pub is_unused : Entry → Bool
 is_unused e =
-    e.password.len == 0 && e.greeting == ungreeted && not e.power_known && not e.input_known
-    && not e.lamps_known && e.strays == 0
+    e.password.len == 0 && e.greeting == ungreeted && is_lowered e.power_known && is_lowered e.input_known
+    && is_lowered e.lamps_known && e.strays == 0
 
 unfoldable pub is_panel : Panel → Bool
 is_panel p = is_some (used_part is_unused panel_most p.entries p.count) && list_all is_entry p.entries

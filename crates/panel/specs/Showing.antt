@@ -3,7 +3,8 @@
 --   with_power_shown, with_input_shown, with_lamps_shown   what is shown, with that known besides
 --   showing s m          what was said is shown: a power, an input or lamps; anything else changes nothing
 -- Assumes nothing.
-use Rattle.std.specs.Prelude.{ℕ, Bool, true, false, List, map, length}
+use Rattle.std.specs.Prelude.{ℕ, false, List, map, length}
+use Rattle.text.specs.Flags.{flag_of}
 use Rattle.pjlink.specs.Said.{Said, power_is, chosen_is, lamps_are}
 use Rattle.pjlink.specs.Carried.{lamps_carried}
 use Rattle.codes.specs.Commands.{source_number}
@@ -14,7 +15,7 @@ use Rattle.panel.specs.Entries.{Shown}
 module _ (s : Shown) where
   abbrev pub with_power_shown : ℕ → Shown
   with_power_shown p = record {
-    power_known = true;
+    power_known = 1;
     input_known = s.input_known;
     lamps_known = s.lamps_known;
     power = p;
@@ -28,7 +29,7 @@ module _ (s : Shown) where
   abbrev pub with_input_shown : (type number : ℕ) → Shown
   with_input_shown type number = record {
     power_known = s.power_known;
-    input_known = true;
+    input_known = 1;
     lamps_known = s.lamps_known;
     power = s.power;
     input_type = type;
@@ -38,11 +39,11 @@ module _ (s : Shown) where
     lit = s.lit;
   }
 
-  abbrev pub with_lamps_shown : (count : ℕ) (hours : List ℕ) (lit : List Bool) → Shown
+  abbrev pub with_lamps_shown : (count : ℕ) (hours : List ℕ) (lit : List ℕ) → Shown
   with_lamps_shown count hours lit = record {
     power_known = s.power_known;
     input_known = s.input_known;
-    lamps_known = true;
+    lamps_known = 1;
     power = s.power;
     input_type = s.input_type;
     input_number = s.input_number;
@@ -55,5 +56,5 @@ module _ (s : Shown) where
   showing (power_is p) = with_power_shown (power_at_face p)
   showing (chosen_is i) = with_input_shown (source_number i.source) i.number
   showing (lamps_are ls) = with_lamps_shown (length ls) (filled_room 0 lamps_carried (map hours_of ls))
-      (filled_room false lamps_carried (map lit_of ls))
+      (map flag_of (filled_room false lamps_carried (map lit_of ls)))
   showing m = s

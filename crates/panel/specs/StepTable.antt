@@ -5,6 +5,7 @@
 --   StepTo e l f       the rows
 -- Assumes nothing.
 use Rattle.std.specs.Prelude.{ℕ, ◌≡◌, Bool, true, false, List, Option, Some}
+use Rattle.text.specs.Flags.{is_raised}
 use Rattle.pjlink.specs.Forms.{erra_line}
 use Rattle.pjlink.specs.declared.command.Command.{Command}
 use Rattle.pjlink.specs.Said.{Said}
@@ -24,12 +25,12 @@ is_greeting g = false
 
 pub record IsUnderWay (e : Entry) (c : Command) : Type 0 where
   pub greeted : e.greeting ≡ ungreeted → ⊥
-  pub waits : e.under_way ≡ true
+  pub waits : is_raised e.under_way ≡ true
   pub asked : coded_command e.command ≡ Some c
 
 pub data IsStray (e : Entry) (l : List ℕ) : Type 0 where
   ungreeted_malformed : e.greeting ≡ ungreeted → is_greeting (read_greeting l) ≡ false → IsStray e l
-  late : (e.greeting ≡ ungreeted → ⊥) → e.under_way ≡ false → IsStray e l
+  late : (e.greeting ≡ ungreeted → ⊥) → is_raised e.under_way ≡ false → IsStray e l
   malformed : (c : Command) → IsUnderWay e c → reading_outcome_number (read_reply c l).outcome ≡ 10 → IsStray e l
   foreign : (c : Command) → IsUnderWay e c → reading_outcome_number (read_reply c l).outcome ≡ 11 → IsStray e l
   not_allowed : (c : Command) → IsUnderWay e c → reading_outcome_number (read_reply c l).outcome ≡ 12 → IsStray e l

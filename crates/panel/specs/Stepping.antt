@@ -14,6 +14,7 @@
 -- Lines are read by the controller's own readers, read_greeting and read_reply, and written by its writer.
 -- Assumes nothing.
 use Rattle.std.specs.Prelude.{ℕ, ◌+◌, min, Bool, not, ◌||◌, List, [], if◌then◌else◌, Option, Some, None, ◌==◌}
+use Rattle.text.specs.Flags.{is_raised}
 use Rattle.pjlink.specs.declared.command.Command.{Command}
 use Rattle.pjlink.specs.Said.{Said}
 use Rattle.pjlink.specs.Greetings.{read_greeting}
@@ -73,11 +74,11 @@ replied_to e None l = with_stray e
 unfoldable pub heard_line : Entry → List ℕ → Entry
 heard_line e l =
     if e.greeting == ungreeted then greeted_as e (read_greeting l)
-    else if not e.under_way then with_stray e
+    else if not (is_raised e.under_way) then with_stray e
     else replied_to e (coded_command e.command) l
 
 abbrev pub is_unready : Entry → Bool
-is_unready e = e.greeting == ungreeted || e.under_way
+is_unready e = e.greeting == ungreeted || is_raised e.under_way
 
 unfoldable pub command_sent : Entry → Command → ℕ → List ℕ
 command_sent e c room = (written_command c (leads_next (talk_of e)) e.random (password_in e) room).bytes

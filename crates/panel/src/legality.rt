@@ -2,6 +2,7 @@
 // not under way or past a count is zero.
 ghost use Rattle.std.specs.List.{list_all};
 ghost use Rattle.std.specs.Prelude.{◌≡◌};
+ghost use Rattle.text.specs.Flags.{is_raised};
 ghost use Rattle.panel.specs.Entries.{talk_of, shown_of};
 ghost use Rattle.panel.specs.LegalPanels.{is_command_kept, is_talk, is_power_shown, is_input_shown, is_lamp_count};
 ghost use Rattle.panel.specs.LegalPanels.{is_hours, is_hours_room, is_lit_room, shows_lamps, is_shown};
@@ -9,8 +10,8 @@ ghost use Rattle.panel.specs.LegalPanels.{is_entry, is_unused, is_panel};
 
 use crate::talk::{GREETED_SECURED, UNGREETED};
 use crate::types::{Entry, HOURS_MOST, LAMPS_MOST, Panel, STRAYS_MOST};
-use text::rooms;
 use text::rooms::Blank;
+use text::{flag, rooms};
 
 fn are_hours(hours: &[u32]) -> bool
     ensures { result ≡ is_hours hours.now }
@@ -25,10 +26,10 @@ fn is_hours_room(hours: &[u32; LAMPS_MOST], count: usize) -> bool
 }
 
 #[tactic(auto, unfolding(crate::specs::LegalPanels::is_lit_room))]
-fn is_lit_room(lit: &[bool; LAMPS_MOST], count: usize) -> bool
+fn is_lit_room(lit: &[u8; LAMPS_MOST], count: usize) -> bool
     ensures { result ≡ is_lit_room lit.now count }
 {
-    rooms::used(lit, count).is_some()
+    rooms::used(lit, count).is_some() && flag::are_flags(lit)
 }
 
 impl Entry {
@@ -37,7 +38,7 @@ impl Entry {
     fn is_command_kept(&self) -> bool
         ensures { result ≡ is_command_kept (talk_of self.now) }
     {
-        if self.under_way {
+        if flag::is_raised(self.under_way) {
             return self.greeting != UNGREETED && self.command.command().is_some();
         }
         self.command.code == 0 && self.command.first == 0 && self.command.second == 0
@@ -49,15 +50,17 @@ impl Entry {
         ensures { result ≡ is_talk (talk_of self.now) }
     {
         self.greeting <= GREETED_SECURED
-            && (self.greeting == GREETED_SECURED || (self.random == 0 && !self.led))
+            && (self.greeting == GREETED_SECURED || (self.random == 0 && self.led == 0))
+            && flag::is_flag(self.led)
+            && flag::is_flag(self.under_way)
             && self.is_command_kept()
     }
 
     #[tactic(auto, unfolding(crate::specs::LegalPanels::is_power_shown))]
     fn is_power_shown(&self) -> bool
-        ensures { result ≡ is_power_shown self.now.power_known self.now.power }
+        ensures { result ≡ is_power_shown (is_raised self.now.power_known) self.now.power }
     {
-        if self.power_known {
+        if flag::is_raised(self.power_known) {
             return self.power <= 3;
         }
         self.power == 0
@@ -65,10 +68,10 @@ impl Entry {
 
     #[tactic(auto, unfolding(crate::specs::LegalPanels::is_input_shown))]
     fn is_input_shown(&self) -> bool
-        ensures { result ≡ is_input_shown self.now.input_known self.now.input_type
+        ensures { result ≡ is_input_shown (is_raised self.now.input_known) self.now.input_type
             self.now.input_number }
     {
-        if self.input_known {
+        if flag::is_raised(self.input_known) {
             return 1 <= self.input_type
                 && self.input_type <= 6
                 && 1 <= self.input_number
@@ -79,9 +82,9 @@ impl Entry {
 
     #[tactic(auto, unfolding(crate::specs::LegalPanels::is_lamp_count))]
     fn is_lamp_count(&self) -> bool
-        ensures { result ≡ is_lamp_count self.now.lamps_known self.now.lamp_count }
+        ensures { result ≡ is_lamp_count (is_raised self.now.lamps_known) self.now.lamp_count }
     {
-        if self.lamps_known {
+        if flag::is_raised(self.lamps_known) {
             return 1 <= self.lamp_count && self.lamp_count <= LAMPS_MOST;
         }
         self.lamp_count == 0
@@ -89,7 +92,7 @@ impl Entry {
 
     #[tactic(auto, unfolding(crate::specs::LegalPanels::shows_lamps))]
     fn is_lamps_shown(&self) -> bool
-        ensures { result ≡ shows_lamps self.now.lamps_known self.now.lamp_count
+        ensures { result ≡ shows_lamps (is_raised self.now.lamps_known) self.now.lamp_count
             self.now.hours self.now.lit }
     {
         self.is_lamp_count()
@@ -102,7 +105,12 @@ impl Entry {
     fn is_shown(&self) -> bool
         ensures { result ≡ is_shown (shown_of self.now) }
     {
-        self.is_power_shown() && self.is_input_shown() && self.is_lamps_shown()
+        self.is_power_shown()
+            && self.is_input_shown()
+            && self.is_lamps_shown()
+            && flag::is_flag(self.power_known)
+            && flag::is_flag(self.input_known)
+            && flag::is_flag(self.lamps_known)
     }
 
     /// Whether the entry is legal.
@@ -122,9 +130,9 @@ impl Blank for Entry {
     fn is_blank(&self) -> bool {
         self.password.len == 0
             && self.greeting == UNGREETED
-            && !self.power_known
-            && !self.input_known
-            && !self.lamps_known
+            && self.power_known == 0
+            && self.input_known == 0
+            && self.lamps_known == 0
             && self.strays == 0
     }
 }

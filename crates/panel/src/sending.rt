@@ -8,6 +8,7 @@ use crate::types::Entry;
 use codes::command::Coded;
 use controller::writing;
 use pjlink::command::Command;
+use text::flag;
 
 impl Entry {
     /// The line of the command, which the code stands for, from the start of the lent memory, led by the digest where
@@ -21,13 +22,13 @@ impl Entry {
     {
         let secured = self.is_secured();
         let password = &self.password.bytes[0..self.password.len];
-        let leads = secured && !self.led;
+        let leads = secured && !flag::is_raised(self.led);
         let length = match writing::write_command(command, leads, self.random, password, out) {
             Ok(length) => length,
             Err(_) => 0,
         };
-        self.led = secured;
-        self.under_way = true;
+        self.led = flag::of(secured);
+        self.under_way = 1;
         self.command = coded;
         length
     }

@@ -10,6 +10,7 @@ use crate::types::{Entry, LAMPS_MOST};
 use codes::lists::FlatLamps;
 use codes::readings;
 use pjlink::answer::{Answer, Reply};
+use text::flag;
 use words::input::Input;
 use words::lamp::LampHours;
 use words::power::Power;
@@ -19,28 +20,28 @@ impl Entry {
     pub(crate) fn show_nothing(&mut self)
         ensures { self.new ≡ with_shown self.old nothing_shown }
     {
-        self.power_known = false;
-        self.input_known = false;
-        self.lamps_known = false;
+        self.power_known = 0;
+        self.input_known = 0;
+        self.lamps_known = 0;
         self.power = 0;
         self.input_type = 0;
         self.input_number = 0;
         self.lamp_count = 0;
         self.hours = [0; LAMPS_MOST];
-        self.lit = [false; LAMPS_MOST];
+        self.lit = [0; LAMPS_MOST];
     }
 
     fn show_power(&mut self, power: Power)
         ensures { self.new ≡ with_shown self.old (showing (shown_of self.old) (power_is power)) }
     {
-        self.power_known = true;
+        self.power_known = 1;
         self.power = readings::power_number(power);
     }
 
     fn show_input(&mut self, input: Input)
         ensures { self.new ≡ with_shown self.old (showing (shown_of self.old) (chosen_is input)) }
     {
-        self.input_known = true;
+        self.input_known = 1;
         self.input_type = readings::source_number(input.source);
         self.input_number = input.number;
     }
@@ -50,10 +51,10 @@ impl Entry {
         ensures { self.new ≡ with_shown self.old (showing (shown_of self.old) (lamps_are lamps.now)) }
     {
         let FlatLamps { count, hours, lit } = FlatLamps::of(lamps);
-        self.lamps_known = true;
+        self.lamps_known = 1;
         self.lamp_count = count;
         self.hours = hours;
-        self.lit = lit;
+        self.lit = flag::flags(&lit);
     }
 
     /// What an accepted reply says is shown: a power, an input or lamps; anything else changes nothing.

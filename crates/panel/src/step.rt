@@ -55,7 +55,7 @@ impl Entry {
     fn rest(&mut self)
         ensures { self.new ≡ with_talk self.old (rested_on (talk_of self.old)) }
     {
-        self.under_way = false;
+        self.under_way = 0;
         self.command = NO_COMMAND;
     }
 

@@ -6,6 +6,7 @@ ghost use Rattle.panel.specs.Awaited.{awaits_of, talk_begun};
 
 use crate::types::{Entry, NO_COMMAND};
 use codes::command::Coded;
+use text::flag;
 
 /// `Entry::greeting`: none yet.
 pub const UNGREETED: u8 = 0;
@@ -57,8 +58,8 @@ impl Entry {
         };
         self.greeting = greeting;
         self.random = random;
-        self.led = false;
-        self.under_way = false;
+        self.led = 0;
+        self.under_way = 0;
         self.command = NO_COMMAND;
     }
 
@@ -69,7 +70,7 @@ impl Entry {
         if self.greeting == UNGREETED {
             return Awaits::Greeting;
         }
-        if self.under_way {
+        if flag::is_raised(self.under_way) {
             return Awaits::Reply(self.command);
         }
         Awaits::Nothing

@@ -2,6 +2,7 @@
 // is that the theorems stand.
 ghost use Rattle.std.specs.Prelude.{[], ◌≡◌, ◌≢◌, ◌≤◌, ◌<◌, ◌++◌, List, ℕ, Some, true, false, not, length};
 ghost use Rattle.std.specs.List.{list_all};
+ghost use Rattle.text.specs.Flags.{is_raised};
 ghost use Rattle.text.specs.Rows.{first_of};
 ghost use Rattle.text.specs.Scans.{same_by, itself};
 ghost use Rattle.text.specs.Words.{over};
@@ -40,9 +41,9 @@ pub fn a_line_steps_by_the_table()
 #[tactic(auto, using(crate::proofs::Examples::counted_strays))]
 pub fn strays_are_counted()
     ensures erra_before_greeting { (e : Entry) → e.greeting ≡ ungreeted → heard_line e erra_line ≡ with_stray e }
-    ensures erra_late { (e : Entry) → e.greeting ≢ ungreeted → e.under_way ≡ false
+    ensures erra_late { (e : Entry) → e.greeting ≢ ungreeted → is_raised e.under_way ≡ false
         → heard_line e erra_line ≡ with_stray e }
-    ensures greeting_late { (e : Entry) → e.greeting ≢ ungreeted → e.under_way ≡ false
+    ensures greeting_late { (e : Entry) → e.greeting ≢ ungreeted → is_raised e.under_way ≡ false
         → heard_line e greeting_open ≡ with_stray e }
     ensures unformed { (e : Entry) (c : Command) → IsUnderWay e c → (l : List ℕ)
         → same_by itself l erra_line ≡ false → is_reply_form (command_class c) l ≡ false

@@ -1,4 +1,5 @@
-// The panel's record (RULES, Panel): numbers, bools, arrays and structs of these, so that it can cross to C. What is
+// The panel's record (RULES, Panel): numbers, arrays and structs of these, so that it can cross to C and any
+// bytes of it are a panel; a flag is 0 or 1 in a legal panel, and raised where it is not 0 (`text::flag`). What is
 // not known, not under way or past a count is zero. `talk` says what its numbers mean.
 use codes::command::Coded;
 
@@ -37,18 +38,18 @@ pub struct Entry {
     pub greeting: u8,
     /// The random number of `PJLINK 1`; 0 with any other greeting.
     pub random: u32,
-    /// Whether the digest was sent since that greeting; false with any but `PJLINK 1`.
-    pub led: bool,
-    /// Whether a command was sent whose reply is awaited; false without a greeting.
-    pub under_way: bool,
+    /// A flag: the digest was sent since that greeting; 0 with any but `PJLINK 1`.
+    pub led: u8,
+    /// A flag: a command was sent whose reply is awaited; 0 without a greeting.
+    pub under_way: u8,
     /// That command, as it was given; else all three 0.
     pub command: Coded,
-    /// Whether a reply told the power, and no ERRA has made all unknown since.
-    pub power_known: bool,
-    /// Whether a reply told the chosen input, and no ERRA has made all unknown since.
-    pub input_known: bool,
-    /// Whether a reply told the lamps, and no ERRA has made all unknown since.
-    pub lamps_known: bool,
+    /// A flag: a reply told the power, and no ERRA has made all unknown since.
+    pub power_known: u8,
+    /// A flag: a reply told the chosen input, and no ERRA has made all unknown since.
+    pub input_known: u8,
+    /// A flag: a reply told the lamps, and no ERRA has made all unknown since.
+    pub lamps_known: u8,
     /// 0 off, 1 on, 2 cooling, 3 warm-up; 0 where it is not known.
     pub power: u8,
     /// The type of the chosen input, 1 to 6; 0 where it is not known.
@@ -59,8 +60,8 @@ pub struct Entry {
     pub lamp_count: usize,
     /// The whole hours of each lamp, at most 99,999; 0 past the count.
     pub hours: [u32; LAMPS_MOST],
-    /// Whether each lamp is lit; false past the count.
-    pub lit: [bool; LAMPS_MOST],
+    /// A flag for each lamp: it is lit; 0 past the count.
+    pub lit: [u8; LAMPS_MOST],
     /// How many late, foreign or malformed lines came from it; the count stops at 65,535.
     pub strays: u32,
 }

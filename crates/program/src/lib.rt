@@ -3,9 +3,9 @@
 #![tactic(auto)]
 
 pub mod about;
-mod headless;
 pub mod joined;
 pub mod outside;
+mod progress;
 pub mod run;
 pub mod said;
 pub mod status;

@@ -2,6 +2,7 @@
 ghost use Rattle.std.specs.Prelude.{[], None, ⊤};
 
 use crate::joined::Opens;
+use crate::progress::{Progress, Shown};
 use std::fs::File;
 use std::io::{Error, ErrorKind, Read, Stdin};
 use std::{fs, io};
@@ -30,34 +31,57 @@ pub trait Outside: Opens {
 
 /// The files of the system.
 #[derive(Clone, Copy)]
-pub struct System<'a>(pub &'a HostRuntime);
+pub struct System<'a> {
+    rt: &'a HostRuntime,
+    shown: Shown,
+}
 
-/// Standard input, or a file of a log.
+/// Standard input, or a file of a log; how far it is read is shown at a terminal.
 #[derive(Drop)]
-pub enum Input {
-    /// Standard input.
+pub struct Input<'a> {
+    from: From,
+    progress: Progress<'a>,
+}
+
+#[derive(Drop)]
+enum From {
     Standard(Stdin),
-    /// A file.
     File(File),
 }
 
-impl Read for Input {
+impl Read for Input<'_> {
     fn read(&mut self, buf: &mut [u8]) -> io::Result<usize> {
-        match self {
-            Input::Standard(stdin) => stdin.read(buf),
-            Input::File(file) => file.read(buf),
-        }
+        let read = match &mut self.from {
+            From::Standard(stdin) => stdin.read(buf)?,
+            From::File(file) => file.read(buf)?,
+        };
+        self.progress.read(&buf[..read]);
+        Ok(read)
     }
 }
 
-impl Opens for System<'_> {
-    type Source = Input;
+impl<'a> Opens for System<'a> {
+    type Source = Input<'a>;
 
-    fn open_log(&self, name: &str) -> io::Result<Input> {
+    ghost log_bytes = { λ _ _. None };
+
+    fn open_log(&self, name: &str) -> io::Result<Input<'a>> {
         if name == "-" {
-            return Ok(Input::Standard(self.0.stdin()));
+            let progress = Progress::of(self.rt, self.shown, "standard input", None);
+            return Ok(Input {
+                from: From::Standard(self.rt.stdin()),
+                progress,
+            });
         }
-        Ok(Input::File(File::open(self.0, name)?))
+        let file = File::open(self.rt, name)?;
+        let length = match file.metadata() {
+            Ok(found) if found.is_file() => Some(found.len()),
+            _ => None,
+        };
+        Ok(Input {
+            from: From::File(file),
+            progress: Progress::of(self.rt, self.shown, name, length),
+        })
     }
 }
 
@@ -92,12 +116,22 @@ impl ByteSink for Saved {
 // So many names are tried for a file beside another.
 const TRIES: u32 = 1000;
 
+impl<'a> System<'a> {
+    /// Those of this process, which has begun just now.
+    pub fn of(rt: &'a HostRuntime) -> System<'a> {
+        System {
+            rt,
+            shown: Shown::of(rt),
+        }
+    }
+}
+
 impl System<'_> {
     // A file that is there is replaced where it lies, and not a link to it; what is no plain file, as a device or a
     // pipe, is written straight into.
     fn place_of(&self, name: &str) -> io::Result<Option<String>> {
-        let alloc = self.0.alloc();
-        match fs::metadata(self.0, name) {
+        let alloc = self.rt.alloc();
+        match fs::metadata(self.rt, name) {
             Ok(found) => {
                 if found.is_dir() {
                     return Err(Error::from(ErrorKind::IsADirectory));
@@ -105,7 +139,7 @@ impl System<'_> {
                 if !found.is_file() {
                     return Ok(None);
                 }
-                let place = fs::canonicalize(self.0, name)?;
+                let place = fs::canonicalize(self.rt, name)?;
                 Ok(Some(String::from_str(alloc, place.as_str())?))
             }
             Err(_) => Ok(Some(String::from_str(alloc, name)?)),
@@ -115,8 +149,8 @@ impl System<'_> {
     // A file that was not there, beside that place.
     fn create_beside(&self, place: &str) -> io::Result<(File, String)> {
         for number in 0..TRIES {
-            let name = format!(in self.0.alloc(); "{place}.{number}.part")?;
-            match File::create_new(self.0, name.as_str()) {
+            let name = format!(in self.rt.alloc(); "{place}.{number}.part")?;
+            match File::create_new(self.rt, name.as_str()) {
                 Ok(file) => return Ok((file, name)),
                 Err(error) if error.kind() == ErrorKind::AlreadyExists => {}
                 Err(error) => return Err(error),
@@ -132,8 +166,8 @@ impl System<'_> {
                 Ok((file, written, Some(place)))
             }
             None => {
-                let written = String::from_str(self.0.alloc(), name)?;
-                let file = File::options().write(true).open(self.0, name)?;
+                let written = String::from_str(self.rt.alloc(), name)?;
+                let file = File::options().write(true).open(self.rt, name)?;
                 Ok((file, written, None))
             }
         }
@@ -141,15 +175,15 @@ impl System<'_> {
 
     // The file at that place keeps its mode; the folder is told of the new name.
     fn replace(&self, file: &File, written: &str, place: &str) -> io::Result<()> {
-        if let Ok(found) = fs::metadata(self.0, place) {
+        if let Ok(found) = fs::metadata(self.rt, place) {
             file.set_permissions(found.permissions())?;
         }
         file.sync_all()?;
-        fs::rename(self.0, written, place)
+        fs::rename(self.rt, written, place)
     }
 
     fn remove(&self, written: &str) {
-        let _removed = fs::remove_file(self.0, written).is_ok();
+        let _removed = fs::remove_file(self.rt, written).is_ok();
     }
 }
 
@@ -159,7 +193,7 @@ impl Outside for System<'_> {
     type Sink = Saved;
 
     fn open_form(&self, name: &str) -> io::Result<File> {
-        File::open(self.0, name)
+        File::open(self.rt, name)
     }
 
     fn create(&self, name: &str) -> io::Result<Saved> {

@@ -1,10 +1,12 @@
 // A command line answered.
 ghost use Rattle.std.specs.Prelude.{◌≡◌};
-ghost use Rattle.program.specs.Said.{UnbegunSaid};
+ghost use Rattle.program.specs.Said.{UnbegunSaid, unread_text, unwritten_text, cause_of, failed_text, shown_name};
+ghost use Rattle.program.specs.Said.{IsSaid, ending_status, ending_text};
+ghost use Rattle.program.specs.Joined.{names_in, files_asked};
+ghost use Rattle.command.specs.Asked.{asked_seen};
 ghost use Rattle.program.specs.declared.status.Status.TheVariants as Status;
 
 use crate::about::About;
-use crate::headless::is_headless;
 use crate::joined::{Joined, Opens};
 use crate::outside::{Outside, System};
 use crate::said;
@@ -21,11 +23,14 @@ use std::io::Error;
 use std::{env, io};
 use text::numbered::Numbered;
 use textio::lines::Failure;
-use textio::reader::{ByteSource, Reader};
+use textio::reader::Reader;
 use textio::streams::Stream;
 use textio::writer::{ByteSink, Writer, put};
 
 const STANDARD_OUTPUT: &str = "standard output";
+
+// The files of a log where none is named.
+const STANDARD_INPUT: &[&str] = &["-"];
 
 // What is written in the place of an output: help, or the version.
 fn put_about<W: ByteSink>(about: &About, stop: &Stop<'_>, to: &mut W) -> io::Result<()> {
@@ -64,23 +69,32 @@ fn stopped<W: ByteSink, E: ByteSink>(
     }
 }
 
+#[tactic(auto, using(crate::proofs::SaidSo::said_so))]
 fn unread<E: ByteSink>(name: &str, error: &Error, errors: &mut E) -> Status
-    ensures { result ≡ Status.Failed }
+    ensures status { result ≡ Status.Failed }
+    ensures said { IsSaid E.fails_with (E.contents errors.old) (E.contents errors.new)
+        (unread_text name.now (cause_of error.now)) }
 {
     let _said = said::say_unread(errors, name, said::cause(error)).is_ok();
     Status::Failed
 }
 
+#[tactic(auto, using(crate::proofs::SaidSo::said_so))]
 fn unwritten<E: ByteSink>(name: &str, error: &Error, errors: &mut E) -> Status
-    ensures { result ≡ Status.Failed }
+    ensures status { result ≡ Status.Failed }
+    ensures said { IsSaid E.fails_with (E.contents errors.old) (E.contents errors.new)
+        (unwritten_text name.now (cause_of error.now)) }
 {
     let _said = said::say_unwritten(errors, name, said::cause(error)).is_ok();
     Status::Failed
 }
 
 // Why a log was not told to its end.
+#[tactic(auto, using(crate::proofs::SaidSo::said_so))]
 fn failed<E: ByteSink>(failure: &Failure, source: &str, sink: &str, errors: &mut E) -> Status
-    ensures { result ≡ Status.Failed }
+    ensures status { result ≡ Status.Failed }
+    ensures said { IsSaid E.fails_with (E.contents errors.old) (E.contents errors.new)
+        (failed_text failure.now source.now sink.now) }
 {
     match failure {
         Failure::Read(error) => unread(source, error, errors),
@@ -93,7 +107,9 @@ fn failed<E: ByteSink>(failure: &Failure, source: &str, sink: &str, errors: &mut
 }
 
 // The name of standard input in words.
-fn shown(name: &str) -> &str {
+fn shown(name: &str) -> &str
+    ensures { result.now ≡ shown_name name.now }
+{
     if name == "-" {
         return "standard input";
     }
@@ -101,49 +117,35 @@ fn shown(name: &str) -> &str {
 }
 
 // How a log ended all of which was read, and what is told of it written.
-fn ended<E: ByteSink>(ending: Ending, errors: &mut E) -> Status {
-    match ending {
-        Ending::Whole => Status::Done,
-        Ending::Headless => {
-            let _said = said::say_headless(errors).is_ok();
-            Status::Strayed
-        }
-        Ending::Stray(line) => {
-            let _said = said::say_stray(errors, &line).is_ok();
-            Status::Strayed
-        }
+#[tactic(auto, using(crate::proofs::SaidSo::said_so))]
+fn ended<E: ByteSink>(ending: &Ending, errors: &mut E) -> Status
+    ensures status { result ≡ ending_status ending.now }
+    ensures said { IsSaid E.fails_with (E.contents errors.old) (E.contents errors.new) (ending_text ending.now) }
+{
+    if let Some(line) = &ending.stray {
+        let _said = said::say_stray(errors, line).is_ok();
+        return Status::Strayed;
     }
-}
-
-// The log told by the program. A history without its header ends so where no line of it says more.
-fn told_by<P: Telling, R: ByteSource + Drop, W: ByteSink>(
-    program: &P,
-    begun: Begun,
-    page: bool,
-    source: R,
-    to: &mut W,
-) -> Result<Ending, Failure> {
-    let mut from = Reader::new(source);
-    let headless = is_headless(&mut from);
-    match program.tell(begun, page, &mut from, to)? {
-        Ending::Whole if headless => Ok(Ending::Headless),
-        ending => Ok(ending),
+    if ending.unplayed.is_none() {
+        return Status::Done;
     }
+    let _said = said::say_unplayed(errors, &ending.unplayed).is_ok();
+    Status::Strayed
 }
 
 // The log on standard output. A failure's line stands there too, and in words on standard error.
 fn tell_out<P: Telling, O: Opens, W: ByteSink, E: ByteSink>(
     program: &P,
-    begun: Begun,
-    page: bool,
+    begun: &Begun,
+    command: &Command<'_>,
     mut log: Joined<'_, '_, O>,
     to: &mut W,
     errors: &mut E,
 ) -> Status {
-    let told = told_by(program, begun, page, Stream(&mut log), to);
+    let told = program.tell(begun, command, &mut Reader::new(Stream(&mut log)), to);
     match told {
         Ok(ending) => match cut::end_output(Ok(()), to) {
-            Ok(()) => ended(ending, errors),
+            Ok(()) => ended(&ending, errors),
             Err(error) => unwritten(STANDARD_OUTPUT, &error, errors),
         },
         Err(failure) => {
@@ -157,8 +159,8 @@ fn tell_out<P: Telling, O: Opens, W: ByteSink, E: ByteSink>(
 // The log in a file, which is left as it was where that fails.
 fn tell_saved<P: Telling, O: Outside, E: ByteSink>(
     program: &P,
-    begun: Begun,
-    page: bool,
+    begun: &Begun,
+    command: &Command<'_>,
     mut log: Joined<'_, '_, O>,
     outside: &O,
     name: &str,
@@ -168,10 +170,10 @@ fn tell_saved<P: Telling, O: Outside, E: ByteSink>(
         Ok(sink) => sink,
         Err(error) => return unwritten(name, &error, errors),
     };
-    let told = told_by(program, begun, page, Stream(&mut log), &mut to);
+    let told = program.tell(begun, command, &mut Reader::new(Stream(&mut log)), &mut to);
     match told {
         Ok(ending) => match outside.keep(to) {
-            Ok(()) => ended(ending, errors),
+            Ok(()) => ended(&ending, errors),
             Err(error) => unwritten(name, &error, errors),
         },
         Err(failure) => {
@@ -219,6 +221,16 @@ fn begin_by<O: Outside>(outside: &O, alloc: Global, form: Option<&str>) -> Resul
     }
 }
 
+// The files of the log; standard input where none is named.
+fn files_of<'c, 'w>(command: &'c Command<'w>) -> &'c [&'w str]
+    ensures { names_in result.now ≡ files_asked (asked_seen command.now) }
+{
+    if command.logs.is_empty() {
+        return STANDARD_INPUT;
+    }
+    command.logs.as_slice()
+}
+
 fn tell<P: Telling, O: Outside, W: ByteSink, E: ByteSink>(
     program: &P,
     alloc: Global,
@@ -238,10 +250,10 @@ fn tell<P: Telling, O: Outside, W: ByteSink, E: ByteSink>(
             return status;
         }
     };
-    let log = Joined::new(outside, command.logs.as_slice());
+    let log = Joined::new(outside, files_of(command));
     match command.output {
-        None => tell_out(program, begun, command.page, log, to, errors),
-        Some(name) => tell_saved(program, begun, command.page, log, outside, name, errors),
+        None => tell_out(program, &begun, command, log, to, errors),
+        Some(name) => tell_saved(program, &begun, command, log, outside, name, errors),
     }
 }
 
@@ -283,7 +295,7 @@ pub fn on_system<P: Telling>(rt: &HostRuntime, program: &P, about: &About) -> St
         about,
         rt.alloc(),
         words.as_slice(),
-        &System(rt),
+        &System::of(rt),
         &mut to,
         &mut errors,
     )

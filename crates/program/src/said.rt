@@ -1,11 +1,13 @@
 // The words on standard error. Where a write fails, a front of them is there.
-ghost use Rattle.std.specs.Prelude.{◌++◌};
+ghost use Rattle.std.specs.Prelude.{◌≡◌, ◌++◌};
 ghost use Rattle.textio.specs.Fronts.{WritesText};
 ghost use Rattle.program.specs.Said.{unread_text, unwritten_text, refused_text, endless_text, stop_text};
-ghost use Rattle.program.specs.Said.{stray_warning, headless_warning};
+ghost use Rattle.program.specs.Said.{cause_of, stray_warning};
+ghost use Rattle.floorlog.specs.Unplayed.{unplayed_text};
 ghost use Rattle.recorded.specs.Following.{stray_seen};
 
 use command::asked::Stop;
+use floorlog::unplayed::{Unplayed, UnplayedText};
 use reasons::numbers::number_text;
 use recorded::stray::{StrayLine, StrayText};
 use std::io;
@@ -14,7 +16,9 @@ use textio::forms::fill;
 use textio::writer::{ByteSink, put};
 
 /// Why a read or a write failed: a colon, a space and words, or nothing where the system says no more.
-pub fn cause(error: &Error) -> &'static str {
+pub fn cause(error: &Error) -> &'static str
+    ensures { result.now ≡ cause_of error.now }
+{
     match error.kind() {
         ErrorKind::NotFound => ": no such file",
         ErrorKind::PermissionDenied => ": no permission",
@@ -99,14 +103,13 @@ pub fn say_stray<E: ByteSink>(to: &mut E, line: &StrayLine) -> io::Result<()>
     put(to, b"; what is written is of the lines before it\n")
 }
 
-/// That a log has lines of a history, and no header before them.
-pub fn say_headless<E: ByteSink>(to: &mut E) -> io::Result<()>
-    ensures { WritesText E.fails_with (E.contents to.old) (E.contents to.new) result headless_warning }
+/// What of a log of the first kind was not played: lines that are not understood, calls that are refused.
+pub fn say_unplayed<E: ByteSink>(to: &mut E, unplayed: &Unplayed) -> io::Result<()>
+    ensures { WritesText E.fails_with (E.contents to.old) (E.contents to.new) result (unplayed_text unplayed.now) }
 {
-    put(
-        to,
-        b"the log has lines of a history, and no header: it is read as a log of the other kind\n",
-    )
+    let mut text = UnplayedText::new();
+    unplayed.put(&mut text);
+    put(to, &text)
 }
 
 /// Why a command line asks for nothing, and in a second line how the program is called; nothing of the help, of

@@ -1,4 +1,6 @@
 // What a program makes of a log.
+use command::asked::Command;
+use floorlog::unplayed::Unplayed;
 use formfile::Begun;
 use recorded::stray::StrayLine;
 use textio::lines::Failure;
@@ -7,13 +9,11 @@ use textio::writer::ByteSink;
 
 /// How a log ended that was read to its end.
 #[derive(Clone, Copy)]
-pub enum Ending {
-    /// As what it begins with says.
-    Whole,
-    /// This line of it did not belong to it, which the output says too.
-    Stray(StrayLine),
-    /// It is no history by its first line, and has lines that only a history has.
-    Headless,
+pub struct Ending {
+    /// The first line of a history that did not belong to it, if one did not, which the output says too.
+    pub stray: Option<StrayLine>,
+    /// What of a log of the first kind was not played.
+    pub unplayed: Unplayed,
 }
 
 /// A program over logs.
@@ -21,8 +21,8 @@ pub trait Telling {
     /// What it tells of the log that a reader has left, which begins with a device, goes to a sink, as it comes.
     fn tell<R: ByteSource, W: ByteSink>(
         &self,
-        begun: Begun,
-        page: bool,
+        begun: &Begun,
+        command: &Command<'_>,
         from: &mut Reader<R>,
         to: &mut W,
     ) -> Result<Ending, Failure>;

@@ -14,12 +14,12 @@ pub fn face_number() -> u32
 pub fn about_text_in_c() -> &'static str
     ensures { result.now ≡ in_c about_text }
 {
-    "ceiling 13 (rattle-kit-13f logic dac8208d650f15bf)\0"
+    "ceiling 13 of 2026-11-27 (rattle-kit-13f logic dac8208d650f15bf)\0"
 }
 
 /// The version of the face and the kit, which the programs say after their names.
 pub fn version_text() -> &'static str
     ensures { result.now ≡ version_text }
 {
-    "13 (rattle-kit-13f logic dac8208d650f15bf)"
+    "13 of 2026-11-27 (rattle-kit-13f logic dac8208d650f15bf)"
 }

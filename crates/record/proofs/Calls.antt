@@ -2,6 +2,7 @@
 -- every case.
 -- Assumes nothing.
 use Rattle.std.proofs.Common.{ℕ, ◌<◌, ◌≡◌, Bool, true, false, List, length, set, arith, Some, None, Result, Ok, Err}
+use Rattle.text.specs.Flags.{flag_of}
 use Rattle.text.proofs.Choices.{if_by}
 use Rattle.record.specs.Limits.{off}
 use Rattle.record.specs.Wanted.{Wanted}
@@ -91,12 +92,14 @@ module _ (d : Device) where
   unfolding fault_set
   fault_illegal m h = rw h
 
-  pub fault_accepted : (m : Bool) → is_legal d ≡ true → fault_set d m ≡ Ok (with_own d (with_fault d.own m))
+  pub fault_accepted : (m : Bool) → is_legal d ≡ true
+      → fault_set d m ≡ Ok (with_own d (with_fault d.own (flag_of m)))
   unfolding fault_set
   fault_accepted m h = rw h
 
   pub fault_set_by : (P : Given Device → Type 0) (m : Bool) → P (refusal_with 1 d)
-      → (is_legal d ≡ true → P (acceptance_of (with_own d (with_fault d.own m)))) → P (given_by d (fault_set d m))
+      → (is_legal d ≡ true → P (acceptance_of (with_own d (with_fault d.own (flag_of m)))))
+      → P (given_by d (fault_set d m))
   unfolding fault_set
   fault_set_by P m refuse accept = grind arith
 
@@ -108,8 +111,8 @@ module _ (d : Device) where
 
   -- a mark: refused, or one at least is left and the power is off
   pub mark_set_by : (P : Given Device → Type 0) (k : ℕ) (m : Bool) → ((n : ℕ) → (n ≡ 0 → ⊥) → P (refusal_with n d))
-      → (is_legal d ≡ true → k < d.settings.lamp_count → is_none_left (set d.own.enabled k m) ≡ false
-      → d.own.power ≡ off → P (acceptance_of (with_own d (with_marks d.own (set d.own.enabled k m)))))
+      → (is_legal d ≡ true → k < d.settings.lamp_count → is_none_left (set d.own.enabled k (flag_of m)) ≡ false
+      → d.own.power ≡ off → P (acceptance_of (with_own d (with_marks d.own (set d.own.enabled k (flag_of m))))))
       → P (given_by d (mark_set d k m))
   unfolding mark_set
   mark_set_by P k m refuse accept = grind (arith, if_by)

@@ -3,10 +3,11 @@
 -- Assumes nothing.
 use Rattle.std.proofs.lemmas.Grind.{common_steps}
 use Rattle.std.specs.List.{list_all}
-use Rattle.std.proofs.Common.{ℕ, zero, suc, ◌<◌, ◌≡◌, refl, Bool, true, List, [], ◌∷◌, arith, length}
+use Rattle.std.proofs.Common.{ℕ, ◌<◌, ◌≡◌, true, List, arith, length}
 use Rattle.std.proofs.Common.{slice_index_or, set, length-set, get_or-set_same, get_or-set_other, set-set}
 use Rattle.std.proofs.lemmas.List.{set-get_or}
 use Rattle.text.proofs.Choices.{both}
+use Rattle.text.proofs.Scanning.{list_all-set}
 use Rattle.record.specs.Limits.{places_count}
 use Rattle.record.specs.Legal.{is_connection, is_connections}
 use Rattle.record.specs.Record.{closed, all_closed}
@@ -15,13 +16,6 @@ use Rattle.record.specs.declared.types.Own.{Own}
 use Rattle.record.specs.declared.types.Connection.{Connection}
 use Rattle.record.specs.declared.types.Device.{Device}
 use Rattle.record.proofs.ConnectionTold.{closed_legal}
-
--- a list whose elements all pass a test, with one more of them put in its place
-set_passes : {A : Type 0} (f : A → Bool) (l : List A) (i : ℕ) (a : A) → list_all f l ≡ true → f a ≡ true
-    → list_all f (set l i a) ≡ true
-set_passes f [] i a e h = refl
-set_passes f (x ∷ l) zero a e h = grind (arith, e, h)
-set_passes f (x ∷ l) (suc i) a e h = grind (arith, e, h, set_passes f l i a)
 
 module _ (cs : List Connection) where
   pub connections_shown : length cs ≡ places_count → list_all is_connection cs ≡ true → is_connections cs ≡ true
@@ -32,7 +26,7 @@ module _ (cs : List Connection) where
   pub placed_legal : is_connections cs ≡ true → (p : ℕ) (c : Connection) → is_connection c ≡ true
       → is_connections (set cs p c) ≡ true
   unfolding is_connections
-  placed_legal legal p c one = grind (arith, legal, length-set cs p c, set_passes is_connection cs p c, one)
+  placed_legal legal p c one = grind (arith, legal, length-set cs p c, list_all-set is_connection cs p c, one)
 
 -- every place closed
 pub all_closed_legal : is_connections all_closed ≡ true

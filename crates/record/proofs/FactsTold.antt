@@ -83,7 +83,36 @@ settings_is s = (
 
 pub own_is : (s : Settings) (o : Own) → IsTrue (is_own s o) ↔ IsOwn s o
 unfolding is_own
-own_is s o = grind (arith, fills, power_is, full, left_is)
+own_is s o = (
+  λ h. record {
+    errors = grind (arith, h);
+    lamps = fills (grind (arith, h));
+    marks = grind (arith, h);
+    power = power_is _ _ _ _ (grind (arith, h));
+    chosen = grind (arith, h);
+    speaker = grind (arith, h);
+    microphone = grind (arith, h);
+    video_muted = grind (arith, h);
+    audio_muted = grind (arith, h);
+    fault = grind (arith, h);
+    frozen = grind (arith, h);
+  },
+  λ t.
+      grind (
+        arith,
+        t.errors,
+        full t.lamps,
+        t.marks,
+        left_is _ _ _ _ t.power,
+        t.chosen,
+        t.speaker,
+        t.microphone,
+        t.video_muted,
+        t.audio_muted,
+        t.fault,
+        t.frozen,
+      ),
+)
 
 pub connection_is : (c : Connection) → IsTrue (is_connection c) ↔ IsConnection c
 unfolding is_connection

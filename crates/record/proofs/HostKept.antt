@@ -1,6 +1,8 @@
 -- The host's calls keep a record legal.
 -- Assumes nothing.
 use Rattle.std.proofs.Common.{◌≡◌, Bool, true, List, ℕ, set}
+use Rattle.text.specs.Flags.{flag_of}
+use Rattle.text.proofs.FlagsTold.{flag_within}
 use Rattle.record.specs.Legal.{is_legal}
 use Rattle.record.specs.Updates.{with_own, with_fault, with_errors, with_marks}
 use Rattle.record.specs.Given.{given_by}
@@ -23,7 +25,7 @@ module _ (d : Device) (h : is_legal d ≡ true) where
   pub fault_legal : (m : Bool) → is_legal (given_by d (fault_set d m)).device ≡ true
   fault_legal m =
       fault_set_by d (λ r. is_legal r.device ≡ true) m h
-      (λ l. is_legal-with_own (with_fault d.own m) (assumption t.own))
+      (λ l. is_legal-with_own (with_fault d.own (flag_of m)) (assumption (t.own, flag_within m)))
 
   pub errors_legal : (ds : List ℕ) → is_legal (given_by d (errors_set d ds)).device ≡ true
   errors_legal ds =
@@ -33,5 +35,5 @@ module _ (d : Device) (h : is_legal d ≡ true) where
   pub mark_legal : (k : ℕ) (m : Bool) → is_legal (given_by d (mark_set d k m)).device ≡ true
   mark_legal k m =
       mark_set_by d (λ r. is_legal r.device ≡ true) k m (λ n z. h)
-      (λ l inside left idle. is_legal-with_own (with_marks d.own (set d.own.enabled k m))
+      (λ l inside left idle. is_legal-with_own (with_marks d.own (set d.own.enabled k (flag_of m)))
       (assumption (t.own, marked_legal d.settings.lamp_count d.own.enabled k m t.own.marks inside left)))

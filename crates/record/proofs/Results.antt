@@ -5,6 +5,7 @@
 -- Assumes nothing.
 use Rattle.std.proofs.Common.{ℕ, ◌≡◌, sym, Bool, true, false, not, ◌||◌, List, [], ◌∷◌, arith, length, set, ◌==◌}
 use Rattle.std.specs.Prelude.{Result, Some, None, if◌then◌else◌}
+use Rattle.text.specs.Flags.{flag_of}
 use Rattle.text.specs.Rows.{first_of, ◌when◌}
 use Rattle.record.specs.Wanted.{Wanted}
 use Rattle.record.specs.Rules.{is_long_enough, is_error_list}
@@ -77,7 +78,7 @@ module _ (d : Device) where
   errors_number ds = grind arith
 
   pub mark_number : (k : ℕ) (m : Bool) → (given_by d (mark_set d k m)).number
-      ≡ first_of ((1 when illegal) ∷ (3 when (is_no_lamp d k || is_none_left (set d.own.enabled k m)))
+      ≡ first_of ((1 when illegal) ∷ (3 when (is_no_lamp d k || is_none_left (set d.own.enabled k (flag_of m))))
       ∷ (7 when not (d.own.power == off)) ∷ [])
   unfolding mark_set
   mark_number k m = grind arith

@@ -3,6 +3,7 @@
 use Rattle.std.proofs.Common.{◌≡◌, ℕ, ◌≤◌, Bool, true, List, length, arith, ◌&&◌, is_some, not, ◌==◌, ◌||◌}
 use Rattle.std.proofs.lemmas.Grind.{common_steps}
 use Rattle.std.specs.List.{list_all}
+use Rattle.text.specs.Flags.{is_flag, is_lowered}
 use Rattle.text.specs.Rooms.{used_part}
 use Rattle.text.proofs.RoomsTold.{is_some_used, uses_told}
 use Rattle.record.specs.Limits.{lamps_most}
@@ -13,7 +14,8 @@ pub fills_inside : (room : ℕ) (rule : List ℕ → Bool) (s : List ℕ) (n : �
 unfolding fills_room
 fills_inside room rule s n h = ((uses_told is_zero room rule s n).0 h).inside
 
-pub marks_used : (n : ℕ) (ms : List Bool) → n ≤ lamps_most → length ms ≡ lamps_most → is_marks n ms
-    ≡ (is_some (used_part not lamps_most ms n) && (n == 0 || not (list_all not ms)))
+pub marks_used : (n : ℕ) (ms : List ℕ) → n ≤ lamps_most → length ms ≡ lamps_most → is_marks n ms
+    ≡ (is_some (used_part is_lowered lamps_most ms n) && list_all is_flag ms
+    && (n == 0 || not (list_all is_lowered ms)))
 unfolding is_marks
-marks_used n ms few long = grind (arith, common_steps, is_some_used not lamps_most ms n long)
+marks_used n ms few long = grind (arith, common_steps, is_some_used is_lowered lamps_most ms n long)

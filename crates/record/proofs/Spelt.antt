@@ -1,7 +1,7 @@
 -- The closed connection and the blank record, field by field: as the code's constants `Connection::CLOSED` and
 -- `Device::BLANK` have them.
 -- Assumes nothing.
-use Rattle.std.proofs.Common.{◌≡◌, refl, false, replicate}
+use Rattle.std.proofs.Common.{◌≡◌, refl, replicate}
 use Rattle.record.specs.Limits.{input_room, listed_most, line_room, places_count}
 use Rattle.record.specs.Record.{zeros, closed, blank_text, blank_name, blank_own, blank}
 use Rattle.record.specs.declared.types.Connection.{Connection}
@@ -11,7 +11,7 @@ closed_fields = record {
   phase = 0;
   age = 0;
   random = 0;
-  line = record { overlong = false; held = 0; bytes = zeros line_room };
+  line = record { overlong = 0; held = 0; bytes = zeros line_room };
 }
 
 pub closed_spelt : closed ≡ closed_fields

@@ -102,6 +102,10 @@ module _ (w : Wanted) where
       chosen = omega (arith, inputs_some _ w.inputs (met Inputs));
       speaker = omega arith;
       microphone = omega arith;
+      video_muted = omega arith;
+      audio_muted = omega arith;
+      fault = omega arith;
+      frozen = omega arith;
     })
 
     pub started_legal : is_legal (start_device w) ≡ true

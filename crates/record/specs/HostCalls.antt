@@ -3,12 +3,13 @@
 --   fault_set d m       the call that sets the fault mark: refused for an illegal record
 --   errors_set d ds     the call that sets the error digits: refused for what is not six digits 0 to 2, too
 --   is_no_lamp d k      there is no such lamp
---   is_none_left ms     no mark is set
+--   is_none_left ms     no mark is raised
 --   mark_set d k m      the lamp at place k with that mark: refused for no such lamp, for clearing the last mark, and
 --                       unless power is off
 -- Assumes nothing.
 use Rattle.std.specs.List.{list_all}
 use Rattle.std.specs.Prelude.{ℕ, set, Bool, not, ◌||◌, List, Result, Ok, Err, if◌then◌else◌, nat_le, ◌==◌}
+use Rattle.text.specs.Flags.{is_lowered, flag_of}
 use Rattle.record.specs.Limits.{off}
 use Rattle.record.specs.Rules.{is_error_list}
 use Rattle.record.specs.Legal.{is_legal}
@@ -20,7 +21,7 @@ use Rattle.record.specs.declared.refusal.Refusal.TheVariants.{NotLegal, OutOfRan
 unfoldable pub fault_set : Device → Bool → Result Device Refusal
 fault_set d m =
     if not (is_legal d) then Err NotLegal
-    else Ok (with_own d (with_fault d.own m))
+    else Ok (with_own d (with_fault d.own (flag_of m)))
 
 unfoldable pub errors_set : Device → List ℕ → Result Device Refusal
 errors_set d ds =
@@ -31,12 +32,12 @@ errors_set d ds =
 abbrev pub is_no_lamp : Device → ℕ → Bool
 is_no_lamp d k = nat_le d.settings.lamp_count k
 
-abbrev pub is_none_left : List Bool → Bool
-is_none_left ms = list_all not ms
+abbrev pub is_none_left : List ℕ → Bool
+is_none_left ms = list_all is_lowered ms
 
 unfoldable pub mark_set : Device → ℕ → Bool → Result Device Refusal
 mark_set d k m =
     if not (is_legal d) then Err NotLegal
-    else if is_no_lamp d k || is_none_left (set d.own.enabled k m) then Err OutOfRange
+    else if is_no_lamp d k || is_none_left (set d.own.enabled k (flag_of m)) then Err OutOfRange
     else if not (d.own.power == off) then Err NotOff
-    else Ok (with_own d (with_marks d.own (set d.own.enabled k m)))
+    else Ok (with_own d (with_marks d.own (set d.own.enabled k (flag_of m))))

@@ -21,6 +21,7 @@ use Rattle.std.specs.List.{list_all}
 use Rattle.std.specs.Prelude.{ℕ, ◌*◌, Bool, not, ◌&&◌, ◌||◌, List, length, if◌then◌else◌, nat_le, nat_lt, ◌==◌}
 use Rattle.words.specs.Bytes.{no_cr, command_most}
 use Rattle.words.specs.Texts.{is_text, is_name, is_info, info_most, input_name_most}
+use Rattle.text.specs.Flags.{is_flag, is_raised}
 use Rattle.text.specs.Rooms.{used_part, holds}
 use Rattle.record.specs.Limits.{text_room, listed_most, input_room, lamps_most, line_room, age_end, places_count}
 use Rattle.record.specs.Limits.{only_in_2, cooling, warming, shut, awaiting, opened, failed, is_power, is_phase}
@@ -74,6 +75,7 @@ is_own s o =
     is_error_list o.errors && fills_room lamps_most is_lamps o.lamps s.lamp_count
     && is_marks s.lamp_count o.enabled && is_left o.power o.left s.warm s.cool
     && nat_lt o.chosen s.input_count && is_volume o.speaker && is_volume o.microphone
+    && is_flag o.video_muted && is_flag o.audio_muted && is_flag o.fault && is_flag o.frozen
 
 abbrev pub is_timed : ℕ → Bool
 is_timed phase = phase == awaiting || phase == failed
@@ -95,7 +97,7 @@ is_connection c =
     fills_room line_room no_cr c.line.bytes c.line.held
     && is_phase c.phase && is_age c.phase c.age
     && (not (c.phase == shut) || c.random == 0)
-    && is_held c.phase c.line.overlong c.line.held
+    && is_flag c.line.overlong && is_held c.phase (is_raised c.line.overlong) c.line.held
 
 unfoldable pub is_connections : List Connection → Bool
 is_connections cs = length cs == places_count && list_all is_connection cs

@@ -6,7 +6,7 @@
 --   is_shut c              the connection is closed
 --   lowest_shut cs         the lowest closed place, or their number where none is closed
 -- Assumes nothing.
-use Rattle.std.specs.Prelude.{ℕ, suc, Bool, false, List, [], ◌∷◌, set, if◌then◌else◌, slice_index_or, ◌==◌}
+use Rattle.std.specs.Prelude.{ℕ, suc, Bool, List, [], ◌∷◌, set, if◌then◌else◌, slice_index_or, ◌==◌}
 use Rattle.record.specs.Limits.{shut}
 use Rattle.record.specs.declared.types.Own.{Own}
 use Rattle.record.specs.declared.types.Connection.{Connection}
@@ -17,7 +17,7 @@ no_connection = record {
   phase = shut;
   age = 0;
   random = 0;
-  line = record { overlong = false; held = 0; bytes = [] };
+  line = record { overlong = 0; held = 0; bytes = [] };
 }
 
 abbrev pub connection_at : Device → ℕ → Connection

@@ -8,12 +8,12 @@
 --   all_closed           every place closed (RULES, Places)
 --   blank                the blank record, all zero
 --   settings_of w        the settings that set-up keeps
---   all_marks n          the enabled marks of n lamps, all set (RULES, Lamps)
+--   all_marks n          the enabled marks of n lamps, all raised (RULES, Lamps)
 --   blank_own            off, both mutes off, the first input, no fault, error status 000000, no mark: all zero
 --   start_own lamps      the same, with the lamps' starting seconds, each lamp enabled, and both volumes half way
 --   start_device w       the device that an accepted set-up gives
 -- Assumes nothing.
-use Rattle.std.specs.Prelude.{ℕ, ◌/◌, Bool, true, false, List, map, length, replicate}
+use Rattle.std.specs.Prelude.{ℕ, ◌/◌, List, map, length, replicate}
 use Rattle.text.specs.Rooms.{filled_room}
 use Rattle.words.specs.Texts.{input_name_most}
 use Rattle.record.specs.Limits.{text_room, input_room, listed_most, lamps_most, line_room}
@@ -50,7 +50,7 @@ closed = record {
   phase = shut;
   age = 0;
   random = 0;
-  line = record { overlong = false; held = 0; bytes = zeros line_room };
+  line = record { overlong = 0; held = 0; bytes = zeros line_room };
 }
 
 abbrev pub all_closed : List Connection
@@ -79,19 +79,19 @@ blank_own = record {
   power = off;
   left = 0;
   chosen = 0;
-  video_muted = false;
-  audio_muted = false;
-  fault = false;
+  video_muted = 0;
+  audio_muted = 0;
+  fault = 0;
   errors = zeros errors_count;
   lamps = zeros lamps_most;
-  enabled = replicate lamps_most false;
-  frozen = false;
+  enabled = zeros lamps_most;
+  frozen = 0;
   speaker = 0;
   microphone = 0;
 }
 
-unfoldable pub all_marks : ℕ → List Bool
-all_marks n = filled_room false lamps_most (replicate n true)
+unfoldable pub all_marks : ℕ → List ℕ
+all_marks n = filled_room 0 lamps_most (replicate n 1)
 
 abbrev pub start_own : List ℕ → Own
 start_own lamps =

@@ -11,8 +11,8 @@
 --                          all different
 --   is_lamp x              a lamp's seconds are at most the limit
 --   is_lamps xs            0 to 8 lamps
---   is_marks n ms          the enabled marks of n lamps (RULES, Lamps): none past them, and one at least where there
---                          are lamps
+--   is_marks n ms          the enabled marks of n lamps (RULES, Lamps), flags: none raised past them, and one at least
+--                          where there are lamps
 --   is_stretch n           1 to 600 seconds, of warm-up or of cooling
 --   is_error_list ds       six error digits, each 0 to 2
 --   are_names n ns         the names of n inputs (RULES, Class 2)
@@ -22,6 +22,7 @@ use Rattle.std.specs.Prelude.{ℕ, ◌+◌, ◌-◌, ◌*◌, Bool, true, false,
 use Rattle.std.specs.Prelude.{◌==◌}
 use Rattle.std.specs.List.{list_all}
 use Prim.Native.Char.{code}
+use Rattle.text.specs.Flags.{is_flag, is_lowered}
 use Rattle.words.specs.Inputs.{is_input_text}
 use Rattle.words.specs.Texts.{is_password, is_input_name}
 use Rattle.record.specs.Limits.{password_least, input_room, lamps_most, lamp_limit, stretch_most}
@@ -66,8 +67,10 @@ is_lamp x = at_most lamp_limit x
 unfoldable pub is_lamps : List ℕ → Bool
 is_lamps xs = nat_le (length xs) lamps_most && list_all is_lamp xs
 
-unfoldable pub is_marks : ℕ → List Bool → Bool
-is_marks n ms = length ms == lamps_most && list_all not (drop n ms) && (n == 0 || not (list_all not ms))
+unfoldable pub is_marks : ℕ → List ℕ → Bool
+is_marks n ms =
+    length ms == lamps_most && list_all is_lowered (drop n ms) && list_all is_flag ms
+    && (n == 0 || not (list_all is_lowered ms))
 
 abbrev pub is_stretch : ℕ → Bool
 is_stretch n = nat_le 1 n && nat_le n stretch_most

@@ -10,14 +10,14 @@
 --   with_age c age, with_line c l  the connection at that age; with that line
 --   with_own d o                   the device with that own part
 -- Assumes nothing.
-use Rattle.std.specs.Prelude.{ℕ, Bool, List}
+use Rattle.std.specs.Prelude.{ℕ, List}
 use Rattle.record.specs.declared.types.Own.{Own}
 use Rattle.record.specs.declared.types.Line.{Line}
 use Rattle.record.specs.declared.types.Connection.{Connection}
 use Rattle.record.specs.declared.types.Device.{Device}
 
-abbrev own_of : (power left chosen : ℕ) (video audio fault : Bool) (errors lamps : List ℕ) (enabled : List Bool)
-    (frozen : Bool) (speaker microphone : ℕ) → Own
+abbrev own_of : (power left chosen video audio fault : ℕ) (errors lamps enabled : List ℕ)
+    (frozen speaker microphone : ℕ) → Own
 own_of power left chosen video audio fault errors lamps enabled frozen speaker microphone = record {
   power = power;
   left = left;
@@ -44,12 +44,12 @@ module _ (o : Own) where
       own_of o.power o.left k o.video_muted o.audio_muted o.fault o.errors o.lamps
       o.enabled o.frozen o.speaker o.microphone
 
-  abbrev pub with_mutes : (video audio : Bool) → Own
+  abbrev pub with_mutes : (video audio : ℕ) → Own
   with_mutes v a =
       own_of o.power o.left o.chosen v a o.fault o.errors o.lamps o.enabled o.frozen
       o.speaker o.microphone
 
-  abbrev pub with_fault : (mark : Bool) → Own
+  abbrev pub with_fault : (mark : ℕ) → Own
   with_fault m =
       own_of o.power o.left o.chosen o.video_muted o.audio_muted m o.errors o.lamps
       o.enabled o.frozen o.speaker o.microphone
@@ -64,12 +64,12 @@ module _ (o : Own) where
       own_of o.power o.left o.chosen o.video_muted o.audio_muted o.fault o.errors s
       o.enabled o.frozen o.speaker o.microphone
 
-  abbrev pub with_marks : List Bool → Own
+  abbrev pub with_marks : List ℕ → Own
   with_marks ms =
       own_of o.power o.left o.chosen o.video_muted o.audio_muted o.fault o.errors o.lamps
       ms o.frozen o.speaker o.microphone
 
-  abbrev pub with_freeze : (mark : Bool) → Own
+  abbrev pub with_freeze : (mark : ℕ) → Own
   with_freeze m =
       own_of o.power o.left o.chosen o.video_muted o.audio_muted o.fault o.errors o.lamps
       o.enabled m o.speaker o.microphone

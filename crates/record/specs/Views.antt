@@ -11,8 +11,10 @@
 --   phase_number p, phase_age p, phase_random p     as the record has them
 --   with_phase c p                   the connection in that phase, with the line that it has
 --   class_seen s                     the class of a set-up
+--   marks_seen o                     whether each lamp is enabled; of the other flags `is_raised` says it
 -- Assumes nothing.
-use Rattle.std.specs.Prelude.{ℕ, ◌≤◌, ◌≡◌, Bool, true, false, if◌then◌else◌, ◌==◌}
+use Rattle.std.specs.Prelude.{ℕ, ◌≤◌, ◌≡◌, Bool, true, false, List, map, if◌then◌else◌, ◌==◌}
+use Rattle.text.specs.Flags.{is_raised}
 use Rattle.record.specs.Limits.{off, on, cooling, warming, shut, awaiting, opened, failed}
 use Rattle.record.specs.Updates.{with_power_left}
 use Rattle.record.specs.declared.types.Own.{Own}
@@ -96,3 +98,6 @@ with_phase c p = record { phase = phase_number p; age = phase_age p; random = ph
 
 abbrev pub class_seen : Settings → ClassNumber
 class_seen s = if s.class_number == 2 then Two else One
+
+abbrev pub marks_seen : Own → List Bool
+marks_seen o = map is_raised o.enabled

@@ -8,6 +8,7 @@ use crate::own;
 use crate::own::OFF;
 use crate::refusal::Refusal;
 use crate::types::Device;
+use text::flag;
 
 impl Device {
     /// The fault mark, from now on. Refused: `NotLegal`.
@@ -19,7 +20,7 @@ impl Device {
         if !self.is_legal() {
             return Err(Refusal::NotLegal);
         }
-        self.own.fault = mark;
+        self.own.fault = flag::of(mark);
         Ok(())
     }
 
@@ -54,7 +55,7 @@ impl Device {
             return Err(Refusal::OutOfRange);
         }
         let mut marks = self.own.enabled;
-        marks[lamp] = mark;
+        marks[lamp] = flag::of(mark);
         if own::none_marked(&marks) {
             return Err(Refusal::OutOfRange);
         }

@@ -1,13 +1,14 @@
 // The power, and the legality of the projector's own part (RULES, The legal record).
-ghost use Rattle.std.specs.Prelude.{◌≡◌, ◌≤◌, not};
+ghost use Rattle.std.specs.Prelude.{◌≡◌, ◌≤◌};
 ghost use Rattle.std.specs.List.{list_all};
+ghost use Rattle.text.specs.Flags.{is_lowered};
 ghost use Rattle.record.specs.Limits.{lamps_most};
 ghost use Rattle.record.specs.Rules.{is_lamps, is_marks, is_error_list};
 ghost use Rattle.record.specs.Legal.{fills_room, is_left, is_own};
 
 use crate::scan;
 use crate::types::{ERRORS, LAMPS_MOST, Own, Settings};
-use text::rooms;
+use text::{flag, rooms};
 
 /// The most seconds that a lamp has burnt: 99,999 hours and 3,599 seconds.
 pub const LAMP_LIMIT: u32 = 359_999_999;
@@ -49,19 +50,21 @@ fn lamp_room_ok(room: &[u32; LAMPS_MOST], count: usize) -> bool
 }
 
 /// Whether no lamp is enabled.
-pub fn none_marked(marks: &[bool; LAMPS_MOST]) -> bool
-    ensures { result ≡ list_all not marks.now }
+pub fn none_marked(marks: &[u8; LAMPS_MOST]) -> bool
+    ensures { result ≡ list_all is_lowered marks.now }
 {
     rooms::are_blank(marks)
 }
 
-// None past the lamps, and one at least where there are lamps (RULES, Lamps).
+// Flags, none of them raised past the lamps, and one at least where there are lamps (RULES, Lamps).
 #[tactic(auto, using(crate::proofs::RoomsTold::marks_used))]
-fn marks_ok(marks: &[bool; LAMPS_MOST], count: usize) -> bool
+fn marks_ok(marks: &[u8; LAMPS_MOST], count: usize) -> bool
     requires { count ≤ lamps_most }
     ensures { result ≡ is_marks count marks.now }
 {
-    rooms::used(marks, count).is_some() && (count == 0 || !none_marked(marks))
+    rooms::used(marks, count).is_some()
+        && flag::are_flags(marks)
+        && (count == 0 || !none_marked(marks))
 }
 
 /// Six error digits, each 0 to 2.
@@ -99,5 +102,9 @@ impl Own {
             && self.chosen < s.input_count
             && self.speaker <= VOLUME_MOST
             && self.microphone <= VOLUME_MOST
+            && flag::is_flag(self.video_muted)
+            && flag::is_flag(self.audio_muted)
+            && flag::is_flag(self.fault)
+            && flag::is_flag(self.frozen)
     }
 }

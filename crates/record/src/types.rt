@@ -1,4 +1,5 @@
-// The device record (RULES, The legal record): numbers, bools, arrays and structs of these, so that it can cross to C.
+// The device record (RULES, The legal record): numbers, arrays and structs of these, so that it can cross to C, and any
+// bytes are a record. A flag is a number too: 0 or 1 in a legal record, and raised where it is not 0 (`text::flag`).
 use words::texts::INPUT_NAME_MOST;
 
 /// The room of a text, in bytes.
@@ -90,21 +91,23 @@ pub struct Own {
     pub left: u32,
     /// The place of the chosen input in the list, from 0: below the count of inputs.
     pub chosen: usize,
-    /// Whether the picture is muted (AVMT; PJLink 1.04, 4.5).
-    pub video_muted: bool,
-    /// Whether the sound is muted (AVMT; PJLink 1.04, 4.5).
-    pub audio_muted: bool,
-    /// The host's fault mark: with it POWR, INPT, AVMT, FREZ, SVOL and MVOL answer ERR4 (RULES, Commands, Class 2).
-    pub fault: bool,
+    /// A flag: the picture is muted (AVMT; PJLink 1.04, 4.5).
+    pub video_muted: u8,
+    /// A flag: the sound is muted (AVMT; PJLink 1.04, 4.5).
+    pub audio_muted: u8,
+    /// A flag, the host's fault mark: with it POWR, INPT, AVMT, FREZ, SVOL and MVOL answer ERR4 (RULES, Commands,
+    /// Class 2).
+    pub fault: u8,
     /// What ERST answers of fan, lamp, temperature, cover, filter and other, as numbers and not characters:
     /// 0 no error or not known, 1 a warning, 2 an error (PJLink 1.04, 4.7).
     pub errors: [u8; ERRORS],
     /// The seconds that each lamp has burnt, at most 359,999,999 (RULES, Lamps); zero past the lamps.
     pub lamps: [u32; LAMPS_MOST],
-    /// Each lamp's mark: without it the lamp stays dark. At least one is set where there are lamps, none past them.
-    pub enabled: [bool; LAMPS_MOST],
-    /// Whether the picture stands still: FREZ alone changes it (RULES, Class 2).
-    pub frozen: bool,
+    /// A flag for each lamp, its mark: without it the lamp stays dark. At least one is raised where there are lamps,
+    /// none past them.
+    pub enabled: [u8; LAMPS_MOST],
+    /// A flag: the picture stands still, and FREZ alone changes it (RULES, Class 2).
+    pub frozen: u8,
     /// The level of the speaker, 0 to 20, 10 at set-up: SVOL alone changes it (RULES, Class 2).
     pub speaker: u8,
     /// The level of the microphone, 0 to 20, 10 at set-up: MVOL alone changes it (RULES, Class 2).
@@ -115,8 +118,8 @@ pub struct Own {
 #[repr(C)]
 #[derive(Clone, Copy)]
 pub struct Line {
-    /// Whether the line is longer than its phase allows: then nothing is collected of it (RULES, Connection).
-    pub overlong: bool,
+    /// A flag: the line is longer than its phase allows, and nothing is collected of it (RULES, Connection).
+    pub overlong: u8,
     /// How many bytes are collected: at most 167 while awaiting, 135 while open, else 0; 0 under the overlong mark.
     pub held: usize,
     /// The collected bytes at the start, none of them CR, and zero after them.
@@ -172,13 +175,13 @@ impl Own {
         power: 0,
         left: 0,
         chosen: 0,
-        video_muted: false,
-        audio_muted: false,
-        fault: false,
+        video_muted: 0,
+        audio_muted: 0,
+        fault: 0,
         errors: [0; ERRORS],
         lamps: [0; LAMPS_MOST],
-        enabled: [false; LAMPS_MOST],
-        frozen: false,
+        enabled: [0; LAMPS_MOST],
+        frozen: 0,
         speaker: 0,
         microphone: 0,
     };
@@ -191,7 +194,7 @@ impl Connection {
         age: 0,
         random: 0,
         line: Line {
-            overlong: false,
+            overlong: 0,
             held: 0,
             bytes: [0; LINE_ROOM],
         },

@@ -18,10 +18,12 @@ use Rattle.floorlog.specs.declared.kinds.Kind.{Kind}
 use Rattle.floorlog.specs.declared.kinds.Kind.TheVariants.{Unbegun}
 use Rattle.floorlog.specs.declared.kinds.ByKind.{ByKind}
 use Rattle.floorlog.specs.declared.playing.Player.{Player}
-use Rattle.floorlog.proofs.Replayed.{printed_from, all_printed, printed_none, state_none}
+use Rattle.floorlog.specs.Unplayed.{none_unplayed}
+use Rattle.floorlog.proofs.Replayed.{printed_from, all_printed, printed_none, PlayerLeft, left_so}
+use Rattle.floorlog.proofs.UnplayedBy.{all_unplayed}
 use Rattle.recorded.specs.Following.{chain_begun, belonging, stray_seen, stray_from}
 use Rattle.replay.specs.HistoryText.{device_after, stray_ending, end_text_of}
-use Rattle.replay.specs.LogText.{any_log_text, log_stray, lines_text, IsPrintedSoFar}
+use Rattle.replay.specs.LogText.{any_log_text, log_stray, log_unplayed, lines_text, IsPrintedSoFar}
 use Rattle.replay.specs.HistoryPlaying.{entries_then, stray_with, printed_then, player_prints, IsHistoryLeft}
 use Rattle.replay.specs.declared.playing.HistoryPlayer.{HistoryPlayer}
 use Rattle.replay.proofs.HistoryPlayed.{history_text_is}
@@ -37,7 +39,7 @@ abbrev pub players_print : Players → List LogLine → List ℕ
 players_print o ls = if is_history_from o.kind ls then player_prints o.history ls else events_print o.events ls
 
 abbrev pub EventsLeft : Player → List LogLine → Player → Type 0
-EventsLeft p ls last = last.tested.device ≡ state_after p.tested.device (map event (texts_of ls))
+EventsLeft p ls last = PlayerLeft p ls last
 
 abbrev pub PlayersLeft : Players → List LogLine → Players → Type 0
 PlayersLeft o ls last =
@@ -54,6 +56,7 @@ pub record Begun (o : Players) (d : Device) (sum : ℕ) : Type 0 where
   pub kind : o.kind ≡ Unbegun
   pub played : o.events.played ≡ 0
   pub events : o.events.tested.device ≡ d
+  pub unplayed : o.events.unplayed ≡ none_unplayed
   pub device : o.history.tested.device ≡ d
   pub log : o.history.log ≡ chain_begun sum
   pub lines : o.history.lines ≡ 0
@@ -63,15 +66,17 @@ pub begins : {o : Players} {p : Player} {h : HistoryPlayer} {d : Device} {sum : 
     → o.kind ≡ Unbegun
     → p.tested.device ≡ d
     → p.played ≡ 0
+    → p.unplayed ≡ none_unplayed
     → h.tested.device ≡ d
     → h.log ≡ chain_begun sum
     → h.lines ≡ 0
     → h.stray ≡ None
     → Begun o d sum
-begins same kind events played device log lines stray = record {
+begins same kind events played unplayed device log lines stray = record {
   kind = kind;
   played = ap (λ (p : Player). p.played) same.0 ∙ played;
   events = ap (λ (p : Player). p.tested.device) same.0 ∙ events;
+  unplayed = ap (λ (p : Player). p.unplayed) same.0 ∙ unplayed;
   device = ap (λ (h : HistoryPlayer). h.tested.device) same.1 ∙ device;
   log = ap (λ (h : HistoryPlayer). h.log) same.1 ∙ log;
   lines = ap (λ (h : HistoryPlayer). h.lines) same.1 ∙ lines;
@@ -123,6 +128,16 @@ module _ {o : Players} {d : Device} {sum : ℕ} (b : Begun o d sum) where
     pub none_found : is_history_from last.kind [] ≡ false → option_map stray_seen None ≡ log_stray d sum log
     none_found h = sym (if_no _ _ (sym kind_is ∙ h))
 
+    pub unplayed_found : is_history_from last.kind [] ≡ false → last.events.unplayed ≡ log_unplayed d log
+    unplayed_found h =
+        (match_false (IsHistoryLeft o.history (kept_lines log) last.history)
+        (EventsLeft o.events (kept_lines log) last.events) (sym left.0 ∙ h) left.1).1
+        ∙ all_unplayed b.unplayed b.played b.events log
+        ∙ sym (if_no _ _ (sym kind_is ∙ h))
+
+    pub none_unplayed_found : is_history_from last.kind [] ≡ true → none_unplayed ≡ log_unplayed d log
+    none_unplayed_found h = sym (if_yes _ _ (sym kind_is ∙ h))
+
   pub too_long : (log : List ℕ) → IsTooLong log ⊎ PlayersOverflow o (kept_lines log) → IsTooLong log
   too_long log h =
       ⊎_elim (λ (e : IsTooLong log). e)
@@ -164,7 +179,7 @@ module _ {o : Players} {d : Device} {sum : ℕ} (b : Begun o d sum) where
               shows = device_left_none at.history.lines at.history.log at.history.tested.device
                   (option_map stray_seen at.history.stray);
             })
-            (sym (state_none at.events.tested.device)),
+            (left_so at.events),
       )
 
       left_at : PlayersLeft o k.told at
@@ -202,7 +217,7 @@ module _ {o : Players} {d : Device} {sum : ℕ} (b : Begun o d sum) where
           let at_end : players_print at [] ≡ last_device_line (state_after d es) =
           if_no _ _ (left_at.0 ∙ kind_o ∙ h)
           ∙ printed_none at.events.tested.device at.events.played
-          ∙ ap last_device_line (m ∙ ap (λ (x : Device). state_after x es) b.events) in
+          ∙ ap last_device_line (m.0 ∙ ap (λ (x : Device). state_after x es) b.events) in
           append_cancel_right _ _ (last_device_line (state_after d es))
           (ap (λ (t : List ℕ). k.text ++ t) (sym at_end) ∙ ends
           ∙ if_no _ _ (kind_o ∙ h) ∙ (λ i. printed_from (b.played i) (b.events i) es))

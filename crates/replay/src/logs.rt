@@ -6,32 +6,35 @@ ghost use Rattle.textio.specs.Fronts.{WritesFront};
 ghost use Rattle.textio.specs.Ahead.{left_in};
 ghost use Rattle.textio.specs.NextLine.{FailureComesOf, OnFailedRead};
 ghost use Rattle.recorded.specs.Following.{stray_seen};
-ghost use Rattle.replay.specs.LogText.{any_log_text, log_stray, IsPrintedSoFar};
+ghost use Rattle.replay.specs.LogText.{any_log_text, log_stray, log_unplayed, IsPrintedSoFar};
 
 use crate::playing::HistoryPlayer;
 use floorlog::kinds::ByKind;
 use floorlog::observer;
 use floorlog::playing::Player;
+use floorlog::unplayed::Unplayed;
+use program::telling::Ending;
 use record::types::Device;
-use recorded::stray::StrayLine;
 use textio::lines::Failure;
 use textio::reader::{ByteSource, Reader};
 use textio::writer::ByteSink;
 
 /// The log that a reader has left, of either kind, played from a device, which need not be legal, and of which the
 /// stored form has this sum. What its lines are answered, the line of power and lamps, and which line of a history does
-/// not belong, go to a sink. Returns that line, if there is one. What is printed is handed on before each read, which
-/// may wait.
+/// not belong, go to a sink. Returns that line, if there is one, and what of a log of the first kind was not played. What
+/// is printed is handed on before each read, which may wait.
 pub fn replay_log<R: ByteSource, W: ByteSink>(
     begun: Device,
     sum: u32,
     from: &mut Reader<R>,
     to: &mut W,
-) -> Result<Option<StrayLine>, Failure>
+) -> Result<Ending, Failure>
     ensures whole { OnOk result (IfSome (left_in R.remaining from.old) (λ log.
         Appends (W.contents to.old) (W.contents to.new) (any_log_text begun sum log))) }
-    ensures stray { IfOk result (λ stray. IfSome (left_in R.remaining from.old) (λ log.
-        option_map stray_seen stray ≡ log_stray begun sum log)) }
+    ensures stray { IfOk result (λ ending. IfSome (left_in R.remaining from.old) (λ log.
+        option_map stray_seen ending.stray ≡ log_stray begun sum log)) }
+    ensures unplayed { IfOk result (λ ending. IfSome (left_in R.remaining from.old) (λ log.
+        ending.unplayed ≡ log_unplayed begun log)) }
     ensures front { IfSome (left_in R.remaining from.old) (λ log.
         WritesFront (W.contents to.old) (W.contents to.new) (any_log_text begun sum log)) }
     ensures none_waits { OnOk result (W.waiting to.new ≡ []) }
@@ -49,8 +52,14 @@ pub fn replay_log<R: ByteSource, W: ByteSink>(
     let mut players = ByKind::new(events, history);
     observer::follow(&mut players, from, to)?;
     Ok(if players.is_history() {
-        players.history.stray()
+        Ending {
+            stray: players.history.stray(),
+            unplayed: Unplayed::new(),
+        }
     } else {
-        None
+        Ending {
+            stray: None,
+            unplayed: players.events.unplayed(),
+        }
     })
 }

@@ -8,6 +8,7 @@ mod playing;
 mod tests;
 pub mod theorems;
 
+use command::asked::Command;
 use formfile::Begun;
 use program::about::About;
 use program::outside::System;
@@ -45,15 +46,12 @@ struct Replay;
 impl Telling for Replay {
     fn tell<R: ByteSource, W: ByteSink>(
         &self,
-        begun: Begun,
-        _page: bool,
+        begun: &Begun,
+        _command: &Command<'_>,
         from: &mut Reader<R>,
         to: &mut W,
     ) -> Result<Ending, Failure> {
-        match logs::replay_log(begun.device, begun.sum, from, to)? {
-            None => Ok(Ending::Whole),
-            Some(line) => Ok(Ending::Stray(line)),
-        }
+        logs::replay_log(begun.device, begun.sum, from, to)
     }
 }
 

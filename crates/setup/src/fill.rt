@@ -101,11 +101,11 @@ pub fn lamp_room(s: &[u32]) -> [u32; LAMPS_MOST]
 
 /// Each of so many lamps is enabled (RULES, Lamps).
 #[tactic(auto, using(record::proofs::MarksTold::marks_kept))]
-pub fn mark_room(count: usize) -> [bool; LAMPS_MOST]
+pub fn mark_room(count: usize) -> [u8; LAMPS_MOST]
     requires { count ≤ lamps_most }
     ensures { result ≡ all_marks count }
 {
-    rooms::kept(&[true; LAMPS_MOST][..count], false)
+    rooms::kept(&[1; LAMPS_MOST][..count], 0)
 }
 
 /// Off, both mutes off, the first input, no fault, error status 000000, and the lamps' starting seconds, each enabled,

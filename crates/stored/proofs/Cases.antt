@@ -17,14 +17,15 @@ use Rattle.record.proofs.OutOfRange.{each_in_range}
 use Rattle.record.proofs.Rules.{lamps_few, inputs_class}
 use Rattle.record.proofs.Started.{started_parts}
 use Rattle.stored.proofs.Fields.{length-seconds_in}
-use Rattle.stored.specs.Form.{mark_byte}
+use Rattle.text.specs.Flags.{is_raised, flag_of}
+use Rattle.text.proofs.FlagsTold.{flags_replicate, flags_told}
 use Rattle.stored.specs.Reading.{FormSaid, form}
 use Rattle.stored.specs.Views.{class_said}
 use Rattle.stored.specs.declared.form.Rest.{Rest}
 use Rattle.stored.specs.declared.error.LoadError.TheVariants.{LeftOver}
-use Rattle.stored.specs.Loading.{is_other_version, contents, loaded_from, is_marked, is_marks_of, are_marks}
+use Rattle.stored.specs.Loading.{is_other_version, contents, loaded_from, is_marks_of, are_marks}
 use Rattle.stored.specs.Loading.{started_with}
-use Rattle.stored.proofs.Marks.{marks_back, are_marks-map, all_are_marks, map-replicate, started_with-replicate}
+use Rattle.stored.proofs.Marks.{are_marks-map, all_are_marks, started_with-replicate}
 
 -- by the version, and by what reading gives
 module _ (s : List ℕ) where
@@ -82,21 +83,21 @@ module _ (w : Wanted) where
     abbrev n : ℕ
     n = length w.lamps
 
-    contents_marked : (s : List ℕ) → contents (saying s) ≡ started_if (are_marks n s) (map is_marked s)
-    contents_marked s = ap (λ (t : Bool). started_if (t && are_marks n s) (map is_marked s)) ok
+    contents_marked : (s : List ℕ) → contents (saying s) ≡ started_if (are_marks n s) (map is_raised s)
+    contents_marked s = ap (λ (t : Bool). started_if (t && are_marks n s) (map is_raised s)) ok
 
-    pub contents_of : (ms : List Bool) → contents (saying (map mark_byte ms)) ≡ started_if (is_marks_of n ms) ms
-    contents_of ms = contents_marked (map mark_byte ms) ∙ (λ j. started_if (are_marks-map n ms j) (marks_back ms j))
+    pub contents_of : (ms : List Bool) → contents (saying (map flag_of ms)) ≡ started_if (is_marks_of n ms) ms
+    contents_of ms = contents_marked (map flag_of ms) ∙ (λ j. started_if (are_marks-map n ms j) (flags_told ms j))
 
     -- as the code tests them on the device that was set up
     pub contents_tested : {d : Device} → d ≡ start_device w → {m s : List ℕ} → m ≡ s → {t : Bool}
-        → t ≡ are_marks d.settings.lamp_count s → contents (saying m) ≡ started_if t (map is_marked s)
+        → t ≡ are_marks d.settings.lamp_count s → contents (saying m) ≡ started_if t (map is_raised s)
     contents_tested made {m} {s} same e = grind (arith, started_parts)
 
     -- in the version that has none, each of its lamps is enabled
     pub contents_unmarked : contents (saying (replicate n 1)) ≡ acceptance_of (start_device w)
     contents_unmarked =
-        ap (λ (s : List ℕ). contents (saying s)) (sym (map-replicate n))
+        ap (λ (s : List ℕ). contents (saying s)) (sym (flags_replicate n))
         ∙ contents_of (replicate n true)
         ∙ if_yes _ _ (all_are_marks n (lamps_few w.lamps (each_in_range w ok Lamps)))
         ∙ ap acceptance_of (started_with-replicate w ok)

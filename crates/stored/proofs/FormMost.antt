@@ -18,7 +18,8 @@ use Rattle.record.specs.declared.types.Setting.TheVariants.{Inputs, Lamps}
 use Rattle.record.proofs.Rules.{inputs_few, lamps_few, names_many, names_each, text_most}
 use Rattle.record.proofs.FactsTold.{legal_is}
 use Rattle.record.proofs.OutOfRange.{each_in_range}
-use Rattle.stored.specs.Form.{form_version, mark_byte, marks_section, form_of, form_most, stored_of, marks_stored}
+use Rattle.text.specs.Flags.{flag_of}
+use Rattle.stored.specs.Form.{form_version, marks_section, form_of, form_most, stored_of, marks_stored}
 use Rattle.stored.specs.Form.{texts_bytes, texts_in_class_2, class_part_text, form_with, stored_form}
 use Rattle.stored.proofs.Fields.{seconds_long}
 use Rattle.stored.specs.Loading.{is_marks_of}
@@ -61,7 +62,7 @@ form_within_most w ms ok marks =
       arith,
       form_long form_version (marks_section ms) (class_part_text w.class (texts_in_class_2 w)) w,
       class_most w ok,
-      length-map ms mark_byte,
+      length-map ms flag_of,
       eqb-true (length ms) (length w.lamps) (both_left (length ms == length w.lamps) _ marks),
       name_long w.name (met Name),
       info_long w.maker (met Maker),

@@ -34,11 +34,10 @@ use Rattle.record.specs.declared.types.Setting.TheVariants.{Inputs, WarmUp, Cool
 use Rattle.record.proofs.Kept.{kept_length, filled_take}
 use Rattle.record.proofs.Rules.{names_many, names_shown}
 use Rattle.record.proofs.NamesTold.{names_first}
-use Rattle.record.proofs.MarksTold.{front_many}
 use Rattle.record.proofs.LegalTold.{settings_of_legal, own_of_legal}
 use Rattle.record.proofs.OutOfRange.{each_in_range, in_range_shown}
 use Rattle.record.proofs.Started.{started_parts, inputs_halved}
-use Rattle.stored.proofs.Marks.{mark_room-take, room_front}
+use Rattle.stored.proofs.Marks.{front_seen, mark_room-take, room_front}
 use Rattle.record.proofs.FactsTold.{stretch_is, fills_told}
 
 -- the first byte, if it is still there, is the version
@@ -163,7 +162,7 @@ module _ (d : Device) (h : is_legal d ≡ true) where
 
   pub stored_marks : is_marks_of (length (stored_of d).lamps) (marks_stored d) ≡ true
   stored_marks =
-      grind (arith, front_many _ _ own.marks told.lamps, lamps_many, mark_room-marks_stored, own.marks)
+      grind (arith, front_seen _ _ own.marks told.lamps, lamps_many, mark_room-marks_stored, own.marks)
 
   pub stored_loads : loaded_from (stored_form d) ≡ acceptance_of (started_with (stored_of d) (marks_stored d))
   stored_loads = form_loads (stored_of d) stored_in_range (marks_stored d) stored_marks

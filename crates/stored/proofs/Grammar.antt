@@ -22,7 +22,8 @@ use Rattle.record.specs.declared.types.Setting.TheVariants.{Inputs, Lamps, WarmU
 use Rattle.record.proofs.Rules.{lamps_within, text_most, names_many}
 use Rattle.record.proofs.OutOfRange.{each_in_range}
 use Rattle.record.proofs.Started.{inputs_halved}
-use Rattle.stored.specs.Form.{form_version, old_version, text_section, seconds_bytes, mark_byte, marks_section}
+use Rattle.text.specs.Flags.{flag_of}
+use Rattle.stored.specs.Form.{form_version, old_version, text_section, seconds_bytes, marks_section}
 use Rattle.stored.specs.Form.{texts_bytes, texts_in_class_2, class_part_text, form_with, version_form}
 use Rattle.stored.specs.Reading.{given, byte, number, section_of, text, texts, seconds_in, ClassPart, class_alone}
 use Rattle.stored.specs.Reading.{texts_of_2, class_part, class_in, marks_of, FormSaid, form}
@@ -43,13 +44,13 @@ rest_part v c = if v == form_version then class_text c else []
 -- ---- written
 
 abbrev pub bytes_of : ℕ → ℕ → List Bool → List ℕ
-bytes_of v n ms = if v == old_version then replicate n 1 else map mark_byte ms
+bytes_of v n ms = if v == old_version then replicate n 1 else map flag_of ms
 
 marks_form : (v n : ℕ) (ms : List Bool)
     → IsForm (marks_of v n) (bytes_of v n ms) (if v == old_version then [] else marks_section ms)
 unfolding marks_of
 marks_form v n ms =
-    let marks = section_form 1 (length ms) (map mark_byte ms) (omega (arith, length-map ms mark_byte)) in
+    let marks = section_form 1 (length ms) (map flag_of ms) (omega (arith, length-map ms flag_of)) in
     record { again = λ t. grind (arith, marks.again t); cut = λ k l. grind (arith, marks.cut k) }
 
 pub nothing : {A : Type 0} (s : List A) → length s ≤ 0 → s ≡ []

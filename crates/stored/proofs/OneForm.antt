@@ -9,10 +9,12 @@ use Rattle.words.specs.Bytes.{◌at◌}
 use Rattle.record.specs.Wanted.{Wanted}
 use Rattle.record.specs.declared.types.Device.{Device}
 use Rattle.record.specs.Given.{Given}
+use Rattle.text.specs.Flags.{is_raised}
+use Rattle.text.proofs.FlagsTold.{flags_replicate, flags_told, flags_again}
 use Rattle.stored.specs.Form.{text_section, marks_section, texts_in_class_2, class_part_text, form_with, form_version}
 use Rattle.stored.specs.Form.{old_version, version_form, stored_of, marks_stored, stored_form}
-use Rattle.stored.specs.Loading.{said_in, settings_in, mark_bytes_in, is_marked, marks_read, started_with, loaded_from}
-use Rattle.stored.proofs.Marks.{AreMarks, marks_are, marks_again, marks_back, map-replicate}
+use Rattle.stored.specs.Loading.{said_in, settings_in, mark_bytes_in, marks_read, started_with, loaded_from}
+use Rattle.stored.proofs.Marks.{AreMarks, marks_are}
 use Rattle.stored.proofs.Results.{IsAccepted, accepted_told, accepted_set_up}
 use Rattle.stored.proofs.FormsLoad.{started_stored, marks_stored-started_with}
 use Rattle.stored.proofs.Fields.{Bytes}
@@ -47,7 +49,7 @@ module _ (s : List ℕ) (e : (loaded_from s).number ≡ 0) where
   version_again b =
       let w = settings_in s in
       let same : marks_section (marks_read s) ≡ text_section (mark_bytes_in s)
-      = (λ j. length-map (mark_bytes_in s) is_marked j ∷ marks_again (mark_bytes_in s) marks.each j) in
+      = (λ j. length-map (mark_bytes_in s) is_raised j ∷ flags_again (mark_bytes_in s) marks.each j) in
       ap (λ (m : List ℕ). form_with (s at 0) (if (s at 0) == old_version then [] else m)
       (if (s at 0) == form_version then class_part_text w.class (texts_in_class_2 w) else []) w) same
       ∙ sym (append-nil (formed (s at 0) (said_in s)))
@@ -67,8 +69,8 @@ old_enabled s e o =
     let n = length (settings_in s).lamps in
     let ones : mark_bytes_in s ≡ replicate n 1 = (read s e).marks (grind (arith, o)) in
     marks_stored_lem s e
-    ∙ ap (map is_marked) (ones ∙ sym (map-replicate n))
-    ∙ marks_back (replicate n true)
+    ∙ ap (map is_raised) (ones ∙ sym (flags_replicate n))
+    ∙ flags_told (replicate n true)
     ∙ ap (λ (w : Wanted). replicate (length w.lamps) true) (sym (settings_stored s e))
 
 -- bytes of one version that load as one record are one

@@ -9,8 +9,7 @@
 --   section count items        a section: its count, then what is section_of
 --   text_section s             of a text, whose items are its bytes
 --   seconds_bytes xs           the seconds of each lamp, four bytes a lamp
---   mark_byte m                the byte of a lamp's enabled mark
---   marks_section ms           the section of the marks ms
+--   marks_section ms           the section of the marks ms, a flag each
 --   texts_bytes ts             texts, each after its count
 --   texts_in_class_2 w         the texts of the settings w that Class 2 alone has
 --   class_part_text k ts       the class k, and these texts in Class 2
@@ -27,8 +26,9 @@
 --   storing_rows d room        when it is refused, and with which number: memory is short by this form's own length
 --   stored_by d room           refused with no byte, or the form
 -- Assumes nothing.
-use Rattle.std.specs.Prelude.{ℕ, ◌*◌, ◌/◌, Bool, true, false, not, List, [], ◌∷◌, ◌++◌, map, length, take}
+use Rattle.std.specs.Prelude.{ℕ, ◌*◌, ◌/◌, Bool, not, List, [], ◌∷◌, ◌++◌, map, length, take}
 use Rattle.std.specs.Prelude.{if◌then◌else◌, nat_lt, ◌==◌}
+use Rattle.text.specs.Flags.{flag_of}
 use Rattle.text.specs.InTurn.{each_in_turn}
 use Rattle.text.specs.Rows.{Row, ◌when◌, by_rows}
 use Rattle.text.specs.Outcomes.{WrittenAs, nothing_written}
@@ -36,6 +36,7 @@ use Rattle.numbers.specs.HighestFirst.{highest_first}
 use Rattle.record.specs.Limits.{only_in_2}
 use Rattle.record.specs.Wanted.{Wanted}
 use Rattle.record.specs.Legal.{is_legal}
+use Rattle.record.specs.Views.{marks_seen}
 use Rattle.record.specs.declared.types.Text.{Text}
 use Rattle.record.specs.declared.types.InputName.{InputName}
 use Rattle.record.specs.declared.types.Device.{Device}
@@ -58,12 +59,8 @@ text_section s = section (length s) s
 unfoldable pub seconds_bytes : List ℕ → List ℕ
 seconds_bytes xs = each_in_turn (highest_first 4) xs
 
-abbrev pub mark_byte : Bool → ℕ
-mark_byte false = 0
-mark_byte true = 1
-
 abbrev pub marks_section : List Bool → List ℕ
-marks_section ms = section (length ms) (map mark_byte ms)
+marks_section ms = section (length ms) (map flag_of ms)
 
 unfoldable pub texts_bytes : List (List ℕ) → List ℕ
 texts_bytes ts = each_in_turn text_section ts
@@ -126,7 +123,7 @@ stored_of d = record {
 }
 
 abbrev pub marks_stored : Device → List Bool
-marks_stored d = take d.settings.lamp_count d.own.enabled
+marks_stored d = take d.settings.lamp_count (marks_seen d.own)
 
 abbrev pub stored_form : Device → List ℕ
 stored_form d = form_of (stored_of d) (marks_stored d)

@@ -5,8 +5,7 @@
 --   is_cut_short s            the bytes end before the form does;    is_left_over s    the form ends before the bytes
 --                             do
 --   said_in s                 what the form says;    settings_in s, mark_bytes_in s    its settings, its bytes of marks
---   is_mark_byte b            it is 0 or 1;    is_marked b    it is 1: the lamp is enabled
---   marks_read s              the marks in s
+--   marks_read s              the marks in s, each a flag
 --   mark_room ms              the marks ms in their room: none past them
 --   is_marks_of n ms          ms are marks of n lamps: one a lamp, and legal in their room
 --   are_marks n bytes         the bytes are such marks
@@ -19,11 +18,12 @@
 use Rattle.std.specs.Prelude.{ℕ, Bool, true, false, not, ◌&&◌, List, [], ◌∷◌, map, length, Option, Some, None}
 use Rattle.std.specs.Prelude.{if◌then◌else◌, ◌==◌}
 use Rattle.std.specs.List.{list_all}
+use Rattle.text.specs.Flags.{is_flag, is_raised, flag_of}
 use Rattle.text.specs.Rooms.{filled_room}
 use Rattle.text.specs.Rows.{Row, ◌when◌, by_rows}
 use Rattle.record.specs.Limits.{lamps_most}
 use Rattle.record.specs.Wanted.{Wanted, wanted_of}
-use Rattle.record.specs.Rules.{at_most, is_marks}
+use Rattle.record.specs.Rules.{is_marks}
 use Rattle.record.specs.Updates.{with_own, with_marks}
 use Rattle.record.specs.Record.{start_device, blank}
 use Rattle.record.specs.Given.{Given, acceptance_of, refusal_with}
@@ -64,23 +64,17 @@ settings_in s = (said_in s).settings
 abbrev pub mark_bytes_in : List ℕ → List ℕ
 mark_bytes_in s = (said_in s).marks
 
-abbrev pub is_mark_byte : ℕ → Bool
-is_mark_byte b = at_most 1 b
-
-abbrev pub is_marked : ℕ → Bool
-is_marked b = b == 1
-
 abbrev pub marks_read : List ℕ → List Bool
-marks_read s = map is_marked (mark_bytes_in s)
+marks_read s = map is_raised (mark_bytes_in s)
 
-unfoldable pub mark_room : List Bool → List Bool
-mark_room ms = filled_room false lamps_most ms
+unfoldable pub mark_room : List Bool → List ℕ
+mark_room ms = filled_room 0 lamps_most (map flag_of ms)
 
 abbrev pub is_marks_of : ℕ → List Bool → Bool
 is_marks_of n ms = length ms == n && is_marks n (mark_room ms)
 
 abbrev pub are_marks : ℕ → List ℕ → Bool
-are_marks n bytes = list_all is_mark_byte bytes && is_marks_of n (map is_marked bytes)
+are_marks n bytes = list_all is_flag bytes && is_marks_of n (map is_raised bytes)
 
 abbrev pub started_with : Wanted → List Bool → Device
 started_with w ms = with_own (start_device w) (with_marks (start_device w).own (mark_room ms))
@@ -90,7 +84,7 @@ is_legal_said f = is_set_up f.settings && are_marks (length f.settings.lamps) f.
 
 abbrev pub contents : FormSaid → Given Device
 contents f =
-    if is_legal_said f then acceptance_of (started_with f.settings (map is_marked f.marks)) else refusal_with 23 blank
+    if is_legal_said f then acceptance_of (started_with f.settings (map is_raised f.marks)) else refusal_with 23 blank
 
 abbrev pub load_rows : List ℕ → List Row
 load_rows s =

@@ -3,6 +3,7 @@
 ghost use Rattle.std.specs.Prelude.{◌≡◌, ◌/◌, ◌==◌, ◌&&◌, ◌≤◌, true, map, length, OnOk, OnErr};
 ghost use Rattle.std.specs.List.{list_all};
 ghost use Rattle.std.specs.Result.{is_ok};
+ghost use Rattle.text.specs.Flags.{is_flag, is_raised};
 ghost use Rattle.record.specs.Limits.{lamps_most};
 ghost use Rattle.record.specs.Record.{in_room, start_device, blank};
 ghost use Rattle.record.specs.Updates.{with_own, with_marks};
@@ -10,7 +11,7 @@ ghost use Rattle.record.specs.Facts.{IsLegal};
 ghost use Rattle.record.specs.SetUp.{is_set_up};
 ghost use Rattle.record.specs.Given.{gives};
 ghost use Rattle.stored.specs.Reading.{seconds_in};
-ghost use Rattle.stored.specs.Loading.{is_other_version, is_mark_byte, is_marked, mark_room, are_marks};
+ghost use Rattle.stored.specs.Loading.{is_other_version, mark_room, are_marks};
 ghost use Rattle.stored.specs.Loading.{contents, loaded_from};
 ghost use Rattle.stored.specs.Told.{loading_told};
 ghost use Rattle.stored.specs.Views.{said_of};
@@ -20,10 +21,11 @@ use crate::form::{Form, MARKED_VERSION, OLD_VERSION};
 use crate::reader::Reader;
 use crate::storing::VERSION;
 use numbers::highest;
+use record::fresh;
 use record::set_up_error::SetUpError;
 use record::types::{Device, LAMPS_MOST, Setting};
-use record::{fresh, scan};
 use setup::wanted::Wanted;
+use text::{flag, rooms};
 
 fn is_other_version(bytes: &[u8]) -> bool
     ensures { result ≡ is_other_version bytes.now }
@@ -50,22 +52,20 @@ fn seconds_of(bytes: &[u8]) -> [u32; LAMPS_MOST]
 }
 
 // The marks that the bytes are, in their room.
-fn marks_of(bytes: &[u8]) -> [bool; LAMPS_MOST]
-    requires { length bytes.now ≤ lamps_most }
-    ensures { result ≡ mark_room (map is_marked bytes.now) }
+#[tactic(auto, using(crate::proofs::Marks::flags_in_room))]
+fn marks_of(bytes: &[u8]) -> [u8; LAMPS_MOST]
+    requires few { length bytes.now ≤ lamps_most }
+    requires flags { list_all is_flag bytes.now ≡ true }
+    ensures { result ≡ mark_room (map is_raised bytes.now) }
 {
-    let mut list = [false; LAMPS_MOST];
-    for (i, b) in bytes.iter().enumerate() {
-        list[i] = *b == 1;
-    }
-    list
+    rooms::kept(bytes, 0)
 }
 
-// A byte for each of so many lamps, 0 or 1.
+// A flag for each of so many lamps.
 fn are_mark_bytes(count: usize, bytes: &[u8]) -> bool
-    ensures { result ≡ (length bytes.now == count && list_all is_mark_byte bytes.now) }
+    ensures { result ≡ (length bytes.now == count && list_all is_flag bytes.now) }
 {
-    bytes.len() == count && scan::bytes_within(bytes, 1)
+    bytes.len() == count && flag::are_flags(bytes)
 }
 
 // The marks that the bytes are, if they are marks of its lamps, and whether they are: the record's own test says which
@@ -75,7 +75,7 @@ fn enable(device: &mut Device, bytes: &[u8]) -> bool
     requires { IsLegal device.old }
     ensures legal { result ≡ are_marks device.old.settings.lamp_count bytes.now }
     ensures device { result ≡ true
-        → device.new ≡ with_own device.old (with_marks device.old.own (mark_room (map is_marked bytes.now))) }
+        → device.new ≡ with_own device.old (with_marks device.old.own (mark_room (map is_raised bytes.now))) }
 {
     if !are_mark_bytes(device.settings.lamp_count, bytes) {
         return false;

@@ -7,8 +7,10 @@ use Rattle.std.proofs.Common.{if◌then◌else◌, not}
 use Rattle.std.proofs.lemmas.Bool.{lt-leb}
 use Rattle.std.proofs.Math.Seq.{sets}
 use mathlib.Core.List.{foldl}
+use Rattle.text.specs.Flags.{is_raised}
 use Rattle.text.specs.Scans.{index_of}
 use Rattle.text.proofs.Choices.{if_yes, if_no, if_by}
+use Rattle.text.proofs.FlagsTold.{lowered_zero}
 use Rattle.text.proofs.Orders.{le_or_lt}
 use Rattle.record.specs.declared.types.Line.{Line}
 use Rattle.stream.specs.Collecting.{overlong_line, collected_in, collected_all}
@@ -16,23 +18,24 @@ use Rattle.stream.specs.Machine.{UpTo, one_later, up_to}
 
 -- one byte more: under the mark, past the limit, where there is room
 abbrev pub more : Line → ℕ → Line
-more l b = record { overlong = false; held = l.held + 1; bytes = set l.bytes l.held b }
+more l b = record { overlong = 0; held = l.held + 1; bytes = set l.bytes l.held b }
 
 module _ (left : List ℕ → List ℕ) (most : ℕ) (l : Line) (b : ℕ) where
   abbrev pub past : Line
-  past = record { overlong = true; held = 0; bytes = left l.bytes }
+  past = record { overlong = 1; held = 0; bytes = left l.bytes }
 
-  pub collected_by : (P : Line → Type 0) → (l.overlong ≡ true → P l)
-      → (l.overlong ≡ false → most ≤ l.held → P past) → (l.overlong ≡ false → l.held < most → P (more l b))
+  pub collected_by : (P : Line → Type 0) → (is_raised l.overlong ≡ true → P l)
+      → (is_raised l.overlong ≡ false → most ≤ l.held → P past)
+      → (is_raised l.overlong ≡ false → l.held < most → P (more l b))
       → P (collected_in left most l b)
   unfolding collected_in
   collected_by P marked full fits = grind (arith, if_by, leb-true, leb-false)
 
-  pub one_marked : l.overlong ≡ true → collected_in left most l b ≡ l
+  pub one_marked : is_raised l.overlong ≡ true → collected_in left most l b ≡ l
   unfolding collected_in
   one_marked e = if_yes _ _ e
 
-  module _ (unmarked : l.overlong ≡ false) where
+  module _ (unmarked : is_raised l.overlong ≡ false) where
     pub one_fits : l.held < most → collected_in left most l b ≡ more l b
     unfolding collected_in
     one_fits h = if_no _ _ unmarked ∙ if_no _ _ (lt-leb most l.held h)
@@ -43,17 +46,18 @@ module _ (left : List ℕ → List ℕ) (most : ℕ) (l : Line) (b : ℕ) where
 
 module _ (most : ℕ) where
   -- the mark stays
-  pub marked_stays : (l : Line) (bs : List ℕ) → l.overlong ≡ true → collected_all most l bs ≡ l
+  pub marked_stays : (l : Line) (bs : List ℕ) → is_raised l.overlong ≡ true → collected_all most l bs ≡ l
   marked_stays l [] e = refl
   marked_stays l (b ∷ bs) e = grind (arith, one_marked, marked_stays l bs e)
 
-  pub all_fit : (l : Line) (bs : List ℕ) → l.overlong ≡ false → l.held + length bs ≤ most
+  pub all_fit : (l : Line) (bs : List ℕ) → is_raised l.overlong ≡ false → l.held + length bs ≤ most
       → collected_all most l bs
-      ≡ record { overlong = false; held = l.held + length bs; bytes = sets l.bytes l.held bs }
-  all_fit l [] e h = (λ i. record { overlong = e i; held = sym (add-zero l.held) i; bytes = l.bytes })
+      ≡ record { overlong = 0; held = l.held + length bs; bytes = sets l.bytes l.held bs }
+  all_fit l [] e h =
+      (λ i. record { overlong = lowered_zero l.overlong e i; held = sym (add-zero l.held) i; bytes = l.bytes })
   all_fit l (b ∷ bs) e h = grind (arith, one_fits, add-one, all_fit (more l b) bs refl (omega arith))
 
-  pub all_past : (l : Line) (bs : List ℕ) → l.overlong ≡ false → 1 ≤ length bs → most < l.held + length bs
+  pub all_past : (l : Line) (bs : List ℕ) → is_raised l.overlong ≡ false → 1 ≤ length bs → most < l.held + length bs
       → collected_all most l bs ≡ overlong_line
   unfolding overlong_line
   all_past l [] e s h = absurd (omega arith)

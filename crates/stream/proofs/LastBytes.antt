@@ -6,6 +6,7 @@ use Rattle.std.proofs.Common.{arith, add-one, length, take, set, take-suc-set}
 use Rattle.std.proofs.lemmas.Bool.{false≢true, eqb-false}
 use Rattle.std.proofs.Math.Seq.{take-append_seam, take-append-add}
 use Prim.Native.Char.{code}
+use Rattle.text.specs.Flags.{is_raised}
 use Rattle.text.specs.Words.{◌is◌}
 use Rattle.text.proofs.Choices.{if_by}
 use Rattle.record.specs.Legal.{is_collecting, held_most}
@@ -47,7 +48,7 @@ ends_unheld w l e = record {
 }
 
 -- a legal line under the mark holds nothing
-overlong_unheld : (phase : ℕ) (l : Line) → LegalLine phase l → l.overlong ≡ true → l.held ≡ 0
+overlong_unheld : (phase : ℕ) (l : Line) → LegalLine phase l → is_raised l.overlong ≡ true → l.held ≡ 0
 overlong_unheld phase l p e = grind (arith, marked_none)
 
 one_more_ends : (phase : ℕ) (l : Line) (b : ℕ) → LegalLine phase l

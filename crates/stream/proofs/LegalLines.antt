@@ -2,10 +2,12 @@
 -- zero.
 -- Assumes nothing.
 use Rattle.std.specs.List.{list_all}
-use Rattle.std.proofs.Common.{ℕ, ◌+◌, ◌≡◌, refl, sym, ap, ◌∙◌, true, false, List, [], ◌∷◌, ◌++◌, arith, length}
+use Rattle.std.proofs.Common.{ℕ, ◌+◌, ◌≤◌, ◌≡◌, refl, sym, ap, ◌∙◌, true, false, List, [], ◌∷◌, ◌++◌, arith, length}
 use Rattle.std.proofs.Common.{take, drop, ne_eqb}
 use Prim.Native.Char.{code}
+use Rattle.text.specs.Flags.{is_raised}
 use Rattle.text.proofs.Choices.{both, both_right}
+use Rattle.text.proofs.FlagsTold.{lowered_zero}
 use Rattle.text.proofs.Scanning.{list_all-append}
 use Rattle.words.specs.Bytes.{no_cr}
 use Rattle.words.proofs.Characters.{no_cr_of, no_cr_each}
@@ -23,7 +25,8 @@ use Rattle.stream.proofs.AllAtOnce.{collected_by}
 -- the line's part of a legal connection
 pub record LegalLine (phase : ℕ) (l : Line) : Type 0 where
   pub kept : Fills line_room no_cr l.bytes l.held
-  pub held : is_held phase l.overlong l.held ≡ true
+  pub flag : l.overlong ≤ 1
+  pub held : is_held phase (is_raised l.overlong) l.held ≡ true
 
 pub empty_legal : (phase : ℕ) → LegalLine phase empty_line
 unfolding empty_line
@@ -31,7 +34,11 @@ empty_legal phase = grind (arith, nothing_kept, no_cr_of, unmarked_held)
 
 overlong_legal : (phase : ℕ) → is_collecting phase ≡ true → LegalLine phase overlong_line
 unfolding overlong_line
-overlong_legal phase e = record { kept = nothing_kept line_room no_cr (no_cr_of [] refl); held = marked_held phase e }
+overlong_legal phase e = record {
+  kept = nothing_kept line_room no_cr (no_cr_of [] refl);
+  flag = omega arith;
+  held = marked_held phase e;
+}
 
 no_cr_more : (s : List ℕ) (b : ℕ) → no_cr s ≡ true → (b ≡ code "\r" → ⊥) → no_cr (s ++ (b ∷ [])) ≡ true
 no_cr_more s b e n = grind (arith, no_cr_of, list_all-append, no_cr_each, both, ne_eqb)
@@ -45,6 +52,7 @@ collected_legal phase l b e n p =
     record {
       kept = one_more_kept line_room no_cr l.bytes l.held b p.kept (omega arith)
           (no_cr_more (take l.held l.bytes) b p.kept.follows n);
+      flag = omega arith;
       held = unmarked_held phase (l.held + 1) (omega arith);
     })
 
@@ -61,10 +69,11 @@ zeros_by : (s : List ℕ) → list_all is_zero s ≡ true → s ≡ zeros (lengt
 zeros_by [] e = refl
 zeros_by (x ∷ s) e = grind (arith, zeros_by s (both_right (is_zero x) (list_all is_zero s) e))
 
-pub between_lines : (phase : ℕ) (l : Line) → LegalLine phase l → l.overlong ≡ false → l.held ≡ 0 → l ≡ empty_line
+pub between_lines : (phase : ℕ) (l : Line) → LegalLine phase l → is_raised l.overlong ≡ false → l.held ≡ 0
+    → l ≡ empty_line
 unfolding empty_line
 between_lines phase l p unmarked none =
     let clear : list_all is_zero l.bytes ≡ true = ap (λ (n : ℕ). list_all is_zero (drop n l.bytes)) (sym none)
     ∙ p.kept.clear in
     let cleared : l.bytes ≡ zeros line_room = zeros_by l.bytes clear ∙ ap zeros p.kept.long in
-    (λ i. record { overlong = unmarked i; held = none i; bytes = cleared i })
+    (λ i. record { overlong = lowered_zero l.overlong unmarked i; held = none i; bytes = cleared i })

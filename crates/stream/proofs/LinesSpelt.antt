@@ -1,13 +1,14 @@
 -- The empty line field by field; gathering nothing; running over nothing, and over one byte and the rest.
 -- Assumes nothing.
 use Rattle.std.proofs.Common.{ℕ, ◌≡◌, refl, false, true, List, [], ◌∷◌}
+use Rattle.text.specs.Flags.{is_raised}
 use Rattle.record.specs.Limits.{line_room}
 use Rattle.record.specs.Record.{zeros}
 use Rattle.record.specs.declared.types.Line.{Line}
 use Rattle.stream.specs.Collecting.{empty_line, overlong_line, gathered_from}
 use Rattle.stream.specs.Machine.{Out, without_reply, reply_then, up_to, one_step, run_over}
 
-pub empty_spelt : empty_line ≡ record { overlong = false; held = 0; bytes = zeros line_room }
+pub empty_spelt : empty_line ≡ record { overlong = 0; held = 0; bytes = zeros line_room }
 unfolding empty_line
 empty_spelt = refl
 
@@ -15,7 +16,7 @@ pub empty_held : empty_line.held ≡ 0
 unfolding empty_line
 empty_held = refl
 
-pub overlong_marked : overlong_line.overlong ≡ true
+pub overlong_marked : is_raised overlong_line.overlong ≡ true
 unfolding overlong_line
 overlong_marked = refl
 

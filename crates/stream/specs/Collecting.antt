@@ -11,31 +11,32 @@
 --   gathered_from most l bs    the line after the bytes of bs before the first CR, how many these are, and whether it
 --                              came
 -- Assumes nothing.
-use Rattle.std.specs.Prelude.{ℕ, ◌+◌, true, false, length, take, set, if◌then◌else◌, nat_le, List}
+use Rattle.std.specs.Prelude.{ℕ, ◌+◌, length, take, set, if◌then◌else◌, nat_le, List}
 use Prim.Native.Char.{code}
 use mathlib.Core.List.{foldl}
+use Rattle.text.specs.Flags.{is_raised}
 use Rattle.record.specs.Limits.{line_room}
 use Rattle.record.specs.Record.{zeros, in_room}
 use Rattle.record.specs.declared.types.Line.{Line}
 use Rattle.stream.specs.Machine.{UpTo, up_to}
 
 abbrev pub line_of : List ℕ → Line
-line_of xs = record { overlong = false; held = length xs; bytes = in_room line_room xs }
+line_of xs = record { overlong = 0; held = length xs; bytes = in_room line_room xs }
 
 abbrev pub line_text : Line → List ℕ
 line_text l = take l.held l.bytes
 
 unfoldable pub empty_line : Line
-empty_line = record { overlong = false; held = 0; bytes = zeros line_room }
+empty_line = record { overlong = 0; held = 0; bytes = zeros line_room }
 
 unfoldable pub overlong_line : Line
-overlong_line = record { overlong = true; held = 0; bytes = zeros line_room }
+overlong_line = record { overlong = 1; held = 0; bytes = zeros line_room }
 
 unfoldable pub collected_in : (List ℕ → List ℕ) → ℕ → Line → ℕ → Line
 collected_in left most l b =
-    if l.overlong then l
-    else if nat_le most l.held then record { overlong = true; held = 0; bytes = left l.bytes }
-    else record { overlong = false; held = l.held + 1; bytes = set l.bytes l.held b }
+    if is_raised l.overlong then l
+    else if nat_le most l.held then record { overlong = 1; held = 0; bytes = left l.bytes }
+    else record { overlong = 0; held = l.held + 1; bytes = set l.bytes l.held b }
 
 abbrev pub line_after : ℕ → Line → ℕ → Line
 line_after most l b = collected_in (λ (m : List ℕ). zeros line_room) most l b

@@ -9,6 +9,7 @@ ghost use Rattle.stream.specs.Collecting.{collected_all, gathered_from};
 
 use record::types::{LINE_ROOM, Line};
 use record::views::Phase;
+use text::flag;
 
 /// What one call makes of the bytes it is handed, beside the line, which changes where it lies: how many come before
 /// CR, and whether it came.
@@ -22,7 +23,7 @@ pub struct Passed {
 
 // The line that got longer than the phase allows: only its mark is kept.
 const OVERLONG: Line = Line {
-    overlong: true,
+    overlong: 1,
     held: 0,
     bytes: [0; LINE_ROOM],
 };
@@ -32,7 +33,7 @@ fn collect(most: usize, l: &mut Line, more: &[u8])
     requires { most ≤ line_room }
     ensures { l.new ≡ collected_all most l.old more.now }
 {
-    if l.overlong {
+    if flag::is_raised(l.overlong) {
         return;
     }
     if more.len() == 0 {

@@ -12,6 +12,7 @@
 --   RecordedWatched     and of what is recorded of any calls (RULES, History of a board)
 -- Assumes nothing.
 use Rattle.std.specs.Prelude.{ℕ, ◌<◌, ◌≡◌, Bool, false, List, [], ◌∷◌, ◌++◌, length, if◌then◌else◌, slice_index_or}
+use Rattle.record.specs.Views.{marks_seen}
 use Rattle.record.specs.Places.{connection_at, is_shut}
 use Rattle.record.specs.Wanted.{Wanted}
 use Rattle.record.specs.declared.types.Device.{Device}
@@ -44,7 +45,7 @@ calls_of d [] = []
 calls_of d (e ∷ es) = calls_by d e ++ calls_of (done_by d e) es
 
 abbrev pub is_marked_in : Device → ℕ → Bool
-is_marked_in d k = slice_index_or d.own.enabled k false
+is_marked_in d k = slice_index_or (marks_seen d.own) k false
 
 abbrev pub stretches_in : ℕ → List Telling → List Stretch
 stretches_in k [] = []

@@ -3,6 +3,7 @@ pub mod Bases
 pub mod Choices
 pub mod DigitsRead
 pub mod EachBelow
+pub mod FlagsTold
 pub mod InTurn
 pub mod OneResult
 pub mod Orders

@@ -5,4 +5,5 @@ pub mod Rows
 pub mod Outcomes
 pub mod Bases
 pub mod Rooms
+pub mod Flags
 pub mod Computing

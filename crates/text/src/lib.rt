@@ -1,6 +1,8 @@
-// Text in memory: put into lent bytes, compared, and searched for a byte; and arrays of which so many places are used.
+// Text in memory: put into lent bytes, compared, and searched for a byte; and arrays of which so many places are used,
+// and flags.
 #![tactic(auto)]
 
+pub mod flag;
 pub mod numbered;
 pub mod rooms;
 

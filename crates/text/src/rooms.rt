@@ -1,6 +1,6 @@
 // A room: an array of a record, of which so many places are used, from its start, and the others are blank
 // (RULES, The legal record, "Unused room").
-ghost use Rattle.std.specs.Prelude.{◌≡◌, ◌==◌, ◌≤◌, Bool, not, length, option_map, take};
+ghost use Rattle.std.specs.Prelude.{◌≡◌, ◌==◌, ◌≤◌, Bool, length, option_map, take};
 ghost use Rattle.std.specs.List.{list_all};
 ghost use Rattle.text.specs.Rooms.{used_part, filled_room};
 
@@ -26,14 +26,6 @@ impl Blank for u32 {
 
     fn is_blank(&self) -> bool {
         *self == 0
-    }
-}
-
-impl Blank for bool {
-    ghost blank = { not };
-
-    fn is_blank(&self) -> bool {
-        !*self
     }
 }
 

@@ -21,7 +21,7 @@ mark_of_front l =
     no_mark (take kept_most l) (λ e. omega arith) ∙ sym (no_mark l (λ e. omega arith)))
     (le_or_lt (length l) kept_most)
 
-floor_event_of_front : (l : List ℕ) → floor_event (take kept_most l) ≡ floor_event l
+pub floor_event_of_front : (l : List ℕ) → floor_event (take kept_most l) ≡ floor_event l
 unfolding floor_event
 floor_event_of_front l = (λ i. event_by (mark_of_front l i) (event_of_front l i))
 

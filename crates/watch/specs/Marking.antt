@@ -7,19 +7,23 @@
 --   floor_event l     that of the line l
 --   watched_said e    the same of an event as the code has it
 --   done_by d e       the device after it
+--   watched_answer d e    the number that its call gives; None of a line of no form
 --   seconds_by e      the seconds that it lets pass
 --   floor_step d e    these two, as a step of the log;    floor_steps d es   the steps of the events es, from d on
 -- Assumes nothing.
 use Rattle.std.specs.Prelude.{ℕ, ◌-◌, Bool, ◌&&◌, List, [], ◌∷◌, length, if◌then◌else◌, ◌==◌, Option, Some, None}
 use Prim.Native.Char.{code}
+use Rattle.text.specs.Outcomes.{outcome_number}
 use Rattle.text.specs.Words.{◌is◌, ◌from◌to◌}
 use Rattle.words.specs.Bytes.{◌at◌}
 use Rattle.record.specs.Given.{left_by}
 use Rattle.record.specs.HostCalls.{mark_set}
+use Rattle.record.specs.Refusals.{refusal_number}
 use Rattle.record.specs.declared.types.Device.{Device}
 use Rattle.floorlog.specs.Events.{LogEvent, event_said, event}
 use Rattle.floorlog.specs.Doing.{event_result}
 use Rattle.floorlog.specs.Told.{seconds_of}
+use Rattle.floorlog.specs.Unplayed.{answer}
 use Rattle.watch.specs.Watching.{Step}
 use Rattle.watch.specs.declared.marking.WatchedEvent.{WatchedEvent}
 use Rattle.watch.specs.declared.marking.WatchedEvent.TheVariants.{Logged, Marked}
@@ -50,6 +54,10 @@ watched_said (Marked lamp mark) = marked lamp mark
 unfoldable pub done_by : Device → FloorEvent → Device
 done_by d (logged e) = (event_result d e).device
 done_by d (marked lamp mark) = (left_by d (mark_set d lamp mark))
+
+abbrev pub watched_answer : Device → FloorEvent → Option ℕ
+watched_answer d (logged e) = answer d e
+watched_answer d (marked lamp mark) = Some (outcome_number refusal_number (mark_set d lamp mark))
 
 abbrev pub seconds_by : FloorEvent → ℕ
 seconds_by (logged e) = seconds_of e

@@ -6,12 +6,15 @@
 --   tellings s es         what is told with the steps es, from the state s on, and at their end
 --   after_log s es        the state that they leave
 --   burnt_after s es      the seconds that each lamp burnt, when the log has ended
+--   floor_unplayed d log  what of a log of the first kind is not played, from the device d on
 --   IsUncounted log       a log of the first kind lets more seconds pass than 64 bits count
 -- Assumes nothing.
 use Rattle.std.specs.Prelude.{ℕ, ◌^◌, ◌≤◌, Bool, ◌&&◌, if◌then◌else◌, List, [], ◌∷◌, ◌++◌, map, sum_by}
 use Rattle.record.specs.declared.types.Device.{Device}
 use Rattle.textio.specs.Lines.{lines_of}
-use Rattle.watch.specs.Marking.{FloorEvent, floor_event, floor_steps, seconds_by}
+use Rattle.floorlog.specs.Unplayed.{none_unplayed, said_line, unplayed_by}
+use Rattle.floorlog.specs.declared.unplayed.Unplayed.{Unplayed}
+use Rattle.watch.specs.Marking.{FloorEvent, floor_event, floor_steps, done_by, seconds_by, watched_answer}
 use Rattle.watch.specs.Watching.{Step, Watching, is_burning_in, is_long, dark_with, watched_on, burnt_by}
 
 abbrev pub floor_events : List ℕ → List FloorEvent
@@ -47,3 +50,6 @@ burnt_after s es = burnt_by (after_log s es)
 
 abbrev pub IsUncounted : List ℕ → Type 0
 IsUncounted log = 2 ^ 64 ≤ sum_by seconds_by (floor_events log)
+
+abbrev pub floor_unplayed : Device → List ℕ → Unplayed
+floor_unplayed d log = unplayed_by watched_answer done_by none_unplayed 0 d (map (said_line floor_event) (lines_of log))

@@ -20,6 +20,7 @@ use history::recorder::Recorder;
 use record::legality::Tested;
 use record::types::{Device, LAMPS_MOST};
 use recorded::chain::{self, Why};
+use text::flag;
 
 /// A log as it is watched: its record, tested where the log began; the seconds gone since the log began; the second at
 /// which the lamps began to burn last; and the seconds that each lamp burnt in stretches that have ended.
@@ -45,7 +46,7 @@ fn burn(burnt: &mut [u64; LAMPS_MOST], device: &Device, n: u64)
     ensures { burnt.new ≡ gained_by device.now n burnt.old }
 {
     for k in 0..device.settings.lamp_count.min(LAMPS_MOST) {
-        let is_enabled = device.own.enabled[k];
+        let is_enabled = flag::is_raised(device.own.enabled[k]);
         if is_enabled {
             burnt[k] += n;
         }
@@ -91,13 +92,22 @@ fn seconds_of(entry: &Entry<'_>) -> u32
     }
 }
 
+/// What a line of a log of the first kind came to.
+#[derive(Clone, Copy)]
+pub struct Played {
+    /// Whether it ended stretches.
+    pub ended: bool,
+    /// The number that its call gave, 0 where it was served; none of a line of no form.
+    pub answer: Option<u32>,
+}
+
 impl Watch {
     ghost use Rattle.std.specs.Prelude.{IfSome, None, Ok};
     ghost use Rattle.recorded.specs.Chain.{entry_told, made_told, log_made};
     ghost use Rattle.watch.specs.CallSteps.{entry_step, said_seconds};
     ghost use Rattle.floorlog.specs.KeptText.{kept_text, kept_line};
     ghost use Rattle.floorlog.specs.Told.{Drives};
-    ghost use Rattle.watch.specs.Marking.{floor_event, floor_step, seconds_by};
+    ghost use Rattle.watch.specs.Marking.{floor_event, floor_step, seconds_by, watched_answer};
     ghost use Rattle.watch.specs.Watching.{watching_from, is_burning_in, is_long, burnt_by};
     ghost use Rattle.watch.specs.States.{state_of, IsWatched, IsMade, misfit_made, misfit_seen, LineLeaves};
 
@@ -113,12 +123,14 @@ impl Watch {
         }
     }
 
-    /// A line of a log of the first kind. It tells whether the line ended stretches: those of the lamps whose marks
-    /// are set, from
-    /// `from` to `time`. None where 64 bits cannot count the seconds that are then gone: nothing is done.
-    pub fn play(&mut self, line: &KeptLine) -> Option<bool>
-        ensures watched { IfSome result (IsWatched (state_of self.old)
-            (floor_step self.old.tested.device (floor_event (kept_text line.now))) (state_of self.new)) }
+    /// A line of a log of the first kind. Returns what its call gave, and whether the line ended stretches: those of
+    /// the lamps whose marks are set, from `from` to `time`. None where 64 bits cannot count the seconds that are then
+    /// gone: nothing is done.
+    pub fn play(&mut self, line: &KeptLine) -> Option<Played>
+        ensures watched { IfSome result (λ p. IsWatched (state_of self.old)
+            (floor_step self.old.tested.device (floor_event (kept_text line.now))) (state_of self.new) p.ended) }
+        ensures answer { IfSome result (λ p. p.answer
+            ≡ watched_answer self.old.tested.device (floor_event (kept_text line.now))) }
         ensures kept { result ≡ None → state_of self.new ≡ state_of self.old }
         ensures uncounted { result ≡ None → 2 ^ 64 ≤ self.old.time + seconds_by (floor_event (kept_text line.now)) }
         ensures places { IfSome result (λ _. Drives (seconds_by (floor_event (kept_text line.now)))
@@ -128,15 +140,16 @@ impl Watch {
         let seconds = marking::seconds_of(&event);
         let time = self.time.checked_add(seconds as u64)?;
         let was = is_burning_in(&self.tested.device);
-        marking::call(&mut self.tested, &event);
+        let answer = marking::call(&mut self.tested, &event);
         self.time = time;
-        Some(follow(
+        let ended = follow(
             &mut self.from,
             &mut self.burnt,
             was,
             &self.tested.device,
             time,
-        ))
+        );
+        Some(Played { ended, answer })
     }
 
     /// A line of a log of the second kind, without its LF, and what it says, as [`chain::entry`] gave it there. It is

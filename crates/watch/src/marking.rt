@@ -1,14 +1,15 @@
 // One line of a log that is watched for its lamps: its event, and what that does to the device, where it lies.
-ghost use Rattle.std.specs.Prelude.{◌≡◌};
+ghost use Rattle.std.specs.Prelude.{◌≡◌, Some};
 ghost use Rattle.text.specs.Words.{◌from◌to◌};
 ghost use Rattle.floorlog.specs.KeptText.{kept_text};
-ghost use Rattle.watch.specs.Marking.{marked, floor_event, watched_said, done_by, seconds_by};
+ghost use Rattle.watch.specs.Marking.{marked, floor_event, watched_said, done_by, seconds_by, watched_answer};
 
 use device::on_legal::REPLY_ROOM;
 use floorlog::event;
 use floorlog::event::Event;
 use floorlog::kept::KeptLine;
 use record::legality::Tested;
+use text::numbered::Numbered;
 
 /// An event of a log that is watched.
 #[derive(Clone, Copy)]
@@ -55,23 +56,29 @@ pub fn seconds_of(event: &WatchedEvent<'_>) -> u32
     }
 }
 
-// A lamp's mark is set, or not: the number is nothing to a log.
-fn set_mark(t: &mut Tested, lamp: u8, mark: bool)
-    ensures { t.new.device ≡ done_by t.old.device (marked lamp mark) }
+// A lamp's mark is set, or not; the number that the call gives.
+fn set_mark(t: &mut Tested, lamp: u8, mark: bool) -> u32
+    ensures device { t.new.device ≡ done_by t.old.device (marked lamp mark) }
+    ensures number { Some result ≡ watched_answer t.old.device (marked lamp mark) }
 {
-    let _told = t.device.set_mark(lamp as usize, mark);
+    let told = t.device.set_mark(lamp as usize, mark);
+    match told {
+        Ok(()) => 0,
+        Err(refusal) => refusal.number(),
+    }
 }
 
-/// An event on any record.
+/// An event on any record. Returns the number that its call gives, 0 where it was served; none of a line of no form.
 #[tactic(auto, unfolding(crate::specs::Marking::done_by))]
-pub fn call(t: &mut Tested, event: &WatchedEvent<'_>)
-    ensures { t.new.device ≡ done_by t.old.device (watched_said event.now) }
+pub fn call(t: &mut Tested, event: &WatchedEvent<'_>) -> Option<u32>
+    ensures device { t.new.device ≡ done_by t.old.device (watched_said event.now) }
+    ensures answer { result ≡ watched_answer t.old.device (watched_said event.now) }
 {
     match event {
         WatchedEvent::Logged(event) => {
             let mut reply = [0; REPLY_ROOM];
-            event::call(t, event, &mut reply);
+            event::call(t, event, &mut reply).answer()
         }
-        WatchedEvent::Marked(lamp, mark) => set_mark(t, *lamp, *mark),
+        WatchedEvent::Marked(lamp, mark) => Some(set_mark(t, *lamp, *mark)),
     }
 }

@@ -5,6 +5,7 @@
 use Rattle.std.proofs.Common.{ℕ, ◌^◌, ◌-◌, ◌≤◌, ◌<◌, ◌≡◌, refl, sym, ap, subst, ◌∙◌, Bool, true, false, List}
 use Rattle.std.proofs.Common.{arith, length, slice_index_or, replicate, get_or-set_same}
 use Rattle.std.proofs.Math.Seq.{take-append_seam}
+use Rattle.text.specs.Flags.{is_raised}
 use Rattle.text.proofs.Orders.{le_or_lt}
 use Rattle.pjlink.specs.Forms.{greeting_open, greeting_secured}
 use Rattle.digest.specs.Hex.{hex_digits}
@@ -73,7 +74,7 @@ module _ (i : ℕ) (w : Workroom) where
 
     -- a greeting that the panel hears as the talk t
     module _ (l : List ℕ) (c : Connection) (t : Talk) (legal : is_connection c ≡ true) (fits : Fit t c)
-        (between : c.line ≡ empty_line) (rests : t.under_way ≡ false)
+        (between : c.line ≡ empty_line) (rests : is_raised t.under_way ≡ false)
         (heard : greeted_as entry (read_greeting l) ≡ with_talk entry t) where
       abbrev after : Panel
       after = (stepped_at w.panel i l).panel
@@ -109,7 +110,7 @@ module _ (i : ℕ) (w : Workroom) where
     -- a greeting, which the panel hears whole, as the talk t
     joins : (g : List ℕ) (c : Connection) (t : Talk)
         → delivered ours_panel i w.panel back g ≡ (stepped_at w.panel i g).panel → Fit t c
-        → c.line ≡ empty_line → t.under_way ≡ false → greeted_as entry (read_greeting g) ≡ with_talk entry t
+        → c.line ≡ empty_line → is_raised t.under_way ≡ false → greeted_as entry (read_greeting g) ≡ with_talk entry t
         → JoinsBy g c
     joins g c t whole fits between rests heard legal =
         subst (λ (p : Panel). ShownAs i lowest w (shown_of entry) device.own (room_of p (with_connection c)))

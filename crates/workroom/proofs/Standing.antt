@@ -3,6 +3,7 @@
 --   DeviceStands p w d c    the device d, which was that of w, has the connection c at place p
 -- Assumes nothing.
 use Rattle.std.proofs.Common.{arith, ℕ, ◌<◌, ◌≡◌, refl, true, false}
+use Rattle.text.specs.Flags.{is_raised}
 use Rattle.record.specs.Limits.{places_count}
 use Rattle.record.specs.Legal.{is_legal}
 use Rattle.record.specs.Places.{connection_at}
@@ -34,7 +35,7 @@ module _ {i : ℕ} {w : Workroom} {q : Panel} {e : Entry} (known : IsAcquainted 
   acquainted_then legal settings = grind arith
 
   pub shown_as_it_stands : {p : ℕ} {d : Device} {c : Connection} → p < places_count → DeviceStands p w d c
-      → e.under_way ≡ false → Fit (talk_of e) c → ShownAs i p w (shown_of e) d.own (room_of q d)
+      → is_raised e.under_way ≡ false → Fit (talk_of e) c → ShownAs i p w (shown_of e) d.own (room_of q d)
   shown_as_it_stands place device rests fit = grind (arith, acquainted_then)
 
 -- as they were

@@ -6,7 +6,7 @@ use Rattle.pjlink.specs.declared.command.Command.TheVariants.{Query}
 use Rattle.pjlink.specs.declared.body.Body.TheVariants.{Powr, Lamp}
 use Rattle.pjlink.specs.Forms.{erra_line}
 use Rattle.controller.specs.Writing.{command_room}
-use Rattle.codes.specs.Commands.{bit, code_of}
+use Rattle.codes.specs.Commands.{code_of}
 use Rattle.panel.specs.Entries.{Talk, Shown}
 use Rattle.panel.specs.StepTable.{IsStray, late, malformed, foreign}
 use Rattle.panel.specs.Hearing.{heard_kind}
@@ -31,7 +31,7 @@ abbrev power_shown : Shown → ℕ
 power_shown s = s.power
 
 abbrev waits_for : Talk → ℕ
-waits_for t = bit t.under_way
+waits_for t = t.under_way
 
 differ : (m n : ℕ) → (m == n) ≡ false → m ≡ n → ⊥
 differ m n other = eqb-false m n other

@@ -26,6 +26,7 @@
 --   PartedAs i w x     the connection is gone: what was shown stays, and they are apart
 -- Assumes nothing.
 use Rattle.std.specs.Prelude.{ℕ, ◌+◌, ◌<◌, ◌^◌, ◌≡◌, Bool, true, false, List, [], ◌∷◌, Some, is_some}
+use Rattle.text.specs.Flags.{is_raised}
 use Rattle.pjlink.specs.Commands.{command_class}
 use Rattle.pjlink.specs.declared.command.Command.{Command}
 use Rattle.record.specs.Given.{left_by}
@@ -106,7 +107,7 @@ module _ (i p : ℕ) where
     pub acquainted : IsAcquainted i w
     pub place : p < places_count
     pub between : (our_connection p w).line ≡ empty_line
-    pub rests : (our_entry i w).under_way ≡ false
+    pub rests : is_raised (our_entry i w).under_way ≡ false
     pub fit : Fit (talk_of (our_entry i w)) (our_connection p w)
 
   -- of a command, of what is called another, and of what is done meanwhile

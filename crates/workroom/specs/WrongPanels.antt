@@ -3,6 +3,7 @@
 --   hearing_as f     ours, but where a command is under way f takes the reading of the line
 -- Assumes nothing.
 use Rattle.std.specs.Prelude.{ℕ, ◌+◌, not, List, set, ◌++◌, replicate, codes, if◌then◌else◌, Option, Some, None, ◌==◌}
+use Rattle.text.specs.Flags.{is_raised}
 use Rattle.pjlink.specs.declared.command.Command.TheVariants.{Query}
 use Rattle.pjlink.specs.declared.body.Body.TheVariants.{Powr}
 use Rattle.pjlink.specs.declared.command.Command.{Command}
@@ -29,7 +30,7 @@ replied_as f e l None = with_stray e
 
 abbrev hearing_as : (Entry → List ℕ → ReadAs → Entry) → AnyPanel
 hearing_as f =
-    stepping_by (λ e l. if e.under_way then replied_as f e l (coded_command e.command) else heard_line e l)
+    stepping_by (λ e l. if is_raised e.under_way then replied_as f e l (coded_command e.command) else heard_line e l)
 
 -- takes a foreign reply for the one under way: a power reading is shown whatever was asked
 abbrev taken_foreign : Entry → List ℕ → Outcome → Said → Entry

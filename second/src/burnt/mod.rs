@@ -7,7 +7,8 @@ mod watch;
 use crate::reference::recorded::{Call, Why, chain};
 use crate::reference::{Power, Projector};
 use crate::replay::history::{self, History};
-use crate::replay::{device, each_line, event, kind, refuse, text_of};
+use crate::replay::unplayed::{self, Note, Says};
+use crate::replay::{self, Due, Outcome, device, each_line, event, kind, lines, refuse, stray_words, text_of};
 use std::io::{self, BufRead, Write};
 use watch::{Lamp, Watch};
 pub use watch::{Stretch, Sum};
@@ -142,13 +143,28 @@ pub fn told(form: Option<&[u8]>, log: &[u8]) -> Result<Told, u32> {
     Ok(Told { stretches, lamps: watch.sums().collect(), seconds: watch.second, stray })
 }
 
-/// How `burnt` ends, by the words that `replay::status` has.
-pub fn status(form: Option<&[u8]>, log: &[u8]) -> i32 {
-    match told(form, log) {
-        Ok(told) if told.stray.is_none() => 0,
-        Ok(_) => 3,
-        Err(_) => 1,
+/// How `burnt` ends, and what it says.
+pub fn due(form: Option<&[u8]>, log: &[u8]) -> Due {
+    due_by(&unplayed::RIGHT, form, log)
+}
+
+pub fn due_by(says: &Says, form: Option<&[u8]>, log: &[u8]) -> Due {
+    let Ok(mut projector) = device(form) else { return Due::REFUSED };
+    if history::is_history(log) {
+        return Due::ended(stray_words(told(form, log).expect("the form loads").stray));
     }
+    let notes = (1..).zip(lines(log).map(text_of)).filter_map(|(number, line)| {
+        let came = match mark(line) {
+            Some((lamp, enabled)) => Some(projector.set_mark(lamp, enabled).map_err(Some)),
+            None => event(line).map(|event| match replay::play(&mut projector, event) {
+                Outcome::Refused(number) => Err(Some(number)),
+                Outcome::Reply(_) => Ok(()),
+            }),
+        };
+        let refused = came.unwrap_or(Err(None)).err()?;
+        Some(Note { number, line: line.to_vec(), refused })
+    });
+    Due::ended(unplayed::words(says, notes.collect()))
 }
 
 fn in_memory(steps: &Steps, form: Option<&[u8]>, log: &[u8]) -> Vec<u8> {

@@ -10,7 +10,7 @@ use crate::logs::every;
 /// The form, if there is one, and the log.
 pub type FormAndLog = (Option<Vec<u8>>, Vec<u8>);
 
-pub const LOGS: [fn() -> FormAndLog; 8] = [
+pub const LOGS: [fn() -> FormAndLog; 16] = [
     every_byte,
     every_lamp,
     || (None, every::every_number()),
@@ -19,6 +19,14 @@ pub const LOGS: [fn() -> FormAndLog; 8] = [
     || (Some(longest()), burns()),
     || (Some([&longest()[..], b"\0"].concat()), burns()),
     || (Some(longest()[..longest().len() - 1].to_vec()), burns()),
+    || (None, every::crlf()),
+    || (Some(longest()), every::byte_order_mark()),
+    || (None, every::time_stamps()),
+    || (None, every::bad_digits()),
+    || (Some(longest()), every::nuls()),
+    || (None, every::one_long_line()),
+    || (None, every::late_damage()),
+    || (None, every::late_header()),
 ];
 
 /// As long as its counts allow, whatever the rules do: no form is longer.

@@ -22,7 +22,7 @@ impl Met {
         self.tally.logs += 1;
         self.tally.lines += lines(&case.fed.log).count();
         kinds(case, out).into_iter().for_each(|kind| self.tally.meet(kind));
-        for (place, (_, wrong)) in self.played.mistakes().iter().enumerate() {
+        for (place, (_, wrong)) in self.played.mistakes().enumerate() {
             self.tally.show(place, || wrong.printed(case.form(), &case.fed.log) != out);
         }
     }
@@ -36,7 +36,7 @@ impl Met {
     }
 
     fn mistakes(&self) -> Vec<&'static str> {
-        self.played.mistakes().iter().map(|(words, _)| *words).collect()
+        self.played.mistakes().map(|(words, _)| *words).collect()
     }
 
     /// The mistakes that no log would have shown.

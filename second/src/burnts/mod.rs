@@ -14,7 +14,7 @@ pub use every::FormAndLog;
 pub use met::Met;
 pub use report::Difference;
 
-use crate::burnt::mistakes::{BURNT, REPLAY, Wrong};
+use crate::burnt::mistakes::{BURNT, REPLAY, SAYING, Wrong};
 use crate::burnt::{self, burnt_on};
 use crate::compare::random::Random;
 use crate::compare::recorded::making::any_seconds;
@@ -22,7 +22,7 @@ use crate::compare::shrink::{self, Smaller, simpler_forms};
 use crate::logs::workers::on_all;
 use crate::logs::{Fed, Program, TRIES, every_history, recorded};
 use crate::replay::history::is_history;
-use crate::replay::{self, device, lines, replayed_on, sample};
+use crate::replay::{self, Due, device, lines, replayed_on, sample};
 pub use started::Started;
 
 /// The logs that have everything of a kind come first; then histories, on the sample set-up and on a form in turn.
@@ -46,19 +46,21 @@ impl Played {
         }
     }
 
-    /// How it ends by these rules.
-    pub fn status(self, case: &Case) -> i32 {
+    /// How it ends by these rules, and what it says.
+    pub fn due(self, case: &Case) -> Due {
         match self {
-            Played::Burnt => burnt::status(case.form(), &case.fed.log),
-            Played::Replay => replay::status(&self.printed(case)),
+            Played::Burnt => burnt::due(case.form(), &case.fed.log),
+            Played::Replay => replay::due(case.form(), &case.fed.log),
         }
     }
 
-    pub fn mistakes(self) -> &'static [(&'static str, Wrong)] {
-        match self {
-            Played::Burnt => BURNT,
-            Played::Replay => REPLAY,
-        }
+    /// Those over what is said on standard error are for `burnt` here; `logs` has them for `replay`.
+    pub fn mistakes(self) -> impl Iterator<Item = &'static (&'static str, Wrong)> {
+        let (printed, said) = match self {
+            Played::Burnt => (BURNT, SAYING),
+            Played::Replay => (REPLAY, &[][..]),
+        };
+        printed.iter().chain(said)
     }
 }
 

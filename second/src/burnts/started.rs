@@ -2,7 +2,7 @@
 
 use super::{Case, Played};
 use crate::logs::{Fed, Program};
-use crate::replay::device;
+use crate::replay::{Due, device};
 use std::path::PathBuf;
 use std::{env, fs, process};
 
@@ -21,7 +21,7 @@ impl Started<'_> {
 
     /// What it prints. A program that has refused its form may leave the log unread.
     pub fn printed(&self, case: &Case, number: usize) -> Vec<u8> {
-        let (log, reads, due) = (&case.fed.log, &case.fed.reads, self.played.status(case));
+        let (log, reads, due) = (&case.fed.log, &case.fed.reads, &self.played.due(case));
         let Some(form) = case.form() else { return self.program.printed(log, reads, due) };
         let file = self.folder.join(format!("{number}.form"));
         fs::write(&file, form).expect("the form is written");
@@ -38,7 +38,7 @@ impl Started<'_> {
 
 impl Started<'_> {
     /// The log in files, each named after the form; where its reads have sizes, the last is `-`, standard input.
-    fn in_files(&self, mut program: Program, case: &Case, number: usize, due: i32) -> Vec<u8> {
+    fn in_files(&self, mut program: Program, case: &Case, number: usize, due: &Due) -> Vec<u8> {
         let Fed { log, reads } = &case.fed;
         let mut begins = [&[0], &case.files[..]].concat();
         let fed = if reads.is_empty() { log.len() } else { begins.pop().expect("there is one") };

@@ -3,7 +3,61 @@
 use crate::reference::text::LF;
 use crate::replay::LONGEST;
 
-pub const LOGS: [fn() -> Vec<u8>; 4] = [every_byte, every_number, every_length, more_lines_than_16_bits_count];
+pub const LOGS: [fn() -> Vec<u8>; 12] = [
+    every_byte,
+    every_number,
+    every_length,
+    more_lines_than_16_bits_count,
+    crlf,
+    byte_order_mark,
+    time_stamps,
+    bad_digits,
+    nuls,
+    one_long_line,
+    late_damage,
+    late_header,
+];
+
+/// Logs as they come to a person who has not read the rules: lines that end with CRLF.
+pub fn crlf() -> Vec<u8> {
+    b"O 00000000\r\nR %1POWR 1\r\nT 3600\r\nR %1LAMP ?\r\n".to_vec()
+}
+
+pub fn byte_order_mark() -> Vec<u8> {
+    "\u{feff}O 00000000\nR %1POWR 1\nT 3600\n".as_bytes().to_vec()
+}
+
+pub fn time_stamps() -> Vec<u8> {
+    b"2026-11-27T05:45:09Z O 00000000\n[05:45:10] R %1POWR 1\n05:45:11 T 3600\n".to_vec()
+}
+
+pub fn bad_digits() -> Vec<u8> {
+    b"O 0000002A\nO 0x00002a\nO 00000000\nO 00000000\nT 1.5\nX\nX\nR %1POWR ?\nM 1 0\nM 9 1\nM 1\n".to_vec()
+}
+
+pub fn nuls() -> Vec<u8> {
+    vec![0; 5000]
+}
+
+pub fn one_long_line() -> Vec<u8> {
+    vec![b'R'; 300_000]
+}
+
+/// What is not played comes last, behind more lines than 16 bits count.
+pub fn late_damage() -> Vec<u8> {
+    let mut log = b"O 00000000\n".to_vec();
+    log.extend(b"T 1\n".repeat(66_000));
+    log.extend(b"O 00000000\nR %1POWR ?\r\n");
+    log
+}
+
+/// A line of a history comes behind more bytes than are read first.
+pub fn late_header() -> Vec<u8> {
+    let mut log = b"O 00000000\n".to_vec();
+    log.extend(b"R %1POWR ?\n".repeat(9_000));
+    log.extend(b"\nS 1 00000000 power 0 lamps 0\n");
+    log
+}
 
 fn more_lines_than_16_bits_count() -> Vec<u8> {
     vec![LF; 66_000]

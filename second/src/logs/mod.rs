@@ -16,7 +16,7 @@ pub use report::{Difference, Met};
 
 use crate::compare::random::Random;
 use crate::compare::shrink::{self, Smaller};
-use crate::replay::{LONGEST, lines, replayed, status};
+use crate::replay::{LONGEST, due, lines, replayed};
 use workers::on_all;
 
 /// How many smaller logs are tried at most, once one differs.
@@ -88,7 +88,7 @@ pub fn compare(program: &Program, seed: u64, count: usize) -> Result<Met, Box<Di
     let met = on_all(fixed() + count, Met::default, |number, met| {
         let fed = Fed::nth(seed, number);
         let expected = replayed(&fed.log);
-        if program.printed(&fed.log, &fed.reads, status(&expected)) != expected {
+        if program.printed(&fed.log, &fed.reads, &due(None, &fed.log)) != expected {
             return Err((number, fed));
         }
         met.count(&fed.log, &expected);
@@ -97,7 +97,7 @@ pub fn compare(program: &Program, seed: u64, count: usize) -> Result<Met, Box<Di
     met.map(|all| all.into_iter().fold(Met::default(), Met::and)).map_err(|(number, fed)| {
         let both = |fed: &Fed| {
             let expected = replayed(&fed.log);
-            let given = program.printed(&fed.log, &fed.reads, status(&expected));
+            let given = program.printed(&fed.log, &fed.reads, &due(None, &fed.log));
             (expected, given)
         };
         let fed = shrink::smallest(fed, TRIES, |fed| {
@@ -113,7 +113,7 @@ pub fn compare(program: &Program, seed: u64, count: usize) -> Result<Met, Box<Di
 mod tests {
     use super::*;
     use crate::replay::mistakes::{self, Wrong};
-    use crate::replay::play;
+    use crate::replay::{Due, play};
 
     /// Every form with every answer that it can have, every kind of line of no form, and not just once.
     #[test]
@@ -184,7 +184,7 @@ mod tests {
     fn reads_have_their_sizes() {
         let copy = |count: &str| {
             let words = ["dd", "bs=1000", "status=none", count];
-            let out = Program(words.map(str::to_string).to_vec()).printed(b"abcdefghij", &[1, 3], 0);
+            let out = Program(words.map(str::to_string).to_vec()).printed(b"abcdefghij", &[1, 3], &Due::ended(String::new()));
             out.into_iter().take_while(|&byte| byte != b'(').collect::<Vec<u8>>()
         };
         assert_eq!(copy("count=1"), b"a");

@@ -1,5 +1,6 @@
 //! The program that plays a log: a process for each log.
 
+use crate::replay::Due;
 use std::io::{self, Read, Write};
 use std::os::fd::OwnedFd;
 use std::os::unix::net::UnixDatagram;
@@ -21,7 +22,7 @@ impl Program {
     ///
     /// A program that ends with another status than this, says something else on standard error, or leaves bytes unread
     /// prints that too.
-    pub fn printed(&self, log: &[u8], reads: &[usize], due: i32) -> Vec<u8> {
+    pub fn printed(&self, log: &[u8], reads: &[usize], due: &Due) -> Vec<u8> {
         let (mut out, fed) = self.started(log, reads, due);
         if let Err(error) = fed {
             out.extend(format!("(not all was read: {error})\n").bytes());
@@ -30,12 +31,12 @@ impl Program {
     }
 
     /// What it prints where it may leave the log unread.
-    pub fn printed_unread(&self, log: &[u8], reads: &[usize], due: i32) -> Vec<u8> {
+    pub fn printed_unread(&self, log: &[u8], reads: &[usize], due: &Due) -> Vec<u8> {
         self.started(log, reads, due).0
     }
 
     /// What it prints, with the status where that is not the one due, and whether the log was read.
-    fn started(&self, log: &[u8], reads: &[usize], due: i32) -> (Vec<u8>, io::Result<()>) {
+    fn started(&self, log: &[u8], reads: &[usize], due: &Due) -> (Vec<u8>, io::Result<()>) {
         let started = if reads.is_empty() {
             io::pipe().and_then(|(input, mut feed)| self.run(input.into(), due, move || feed.write_all(log)))
         } else {
@@ -48,7 +49,7 @@ impl Program {
     fn run(
         &self,
         input: OwnedFd,
-        due: i32,
+        due: &Due,
         feed: impl FnOnce() -> io::Result<()> + Send,
     ) -> io::Result<(Vec<u8>, io::Result<()>)> {
         let (program, words) = self.0.split_first().expect("a program has a name");
@@ -62,31 +63,19 @@ impl Program {
             read.and(said).and(feeding.join().expect("feeding does not panic"))
         });
         let status = child.wait()?;
-        if !ends_so(status.code(), &errors, due) {
+        if status.code() != Some(due.status) || !says_so(&errors, due) {
             out.extend(format!("({status}: {errors:?})\n").bytes());
         }
-        if !status.success() {
-            return Ok((out, Ok(())));
-        }
-        Ok((out, fed))
+        let is_cut = status.code() == Some(1);
+        Ok((out, if is_cut { Ok(()) } else { fed }))
     }
 }
 
-/// What is said of a history without its header: which of its lines come with the first read is not known here.
-const HEADLESS: &str = "the log has lines of a history, and no header: it is read as a log of the other kind\n";
-
-/// Whether a program may end so, and say this on standard error, where that status is due: one line for each but 0.
-fn ends_so(code: Option<i32>, errors: &str, due: i32) -> bool {
-    let one_line = errors.ends_with('\n') && errors.matches('\n').count() == 1;
-    match (due, code) {
-        (0, Some(0)) => errors.is_empty(),
-        (0, Some(3)) => errors == HEADLESS,
-        (3, Some(3)) => {
-            one_line
-                && errors.starts_with("! line ")
-                && errors.ends_with("; what is written is of the lines before it\n")
-        }
-        (due, code) => one_line && code == Some(due),
+/// Whether this is what is to be said.
+fn says_so(errors: &str, due: &Due) -> bool {
+    match &due.errors {
+        Some(words) => errors == words,
+        None => errors.ends_with('\n') && errors.matches('\n').count() == 1,
     }
 }
 

@@ -4,6 +4,7 @@
 mod device;
 pub mod history;
 pub mod mistakes;
+pub mod unplayed;
 
 pub use device::{device, sample};
 
@@ -11,6 +12,7 @@ use crate::reference::Projector;
 use crate::reference::places::NOT_CLOSED;
 use crate::reference::text::{CR, LF, hex_number};
 use history::History;
+use unplayed::Note;
 use std::io::{self, BufRead, Cursor, Read, Write};
 
 /// RULES, Places: ".. log drives place 0 only, and a second `O` there still prints `! 5`, by the program's own test."
@@ -175,14 +177,50 @@ pub fn replayed_on(form: Option<&[u8]>, log: &[u8]) -> Vec<u8> {
     in_memory(play, &history::RIGHT, form, log)
 }
 
-/// How `replay` ends that printed this: 1 where a read or a form failed, 3 where "a line does not belong to the log that
-/// it stands in".
-pub fn status(out: &[u8]) -> i32 {
-    match lines(out).last() {
-        Some(last) if last.starts_with(b"! line ") => 3,
-        Some(last) if last.starts_with(b"! ") => 1,
-        _ => 0,
+/// How a program ends by these rules, and what it says on standard error.
+#[derive(Clone, PartialEq, Eq, Debug)]
+pub struct Due {
+    pub status: i32,
+    /// None where it is one line that names a file.
+    pub errors: Option<String>,
+}
+
+impl Due {
+    /// A log that was read to its end, of which this is said.
+    pub fn ended(errors: String) -> Due {
+        Due { status: if errors.is_empty() { 0 } else { 3 }, errors: Some(errors) }
     }
+
+    /// A form that does not load.
+    pub const REFUSED: Due = Due { status: 1, errors: None };
+}
+
+/// What is said of the first line that does not belong to its history.
+pub fn stray_words(words: Option<String>) -> String {
+    words.map(|words| words + "; what is written is of the lines before it\n").unwrap_or_default()
+}
+
+/// How `replay` ends, and what it says.
+pub fn due(form: Option<&[u8]>, log: &[u8]) -> Due {
+    due_by(&unplayed::RIGHT, form, log)
+}
+
+pub fn due_by(says: &unplayed::Says, form: Option<&[u8]>, log: &[u8]) -> Due {
+    let Ok(mut projector) = device(form) else { return Due::REFUSED };
+    if history::is_history(log) {
+        let mut history = History::begun(&history::RIGHT, form);
+        lines(log).for_each(|line| drop(history.play(&mut projector, line)));
+        return Due::ended(stray_words(history.words()));
+    }
+    let notes = (1..).zip(lines(log).map(text_of)).filter_map(|(number, line)| {
+        let refused = match event(line).map(|event| play(&mut projector, event)) {
+            None => None,
+            Some(Outcome::Refused(number)) => Some(number),
+            Some(Outcome::Reply(_)) => return None,
+        };
+        Some(Note { number, line: line.to_vec(), refused })
+    });
+    Due::ended(unplayed::words(says, notes.collect()))
 }
 
 /// The same by other steps.

@@ -2,10 +2,13 @@
 //! form. `second burnts` and `second replays` expect that their logs show each.
 
 mod list;
+mod saying;
 
 pub use list::{BURNT, REPLAY};
+pub use saying::SAYING;
 
-use super::{Steps, burnt_on, in_memory};
+use super::{Steps, burnt_on, due_by, in_memory};
+use crate::replay::unplayed::{self, Says};
 use crate::reference::Projector;
 use crate::reference::rules::{Mistake, make};
 use crate::replay::device;
@@ -23,6 +26,8 @@ pub enum Wrong {
     Call(Mistake),
     /// A form and a log are played so.
     Plays(fn(Option<&[u8]>, &[u8]) -> Vec<u8>),
+    /// This is said on standard error.
+    Says(&'static Says),
 }
 
 impl Wrong {
@@ -46,6 +51,10 @@ impl Wrong {
                 out
             }
             Wrong::Plays(play) => play(form, log),
+            Wrong::Says(says) => {
+                let (due, given) = (due_by(&unplayed::RIGHT, form, log), due_by(says, form, log));
+                if given == due { burnt_on(form, log) } else { format!("{given:?}").into_bytes() }
+            }
         }
     }
 }

@@ -109,7 +109,7 @@ pub fn heard(record: &face::Panel, projector: usize, line: &[u8], number: u32) -
             _ => told(MALFORMED, nothing),
         };
     }
-    if !entry.under_way {
+    if !entry.under_way.is_raised() {
         return told(LATE, nothing);
     }
     let reading = calls::read_reply(entry.command, line);
@@ -136,7 +136,7 @@ const ERRA: u8 = 11;
 
 /// No rule leaves these; a mistake does.
 fn leave_earlier_hours(before: &face::Entry, after: &mut face::Entry) {
-    if after.lamps_known {
+    if after.lamps_known.is_raised() {
         for place in after.lamp_count..before.lamp_count {
             after.hours[place] = before.hours[place];
         }

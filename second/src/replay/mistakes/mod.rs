@@ -5,9 +5,11 @@
 mod histories;
 mod playing;
 mod reading;
+mod saying;
 
 use super::history::{self, RIGHT};
-use super::{Play, in_memory, play, replayed};
+use super::unplayed::{self, Says};
+use super::{Play, due_by, in_memory, play, replayed};
 use crate::reference::rules::{Mistake, make};
 use reading::each_line;
 
@@ -26,11 +28,13 @@ pub enum Wrong {
     Ends(fn(&str) -> String),
     /// A mistake over the rules of a call that a log can show too.
     Call(Mistake),
+    /// This is said on standard error.
+    Says(&'static Says),
 }
 
 /// All of them, each with what it gets wrong.
 pub fn all() -> impl Iterator<Item = &'static (&'static str, Wrong)> {
-    reading::READING.iter().chain(playing::PLAYING).chain(histories::HISTORIES)
+    reading::READING.iter().chain(playing::PLAYING).chain(histories::HISTORIES).chain(saying::SAYING)
 }
 
 /// Those over histories.
@@ -59,6 +63,10 @@ impl Wrong {
                 let out = replayed(log);
                 make(None);
                 out
+            }
+            Wrong::Says(says) => {
+                let (due, given) = (due_by(&unplayed::RIGHT, None, log), due_by(says, None, log));
+                if given == due { replayed(log) } else { format!("{given:?}").into_bytes() }
             }
         }
     }

@@ -1,7 +1,8 @@
 -- A record that is not legal is refused with 1, where the line has a form; and it stays as it was.
 use Rattle.std.proofs.Common.{arith, refl, sym, ◌∙◌}
 use Rattle.floorlog.specs.Events.{event_said}
-use Rattle.floorlog.proofs.EventsLeave.{did_legality, illegal_text, illegal_kept, illegal_silent}
+use Rattle.floorlog.proofs.EventsLeave.{did_legality, illegal_text, illegal_answer, illegal_kept}
+use Rattle.floorlog.proofs.EventsLeave.{illegal_silent}
 use Rattle.floorlog.proofs.Driven.{driven}
 use Rattle.floorlog.proofs.event.call.Goals as goal
 
@@ -18,6 +19,10 @@ pub returns-in_default-clause-text : goal.returns-in_default-clause-text
 returns-in_default-clause-text c =
     illegal_text c.args.t.now.device c.args.event.now c.args.reply.now (sym c.args.t.now.tested ∙ c.if-t.false)
     c.in_default.not-NoSuch
+
+pub returns-in_default-clause-answer : goal.returns-in_default-clause-answer
+returns-in_default-clause-answer c =
+    illegal_answer c.args.t.now.device c.args.event.now (sym c.args.t.now.tested ∙ c.if-t.false) c.in_default.not-NoSuch
 
 pub returns-in-NoSuch-clause-device : goal.returns-in-NoSuch-clause-device
 returns-in-NoSuch-clause-device c = grind (arith, illegal_kept)

@@ -7,10 +7,10 @@ use Rattle.floorlog.proofs.playing.play.Goals as goal
 
 pub returns-clause-device : goal.returns-clause-device
 returns-clause-device g c =
-    c.print.ensures.device ∙ ap (λ (e : LogEvent). (event_result c.args.t.now.device e).device) c.event.ensures
+    c.print-answer.ensures.device ∙ ap (λ (e : LogEvent). (event_result c.args.t.now.device e).device) c.event.ensures
 
 pub returns-clause-text : goal.returns-clause-text
 returns-clause-text g c =
-    let text = c.print.ensures.printed
+    let text = c.print-answer.ensures.printed
     ∙ ap (λ (e : LogEvent). printed_line c.args.number e (event_result c.args.t.now.device e)) c.event.ensures in
     subst (WritesText _ _ _ _) (c.deref.ensures.0 ∙ text) c.put.ensures

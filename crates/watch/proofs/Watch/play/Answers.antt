@@ -1,7 +1,7 @@
 -- The line's event is played, and moves the light on.
 use Rattle.std.proofs.Common.{◌≡◌, ◌+◌, ◌∙◌, refl, ap, sym, arith}
 use Rattle.floorlog.specs.KeptText.{kept_text}
-use Rattle.watch.specs.Marking.{floor_event, floor_step, done_by, seconds_by}
+use Rattle.watch.specs.Marking.{floor_event, floor_step, done_by, seconds_by, watched_answer}
 use Rattle.watch.specs.States.{state_of}
 use Rattle.watch.proofs.LineLeaves.{driven}
 use Rattle.watch.proofs.Sound.{sound_from, burnt_fits}
@@ -13,8 +13,8 @@ returns-in_err-time-clause-uncounted c =
     let seconds = c.seconds_of-seconds.ensures ∙ ap seconds_by c.read-event.ensures in
     λ e. omega arith
 
-pub follow-requires : goal.follow-requires
-follow-requires c =
+pub follow-ended-requires : goal.follow-ended-requires
+follow-ended-requires c =
     let s = state_of c.args.self.now in
     let begun = sound_from s c.args.self.now.sound in
     record {
@@ -28,27 +28,31 @@ pub invariant_of-self-2 : goal.invariant_of-self-2
 invariant_of-self-2 c =
     let e = floor_event (kept_text c.args.line.now) in
     let s = state_of c.args.self.now in
-    let done = c.call.ensures ∙ ap (done_by s.device) c.read-event.ensures in
+    let done = c.call-answer.ensures.device ∙ ap (done_by s.device) c.read-event.ensures in
     let seconds = c.seconds_of-seconds.ensures ∙ ap seconds_by c.read-event.ensures in
     let timed : c.in_ok-time.time ≡ c.args.self.now.time + c.seconds_of-seconds.result = omega arith in
     record {
-      sound = stays_sound (floor_step s.device e) s done seconds timed c.is_burning_in-was.ensures c.follow.ensures.from
-          c.follow.ensures.burnt c.args.self.now.sound;
+      sound = stays_sound (floor_step s.device e) s done seconds timed c.is_burning_in-was.ensures c.follow-ended.ensures.from
+          c.follow-ended.ensures.burnt c.args.self.now.sound;
     }
 
 pub returns-clause-watched : goal.returns-clause-watched
 returns-clause-watched c =
     let e = floor_event (kept_text c.args.line.now) in
     let s = state_of c.args.self.now in
-    let done = c.call.ensures ∙ ap (done_by s.device) c.read-event.ensures in
+    let done = c.call-answer.ensures.device ∙ ap (done_by s.device) c.read-event.ensures in
     let seconds = c.seconds_of-seconds.ensures ∙ ap seconds_by c.read-event.ensures in
     let timed : c.in_ok-time.time ≡ c.args.self.now.time + c.seconds_of-seconds.result = omega arith in
-    line_watched (floor_step s.device e) s done seconds timed c.is_burning_in-was.ensures c.follow.ensures.from
-    c.follow.ensures.burnt
-    c.follow.ensures.told
+    line_watched (floor_step s.device e) s done seconds timed c.is_burning_in-was.ensures c.follow-ended.ensures.from
+    c.follow-ended.ensures.burnt
+    c.follow-ended.ensures.told
 
 pub returns-clause-places : goal.returns-clause-places
 returns-clause-places c =
     let e = floor_event (kept_text c.args.line.now) in
     let d = c.args.self.now.tested.device in
-    driven d e refl (c.call.ensures ∙ ap (done_by d) c.read-event.ensures)
+    driven d e refl (c.call-answer.ensures.device ∙ ap (done_by d) c.read-event.ensures)
+
+pub returns-clause-answer : goal.returns-clause-answer
+returns-clause-answer c =
+    c.call-answer.ensures.answer ∙ ap (watched_answer c.args.self.now.tested.device) c.read-event.ensures

@@ -18,9 +18,16 @@ invariant_of-t c =
           ∙ sym (ap is_legal done ∙ done_legality d (marked c.args.lamp c.args.mark));
     }
 
-pub returns : goal.returns
+pub returns-in-Ok-clause-device : goal.returns-in-Ok-clause-device
 unfolding done_by
-returns c =
+returns-in-Ok-clause-device c =
+    let d = c.args.t.now.device in
+    device_given d _ _ c.set_mark-told.ensures.kept
+    ∙ ap (left_by d) c.set_mark-told.ensures.given
+
+pub returns-in-Err-clause-device : goal.returns-in-Err-clause-device
+unfolding done_by
+returns-in-Err-clause-device c =
     let d = c.args.t.now.device in
     device_given d _ _ c.set_mark-told.ensures.kept
     ∙ ap (left_by d) c.set_mark-told.ensures.given

@@ -1,10 +1,10 @@
-use Rattle.std.proofs.Common.{arith, sym, subst}
+use Rattle.std.proofs.Common.{sym, subst}
 use Rattle.textio.specs.Fronts.{WritesText}
 use Rattle.textio.proofs.Fronts.{writes_then, writes_fails}
 use Rattle.watch.specs.States.{state_of}
-use Rattle.watch.proofs.TellingsSpelt.{after_none}
 use Rattle.burnt.specs.Told.{totals_text}
-use Rattle.burnt.proofs.TellingsTold.{told_none, report_within_none}
+use Rattle.burnt.proofs.TellingsTold.{told_none}
+use Rattle.burnt.proofs.FloorTold.{teller_itself_ok}
 use Rattle.burnt.proofs.telling.TellerObserver.end.Goals as goal
 
 pub returns-in_err-tell_ended-clause-text : goal.returns-in_err-tell_ended-clause-text
@@ -29,4 +29,4 @@ returns-clause-text g c =
     ) at c.end.ensures))
 
 pub returns-clause-left : goal.returns-clause-left
-returns-clause-left g c = grind (arith, after_none, report_within_none)
+returns-clause-left g c = teller_itself_ok c.args.self.now _

@@ -7,7 +7,8 @@ use Rattle.record.specs.declared.types.Device.{Device}
 use Rattle.record.proofs.FactsTold.{legal_is}
 use Rattle.record.proofs.Started.{started_legal}
 use Rattle.record.specs.Legal.{is_legal}
-use Rattle.stored.specs.Loading.{is_marked, mark_room}
+use Rattle.stored.specs.Loading.{mark_room}
+use Rattle.text.specs.Flags.{is_raised}
 use Rattle.stored.specs.Views.{marks_said, said_of}
 use Rattle.stored.proofs.Cases.{contents_tested}
 use Rattle.stored.proofs.form.Form.load_in.Goals as goal
@@ -32,6 +33,6 @@ returns c =
     let set = c.in-Ok.ensures in
     let tested = contents_tested (said_of f).settings (sym set.taken) set.made said c.enable.ensures.legal in
     ap acceptance_of (c.enable.ensures.device c.if-not-enable.false)
-    ∙ ap (λ (d : Device). acceptance_of (with_own d (with_marks d.own (mark_room (map is_marked c.in-Some.marks.now)))))
+    ∙ ap (λ (d : Device). acceptance_of (with_own d (with_marks d.own (mark_room (map is_raised c.in-Some.marks.now)))))
     set.made
     ∙ sym (tested ∙ if_yes _ _ c.if-not-enable.false)

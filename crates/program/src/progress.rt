@@ -1,0 +1,101 @@
+// How far a log is read, for a person at a terminal (RULES, The programs). What is written there goes past the output
+// for errors that `run` is handed, and no contract speaks of it: nothing reads a terminal, and where standard error is
+// none, nothing is written.
+use std::io::IsTerminal;
+use std::time::Instant;
+
+// At most so many seconds lie between two lines.
+const SECONDS_MOST: u64 = 16;
+
+const LF: u8 = b'\n';
+
+/// Whether a program's progress is shown, and since when it runs.
+#[derive(Clone, Copy)]
+pub struct Shown {
+    begun: Option<Instant>,
+}
+
+/// How far a file of a log is read.
+#[derive(Drop)]
+pub struct Progress<'a> {
+    rt: &'a HostRuntime,
+    shown: Shown,
+    name: Option<String>,
+    length: Option<u64>,
+    bytes: u64,
+    lines: u64,
+    // the second at which the next line is due
+    due: u64,
+}
+
+impl Shown {
+    /// From now on, where standard error is a terminal.
+    pub fn of(rt: &HostRuntime) -> Shown {
+        let begun = if rt.stderr().is_terminal() {
+            Instant::now(rt).ok()
+        } else {
+            None
+        };
+        Shown { begun }
+    }
+}
+
+impl<'a> Progress<'a> {
+    /// Of a file with that name, and that length where it is known.
+    pub fn of(rt: &'a HostRuntime, shown: Shown, name: &str, length: Option<u64>) -> Progress<'a> {
+        Progress {
+            rt,
+            shown,
+            name: String::from_str(rt.alloc(), name).ok(),
+            length,
+            bytes: 0,
+            lines: 0,
+            due: 1,
+        }
+    }
+
+    /// These bytes were read.
+    pub fn read(&mut self, bytes: &[u8]) {
+        let Some(begun) = self.shown.begun else {
+            return;
+        };
+        self.bytes = self.bytes.saturating_add(bytes.len() as u64);
+        self.lines = self.lines.saturating_add(ends_in(bytes));
+        let Ok(since) = begun.elapsed(self.rt) else {
+            return;
+        };
+        let seconds = since.as_secs();
+        if seconds >= self.due {
+            self.due = seconds.saturating_add(seconds.min(SECONDS_MOST));
+            self.say();
+        }
+    }
+
+    fn say(&self) {
+        let name = match &self.name {
+            Some(name) => name.as_str(),
+            None => "-",
+        };
+        let (bytes, lines) = (self.bytes, self.lines);
+        let _said = match self.length {
+            Some(length) if length > 0 => {
+                let share = bytes.saturating_mul(100) / length;
+                eprintln!(self.rt;
+                    "{name}: {bytes} of {length} bytes ({share} %), {lines} lines"
+                ).is_ok()
+            }
+            _ => eprintln!(self.rt; "{name}: {bytes} bytes, {lines} lines").is_ok(),
+        };
+    }
+}
+
+// How many lines end there.
+fn ends_in(bytes: &[u8]) -> u64 {
+    let mut ends: u64 = 0;
+    for byte in bytes {
+        if *byte == LF {
+            ends = ends.saturating_add(1);
+        }
+    }
+    ends
+}
