@@ -17,7 +17,9 @@
    - A pointer is good for its length, and one to a record for a record. It is never NULL, even with length 0: no memory
      can be lent there, of no bytes either, and what a call does with it is not said, whatever an archive of today does.
      A setting by name (pj_setup) may be NULL where its count is 0.
-   - A bool is 0 or 1.
+   - A bool is 0 or 1. It is a parameter, which C makes so, or a result: no record has one. What a record has is a flag,
+     a byte. So any bytes at all may lie in a record or in a panel: every call then gives its one number, 1 where the
+     record is not legal.
    - Memory that a call writes, be it reply memory, a result list or a record, overlaps nothing else that is lent to
      that call. So what came and the reply need a buffer each.
    No proof sees these broken. Of the calls that receive, a debug build tests the first and the last ("Debug builds").
@@ -182,7 +184,7 @@ typedef struct {
 } pj_settings;
 
 typedef struct {                            /* what is collected of a line */
-    bool overlong;
+    uint8_t overlong;                       /* a flag */
     size_t held;
     uint8_t bytes[PJ_LINE_ROOM];
 } pj_line;
@@ -197,13 +199,13 @@ typedef struct {
     uint8_t power;                          /* enum pj_power */
     uint32_t left;                          /* seconds of warm-up or cooling */
     size_t chosen;                          /* the place of the chosen input in the list */
-    bool video_muted, audio_muted, fault;
+    uint8_t video_muted, audio_muted, fault; /* flags, each 0 or 1 */
     uint8_t errors[PJ_ERRORS];              /* numbers 0 to 2: fan, lamp, temperature, cover, filter, other */
     uint32_t lamps[PJ_LAMPS_MOST];          /* seconds. Lamps are numbered from 0 here and in the calls, and from 1 in
                                                lines of logs, on pages and by the programs */
-    bool enabled[PJ_LAMPS_MOST];            /* each lamp's mark: without it the lamp stays dark; at least one is set
-                                               where there are lamps, and none past them */
-    bool frozen;                            /* the picture stands still */
+    uint8_t enabled[PJ_LAMPS_MOST];         /* each lamp's mark, a flag: without it the lamp stays dark; at least one is
+                                               set where there are lamps, and none past them */
+    uint8_t frozen;                         /* a flag: the picture stands still */
     uint8_t speaker, microphone;            /* levels, 0 to PJ_VOLUME_MOST. As lines of Class 2 alone change these
                                                three, in Class 1 they stay as they were at set-up */
 } pj_own;
@@ -743,15 +745,15 @@ typedef struct {                            /* one projector of a panel */
     pj_text password;                       /* 0 to PJ_PASSWORD_MOST ASCII letters and digits */
     uint8_t greeting;                       /* enum pj_awaited */
     uint32_t random;                        /* of a greeting that is PJ_AWAITED_SECURED, else 0 */
-    bool led;                               /* the digest was sent since that greeting; false with any other */
-    bool under_way;                         /* a command was sent, and its reply is awaited; false without a greeting */
+    uint8_t led;                            /* a flag: the digest was sent since that greeting; 0 with any other */
+    uint8_t under_way;                      /* a flag: a command was sent, its reply is awaited; 0 without a greeting */
     pj_command command;                     /* that command, as it was given; else all three 0 */
-    bool power_known, input_known, lamps_known;
+    uint8_t power_known, input_known, lamps_known; /* flags */
     uint8_t power;                          /* enum pj_power; 0 where it is not known */
     uint8_t input_type, input_number;       /* 1 to 6 and 1 to 35; both 0 where the input is not known */
     size_t lamp_count;                      /* 1 to PJ_LAMPS_MOST; 0 where the lamps are not known */
     uint32_t hours[PJ_LAMPS_MOST];          /* at most PJ_HOURS_MOST; 0 past the count */
-    bool lit[PJ_LAMPS_MOST];                /* false past the count */
+    uint8_t lit[PJ_LAMPS_MOST];             /* flags; 0 past the count */
     uint32_t strays;                        /* at most PJ_STRAYS_MOST */
 } pj_entry;
 

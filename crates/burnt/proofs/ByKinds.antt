@@ -19,7 +19,7 @@ use Rattle.watch.specs.Telling.{floor_unplayed}
 use Rattle.watch.specs.Marking.{floor_event, seconds_by}
 use Rattle.watch.specs.Watching.{Watching, watching_from}
 use Rattle.watch.specs.States.{state_of}
-use Rattle.report.specs.Reports.{report_new, begun_text}
+use Rattle.report.specs.Reports.{begun_text}
 use Rattle.report.specs.declared.Report.{Report}
 use Rattle.burnt.specs.Told.{tellings_text, told_within, log_told, IsUntold}
 use Rattle.burnt.specs.ChainTold.{chain_told, chain_stray, IsChainUntold}
@@ -64,27 +64,27 @@ itself o = (refl, by (is_history_from o.kind []))
     by false = teller_itself o.events
 
 -- before a log that begins with that device
-pub record IsBegun (begun : Device) (sum : ℕ) (drawn : Bool) (o : Both) : Type 0 where
+pub record IsBegun (begun : Device) (sum : ℕ) (way : Report) (o : Both) : Type 0 where
   pub kind : o.kind ≡ Unbegun
   pub starts : o.events.starts ≡ begun.own.lamps
-  pub report : o.events.report ≡ report_new drawn
+  pub report : o.events.report ≡ way
   pub watch : state_of o.events.watch ≡ watching_from begun
   pub floor_lines : o.events.lines ≡ 0
   pub unplayed : o.events.unplayed ≡ none_unplayed
   pub chain_starts : o.history.starts ≡ begun.own.lamps
-  pub chain_report : o.history.report ≡ report_new drawn
+  pub chain_report : o.history.report ≡ way
   pub chain_watch : state_of o.history.watch ≡ watching_from begun
   pub log : o.history.log ≡ chain_begun sum
   pub lines : o.history.lines ≡ 0
   pub stray : o.history.stray ≡ None
 
-pub begun_so : (begun : Device) (sum : ℕ) (drawn : Bool) {r : Report} → r ≡ report_new drawn → (a : Teller)
-    → state_of a.watch ≡ watching_from begun → a.report ≡ r → a.starts ≡ begun.own.lamps
+pub begun_so : (begun : Device) (sum : ℕ) (way : Report) (a : Teller)
+    → state_of a.watch ≡ watching_from begun → a.report ≡ way → a.starts ≡ begun.own.lamps
     → a.lines ≡ 0
     → a.unplayed ≡ none_unplayed
     → (b : ChainTeller)
     → state_of b.watch ≡ watching_from begun
-    → b.report ≡ r
+    → b.report ≡ way
     → b.starts ≡ begun.own.lamps
     → b.log ≡ chain_begun sum
     → b.lines ≡ 0
@@ -92,41 +92,41 @@ pub begun_so : (begun : Device) (sum : ℕ) (drawn : Bool) {r : Report} → r �
     → (o : Both)
     → (o.events ≡ a) × (o.history ≡ b)
     → o.kind ≡ Unbegun
-    → IsBegun begun sum drawn o
-begun_so begun sum drawn new a aw ar at al au b bw br bt bl bn bx o is kind = record {
+    → IsBegun begun sum way o
+begun_so begun sum way a aw ar at al au b bw br bt bl bn bx o is kind = record {
   kind = kind;
   starts = ap (λ (t : Teller). t.starts) is.0 ∙ at;
-  report = ap (λ (t : Teller). t.report) is.0 ∙ ar ∙ new;
+  report = ap (λ (t : Teller). t.report) is.0 ∙ ar;
   watch = ap (λ (t : Teller). state_of t.watch) is.0 ∙ aw;
   floor_lines = ap (λ (t : Teller). t.lines) is.0 ∙ al;
   unplayed = ap (λ (t : Teller). t.unplayed) is.0 ∙ au;
   chain_starts = ap (λ (t : ChainTeller). t.starts) is.1 ∙ bt;
-  chain_report = ap (λ (t : ChainTeller). t.report) is.1 ∙ br ∙ new;
+  chain_report = ap (λ (t : ChainTeller). t.report) is.1 ∙ br;
   chain_watch = ap (λ (t : ChainTeller). state_of t.watch) is.1 ∙ bw;
   log = ap (λ (t : ChainTeller). t.log) is.1 ∙ bl;
   lines = ap (λ (t : ChainTeller). t.lines) is.1 ∙ bn;
   stray = ap (λ (t : ChainTeller). t.stray) is.1 ∙ bx;
 }
 
-module _ {begun : Device} {sum : ℕ} {drawn : Bool} {o : Both} (n : IsBegun begun sum drawn o) where
+module _ {begun : Device} {sum : ℕ} {way : Report} {o : Both} (n : IsBegun begun sum way o) where
   of_kind : (ls : List LogLine) → is_history_from o.kind ls ≡ is_history ls
   of_kind ls = ap (λ k. is_history_from k ls) n.kind
 
   pub all_told : (log : List ℕ)
-      → begun_text (report_new drawn) ++ writes o (kept_lines log) ≡ told begun sum drawn log
+      → begun_text way ++ writes o (kept_lines log) ≡ told begun sum way log
   all_told log =
-      ap (λ (t : Bool). begun_text (report_new drawn)
+      ap (λ (t : Bool). begun_text way
       ++ (if t then teller_writes o.history (kept_lines log) else teller_told o.events (kept_lines log)))
       (of_kind (kept_lines log))
       ∙ by (is_history (kept_lines log))
     where
       by : (t : Bool)
-          → begun_text (report_new drawn)
+          → begun_text way
           ++ (if t then teller_writes o.history (kept_lines log) else teller_told o.events (kept_lines log))
-          ≡ (if t then chain_told begun sum drawn log else log_told begun drawn log)
+          ≡ (if t then chain_told begun sum way log else log_told begun way log)
       by true =
-          chain_begins begun sum drawn o.history n.chain_starts n.chain_report n.chain_watch n.log n.lines n.stray log
-      by false = teller_begun begun drawn o.events n.starts n.report n.watch log
+          chain_begins begun sum way o.history n.chain_starts n.chain_report n.chain_watch n.log n.lines n.stray log
+      by false = teller_begun begun way o.events n.starts n.report n.watch log
 
   pub too_much : (log : List ℕ) → IsTooLong log ⊎ Overflows o (kept_lines log) → IsTooMuch log
   too_much log h = by (is_history (kept_lines log)) (moved h)
@@ -161,7 +161,7 @@ module _ {begun : Device} {sum : ℕ} {drawn : Bool} {o : Both} (n : IsBegun beg
           → (if t then stray_now last.history else None) ≡ (if t then chain_stray begun sum log else None)
       by true h =
           h.stray
-          ∙ begun_stray begun sum drawn o.history n.chain_starts n.chain_report n.chain_watch n.log n.lines n.stray
+          ∙ begun_stray begun sum way o.history n.chain_starts n.chain_report n.chain_watch n.log n.lines n.stray
           (kept_lines log)
       by false h = refl
 
@@ -184,8 +184,8 @@ module _ {begun : Device} {sum : ℕ} {drawn : Bool} {o : Both} (n : IsBegun beg
 
   -- where a read fails
   pub told_so_far : {after : Both} {log left : List ℕ} {old mid now : Option (List ℕ)}
-      → Appends old mid (begun_text (report_new drawn)) → BreaksOff writes Left o after log left mid now
-      → IsToldSoFar begun sum drawn log left old now
+      → Appends old mid (begun_text way) → BreaksOff writes Left o after log left mid now
+      → IsToldSoFar begun sum way log left old now
   told_so_far {after} {log} {left} {old} {mid} {now} w b = record {
     lines_told = b.told;
     part = b.part;
@@ -201,28 +201,28 @@ module _ {begun : Device} {sum : ℕ} {drawn : Bool} {o : Both} (n : IsBegun beg
       all = broken_text b
 
       by : (t : Bool) → is_history b.told ≡ t
-          → b.text ≡ tellings_text (report_new drawn)
+          → b.text ≡ tellings_text way
           (told_within (watching_from begun) (steps_in begun sum b.told))
       by true is =
           let mine : is_history_from o.kind b.told ≡ true = of_kind b.told ∙ is in
           let chain : IsChainLeft o.history b.told after.history
           = subst (λ (t : Bool). MatchBool t (IsChainLeft o.history b.told after.history)
           (TellerLeft o.events b.told after.events)) mine at.1 in
-          chain_so_far begun sum drawn o.history n.chain_starts n.chain_report n.chain_watch n.log n.lines n.stray
+          chain_so_far begun sum way o.history n.chain_starts n.chain_report n.chain_watch n.log n.lines n.stray
           after.history b.told chain b.text
           (sym (if_yes (teller_writes o.history b.told) (teller_told o.events b.told) mine)
           ∙ all ∙ ap (λ (l : List ℕ). b.text ++ l) (if_yes _ _ (at.0 ∙ mine)))
-          ∙ sym (ap (λ es. tellings_text (report_new drawn) (told_within (watching_from begun) es)) (if_yes _ _ is))
+          ∙ sym (ap (λ es. tellings_text way (told_within (watching_from begun) es)) (if_yes _ _ is))
       by false is =
           let mine : is_history_from o.kind b.told ≡ false = of_kind b.told ∙ is in
           let floor : TellerLeft o.events b.told after.events
           = subst (λ (t : Bool). MatchBool t (IsChainLeft o.history b.told after.history)
           (TellerLeft o.events b.told after.events)) mine at.1 in
-          teller_so_far begun drawn o.events n.starts n.report n.watch after.events b.told b.text
+          teller_so_far begun way o.events n.starts n.report n.watch after.events b.told b.text
           (sym (if_no (teller_writes o.history b.told) (teller_told o.events b.told) mine)
           ∙ all ∙ ap (λ (l : List ℕ). b.text ++ l) (if_no _ _ (at.0 ∙ mine))) floor
-          ∙ sym (ap (λ es. tellings_text (report_new drawn) (told_within (watching_from begun) es)) (if_no _ _ is))
+          ∙ sym (ap (λ es. tellings_text way (told_within (watching_from begun) es)) (if_no _ _ is))
 
-      text_is : b.text ≡ tellings_text (report_new drawn)
+      text_is : b.text ≡ tellings_text way
           (told_within (watching_from begun) (steps_in begun sum b.told))
       text_is = by (is_history b.told) refl

@@ -1,6 +1,6 @@
 -- A log of the second kind from its beginning, and where a read of it fails.
 -- Assumes nothing.
-use Rattle.std.proofs.Common.{ℕ, ◌+◌, ◌*◌, ◌^◌, ◌≤◌, ◌≡◌, refl, sym, subst, ap, ◌∙◌, Bool, List, [], ◌∷◌, ◌++◌}
+use Rattle.std.proofs.Common.{ℕ, ◌+◌, ◌*◌, ◌^◌, ◌≤◌, ◌≡◌, refl, sym, subst, ap, ◌∙◌, List, [], ◌∷◌, ◌++◌}
 use Rattle.std.proofs.Common.{arith, length, inl, inr, ◌⊎◌, ⊎_elim, sum_by, Option, Some, None, option_map}
 use Rattle.std.proofs.lemmas.List.{length-map}
 use Rattle.std.proofs.lemmas.List.Sums.{sum_by-cons}
@@ -17,7 +17,7 @@ use Rattle.watch.specs.Telling.{after_log}
 use Rattle.watch.specs.States.{state_of, IsLeft}
 use Rattle.watch.proofs.SecondsSaid.{said_most}
 use Rattle.watch.proofs.TellingsSpelt.{after_none}
-use Rattle.report.specs.Reports.{report_new, begun_text}
+use Rattle.report.specs.Reports.{begun_text}
 use Rattle.report.specs.declared.Report.{Report}
 use Rattle.burnt.specs.Told.{tellings_text, report_after, told_from, told_within}
 use Rattle.burnt.specs.ChainTold.{entries_left, stray_left, chain_ended, chain_told_from, chain_told}
@@ -69,16 +69,16 @@ module _ (t : ChainTeller) where
     stray = sym still_stray;
   }
 
-module _ (begun : Device) (sum : ℕ) (drawn : Bool) (t : ChainTeller) (starts : t.starts ≡ begun.own.lamps)
-    (report : t.report ≡ report_new drawn) (watch : state_of t.watch ≡ watching_from begun)
+module _ (begun : Device) (sum : ℕ) (way : Report) (t : ChainTeller) (starts : t.starts ≡ begun.own.lamps)
+    (report : t.report ≡ way) (watch : state_of t.watch ≡ watching_from begun)
     (log_is : t.log ≡ chain_begun sum) (lines : t.lines ≡ 0) (none : t.stray ≡ None) where
   none_now : stray_now t ≡ None
   none_now = ap (option_map _) none
 
   pub chain_begins : (log : List ℕ)
-      → begun_text (report_new drawn) ++ teller_writes t (kept_lines log) ≡ chain_told begun sum drawn log
+      → begun_text way ++ teller_writes t (kept_lines log) ≡ chain_told begun sum way log
   chain_begins log =
-      (λ i. begun_text (report_new drawn)
+      (λ i. begun_text way
       ++ chain_told_from (starts i) (none_now i) (lines i) (log_is i) (report i) (watch i) (kept_lines log))
 
   pub begun_entries : (ls : List LogLine) → entries_of t ls ≡ belonging (chain_begun sum) begun ls
@@ -102,7 +102,7 @@ module _ (begun : Device) (sum : ℕ) (drawn : Bool) (t : ChainTeller) (starts :
         (state_of after.watch) [])
 
     pub chain_so_far : (text : List ℕ) → teller_writes t ls ≡ text ++ teller_writes after []
-        → text ≡ tellings_text (report_new drawn)
+        → text ≡ tellings_text way
         (told_within (watching_from begun) (entry_steps begun (belonging (chain_begun sum) begun ls)))
     chain_so_far text all =
         text_so_far end t.report (state_of t.watch) (steps_of t ls) all

@@ -34,9 +34,9 @@ module _ (starts : List ℕ) (n : ℕ) (stray : Option FirstStray) (r : Report) 
   text_at_end st o from to true = told_text r (marks_in st o) from to ++ []
   text_at_end st o from to false = []
 
-  abbrev report_at_end : ℕ → ℕ → Bool → Report
-  report_at_end from to true = report_told r from to
-  report_at_end from to false = r
+  abbrev report_at_end : Settings → Own → ℕ → ℕ → Bool → Report
+  report_at_end st o from to true = report_told r (marks_in st o) from to
+  report_at_end st o from to false = r
 
   text_is : (s : Watching) (b : Bool)
       → tellings_text r (telling_if b s) ≡ text_at_end s.device.settings s.device.own s.from s.time b
@@ -44,7 +44,8 @@ module _ (starts : List ℕ) (n : ℕ) (stray : Option FirstStray) (r : Report) 
   text_is s true = refl
   text_is s false = refl
 
-  report_is : (s : Watching) (b : Bool) → report_after r (telling_if b s) ≡ report_at_end s.from s.time b
+  report_is : (s : Watching) (b : Bool) → report_after r (telling_if b s)
+      ≡ report_at_end s.device.settings s.device.own s.from s.time b
   unfolding report_after
   report_is s true = refl
   report_is s false = refl
@@ -53,7 +54,7 @@ module _ (starts : List ℕ) (n : ℕ) (stray : Option FirstStray) (r : Report) 
   whole_at_end st o from to burnt =
       let lit = is_lit o.power && nat_lt from to in
       text_at_end st o from to lit
-      ++ ended_until (report_at_end from to lit) to (min st.lamp_count 8) starts
+      ++ ended_until (report_at_end st o from to lit) to (min st.lamp_count 8) starts
       (if is_lit o.power then changed_where (λ (b : ℕ). b + (to - from)) (marks_in st o) burnt else burnt) o.lamps n
       (option_map stray_text stray)
 

@@ -22,7 +22,7 @@ use Rattle.watch.specs.Telling.{floor_events, floor_unplayed, telling_if, after_
 use Rattle.watch.specs.States.{IsWatched, state_of}
 use Rattle.watch.proofs.LinesKept.{floor_events_kept, floor_event_of_front}
 use Rattle.watch.proofs.TellingsSpelt.{after_none, seconds_most_lem}
-use Rattle.report.specs.Reports.{report_new, begun_text}
+use Rattle.report.specs.Reports.{begun_text}
 use Rattle.report.specs.declared.Report.{Report}
 use Rattle.burnt.specs.Told.{tellings_text, report_after, told_from, told_within, totals_text, log_told, IsUntold}
 use Rattle.burnt.specs.declared.telling.Teller.{Teller}
@@ -114,18 +114,18 @@ abbrev pub TellerOverflows : Teller → List LogLine → Type 0
 TellerOverflows t ls =
     (2 ^ 64 ≤ t.watch.time + sum_by seconds_by (map floor_event (texts_of ls))) ⊎ (2 ^ 64 ≤ t.lines + length ls)
 
-module _ (begun : Device) (drawn : Bool) (t : Teller) (starts : t.starts ≡ begun.own.lamps)
-    (report : t.report ≡ report_new drawn) (watch : state_of t.watch ≡ watching_from begun) where
+module _ (begun : Device) (way : Report) (t : Teller) (starts : t.starts ≡ begun.own.lamps)
+    (report : t.report ≡ way) (watch : state_of t.watch ≡ watching_from begun) where
   pub teller_begun : (log : List ℕ)
-      → begun_text (report_new drawn) ++ teller_told t (kept_lines log) ≡ log_told begun drawn log
+      → begun_text way ++ teller_told t (kept_lines log) ≡ log_told begun way log
   teller_begun log =
-      (λ i. begun_text (report_new drawn) ++ told_from (totals_text (starts i)) (report i) (watch i)
+      (λ i. begun_text way ++ told_from (totals_text (starts i)) (report i) (watch i)
       (floor_steps (watch i).device (floor_events_kept log i)))
 
   -- where a read fails
   pub teller_so_far : (after : Teller) (ls : List LogLine) (text : List ℕ)
       → teller_told t ls ≡ text ++ teller_told after [] → TellerLeft t ls after
-      → text ≡ tellings_text (report_new drawn)
+      → text ≡ tellings_text way
       (told_within (watching_from begun) (floor_steps begun (map floor_event (texts_of ls))))
   teller_so_far after ls text all at =
       let events = map floor_event (texts_of ls) in

@@ -30,7 +30,8 @@ use Rattle.watch.specs.Telling.{tellings, after_log}
 use Rattle.stretches.specs.LogTold.{StepsTold}
 use Rattle.stretches.proofs.CallsTell.{is_legal-begun_by}
 use Rattle.stretches.proofs.WholeLogTold.{entries_watched}
-use Rattle.report.specs.Reports.{report_new, begun_text, ended_until}
+use Rattle.report.specs.Reports.{begun_text, ended_until}
+use Rattle.report.specs.declared.Report.{Report}
 use Rattle.burnt.specs.Told.{tellings_text, report_after, told_from}
 use Rattle.burnt.specs.ChainTold.{chain_ended, chain_told, chain_stray}
 use Rattle.burnt.specs.HistoryTold.{HistoryTold, IsCutLine, HostTold}
@@ -51,7 +52,7 @@ cut_tail c = by (length c == 0) refl
 
 -- ---- where all that LF ends belongs
 
-module _ (d : Device) (sum : ℕ) (drawn : Bool) (log : List ℕ) (f : Followed)
+module _ (d : Device) (sum : ℕ) (way : Report) (log : List ℕ) (f : Followed)
     (h : followed (chain_begun sum) d (lines_ended [] log) ≡ Some f) where
   abbrev ls : List (List ℕ)
   ls = lines_ended [] log
@@ -100,25 +101,25 @@ module _ (d : Device) (sum : ℕ) (drawn : Bool) (log : List ℕ) (f : Followed)
       stray_is ∙ ap (λ (c : List ℕ). stray_from (0 + length ls) f.log f.device (map kept (last_line c))) whole
       ∙ stray_none f.log f.device (0 + length ls)
 
-  told_is : chain_told d sum drawn log ≡ begun_text (report_new drawn)
-      ++ told_from (chain_ended d.own.lamps (0 + length says.es) (chain_stray d sum log)) (report_new drawn)
+  told_is : chain_told d sum way log ≡ begun_text way
+      ++ told_from (chain_ended d.own.lamps (0 + length says.es) (chain_stray d sum log)) way
       (watching_from d) (entry_steps d says.es)
   told_is =
-      (λ i. begun_text (report_new drawn)
-      ++ told_from (chain_ended d.own.lamps (0 + length (all_belong i)) (chain_stray d sum log)) (report_new drawn)
+      (λ i. begun_text way
+      ++ told_from (chain_ended d.own.lamps (0 + length (all_belong i)) (chain_stray d sum log)) way
       (watching_from d) (entry_steps d (all_belong i)))
 
 -- ---- and tells the history
 
-module _ (b : Beginning) (w : Wanted) (h : IsAccepted ours b w) (sum : ℕ) (drawn : Bool) where
+module _ (b : Beginning) (w : Wanted) (h : IsAccepted ours b w) (sum : ℕ) (way : Report) where
   abbrev d : Device
   d = (begun_by ours b w).device
 
   history_told : (log : List ℕ) (cs : List Call) (f : Followed) → f.calls ≡ recorded d cs
       → followed (chain_begun sum) d (lines_ended [] log) ≡ Some f
-      → HistoryTold b w (history_of ours b w cs) drawn (chain_stray d sum log) (chain_told d sum drawn log)
+      → HistoryTold b w (history_of ours b w cs) way (chain_stray d sum log) (chain_told d sum way log)
   history_told log cs f calls all =
-      let s = says d sum drawn log f all in
+      let s = says d sum way log f all in
       let es = entry_steps d s.es in
       let end = after_log (watching_from d) es in
       let t : StepsTold b w (history_of ours b w cs) es = entries_watched b w h cs s.es (s.calls ∙ calls) in
@@ -134,10 +135,10 @@ module _ (b : Beginning) (w : Wanted) (h : IsAccepted ours b w) (sum : ℕ) (dra
         starts = d.own.lamps;
         burnt = burnt_by end;
         lasts = end.device.own.lamps;
-        written = told_is d sum drawn log f all
-            ∙ (λ i. begun_text (report_new drawn)
-            ++ (tellings_text (report_new drawn) (tellings (watching_from d) es)
-            ++ ended_until (report_after (report_new drawn) (tellings (watching_from d) es)) end.time (count i)
+        written = told_is d sum way log f all
+            ∙ (λ i. begun_text way
+            ++ (tellings_text way (tellings (watching_from d) es)
+            ++ ended_until (report_after way (tellings (watching_from d) es)) end.time (count i)
             d.own.lamps (burnt_by end) end.device.own.lamps (0 + length s.es)
             (option_map stray_text (chain_stray d sum log))));
         stretches = t.stretches;
@@ -156,15 +157,15 @@ module _ (b : Beginning) (w : Wanted) (h : IsAccepted ours b w) (sum : ℕ) (dra
 
     none_stray : chain_stray d sum whole_log ≡ None
     none_stray =
-        no_stray d sum drawn whole_log (host_left (chain_begun sum) d ss) all_followed
+        no_stray d sum way whole_log (host_left (chain_begun sum) d ss) all_followed
         (host_log_ends ss (chain_begun sum) d)
 
-    pub host_told : HostTold b w sum drawn ss
+    pub host_told : HostTold b w sum way ss
     host_told = record {
       whole = (
         none_stray,
-        subst (λ (x : Option FirstStray). HistoryTold b w (history_of ours b w (step_calls ss)) drawn x
-            (chain_told d sum drawn whole_log)) none_stray
+        subst (λ (x : Option FirstStray). HistoryTold b w (history_of ours b w (step_calls ss)) way x
+            (chain_told d sum way whole_log)) none_stray
             (history_told whole_log (step_calls ss) (host_left (chain_begun sum) d ss) refl all_followed),
       );
       cut = λ n. of_front n;
@@ -172,13 +173,13 @@ module _ (b : Beginning) (w : Wanted) (h : IsAccepted ours b w) (sum : ℕ) (dra
       where
         of_front : (n : ℕ) → let log = take n whole_log in
             (k : ℕ) × (k ≤ length ss) × IsCutLine (chain_stray d sum log)
-            × HistoryTold b w (history_of ours b w (step_calls (take k ss))) drawn (chain_stray d sum log)
-            (chain_told d sum drawn log)
+            × HistoryTold b w (history_of ours b w (step_calls (take k ss))) way (chain_stray d sum log)
+            (chain_told d sum way log)
         of_front n =
             let log = take n whole_log in
             let (k, few, front, plays) = front_believed (chain_begun sum) d ss (omega arith) small typed kept_all n in (
               k,
               few,
-              cut_line d sum drawn log (host_left (chain_begun sum) d (take k ss)) front,
+              cut_line d sum way log (host_left (chain_begun sum) d (take k ss)) front,
               history_told log (step_calls (take k ss)) (host_left (chain_begun sum) d (take k ss)) refl front,
             )

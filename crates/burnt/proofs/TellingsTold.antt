@@ -14,15 +14,16 @@ text_append : (r : Report) (ts us : List Telling)
 unfolding tellings_text report_after
 text_append r [] us = refl
 text_append r (t ∷ ts) us =
-    let first = told_text r (marks_in t.device.settings t.device.own) t.from t.to in
-    ap (λ (l : List ℕ). first ++ l) (text_append (report_told r t.from t.to) ts us)
-    ∙ sym (append_assoc first (tellings_text (report_told r t.from t.to) ts) _)
+    let lit = marks_in t.device.settings t.device.own in
+    let first = told_text r lit t.from t.to in
+    let then = report_told r lit t.from t.to in
+    ap (λ (l : List ℕ). first ++ l) (text_append then ts us) ∙ sym (append_assoc first (tellings_text then ts) _)
 
 report_append : (r : Report) (ts us : List Telling)
     → report_after r (ts ++ us) ≡ report_after (report_after r ts) us
 unfolding report_after
 report_append r [] us = refl
-report_append r (t ∷ ts) us = report_append (report_told r t.from t.to) ts us
+report_append r (t ∷ ts) us = report_append (report_told r (marks_in t.device.settings t.device.own) t.from t.to) ts us
 
 module _ (end : Report → Watching → List ℕ) (r : Report) (s : Watching) where
   pub told_none : told_from end r s []

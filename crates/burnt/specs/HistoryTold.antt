@@ -1,7 +1,7 @@
 -- What `burnt` writes of a log that a host recorded, beside demand 3's history of the calls that the host made (RULES,
 -- History of a board).
---   HistoryTold b w hs drawn t    the text t tells the history hs, as lines or on a page: stretches as they end, and
---                                 then
+--   HistoryTold b w hs way t      the text t tells the history hs, as the report `way` has it: stretches as they end,
+--                                 and then
 --                                 each lamp's seconds at the start, burnt and now; until when it goes, on a page; and a
 --                                 line that does not belong, if one does not
 --   HostsTold                     that is so of all that a host writes, however its board began: each line belongs;
@@ -10,7 +10,7 @@
 --                                 than
 --                                 the last line does not belong, for want of its LF
 -- Assumes nothing.
-use Rattle.std.specs.Prelude.{ℕ, ◌≤◌, ◌<◌, ◌^◌, ◌≡◌, Bool, List, ◌++◌, length, take, slice_index_or}
+use Rattle.std.specs.Prelude.{ℕ, ◌≤◌, ◌<◌, ◌^◌, ◌≡◌, List, ◌++◌, length, take, slice_index_or}
 use Rattle.std.specs.Prelude.{Option, Some, None, option_map}
 use Rattle.record.specs.Wanted.{Wanted}
 use Rattle.ours.specs.Board.{ours}
@@ -22,11 +22,12 @@ use Rattle.recorded.specs.Hosts.{HostStep, host_log, step_calls, AreKept, AreTyp
 use Rattle.watch.specs.Telling.{Telling}
 use Rattle.stretches.specs.LogTold.{stretches_in}
 use Rattle.stretches.specs.Stretches.{StretchesTell}
-use Rattle.report.specs.Reports.{report_new, begun_text, ended_until}
+use Rattle.report.specs.Reports.{begun_text, ended_until}
+use Rattle.report.specs.declared.Report.{Report}
 use Rattle.burnt.specs.Told.{tellings_text, report_after}
 use Rattle.burnt.specs.ChainTold.{chain_told, chain_stray}
 
-pub record HistoryTold (b : Beginning) (w : Wanted) (hs : List Event) (drawn : Bool) (stray : Option FirstStray)
+pub record HistoryTold (b : Beginning) (w : Wanted) (hs : List Event) (way : Report) (stray : Option FirstStray)
     (text : List ℕ) : Type 0 where
   pub told : List Telling
   pub seconds : ℕ
@@ -34,8 +35,8 @@ pub record HistoryTold (b : Beginning) (w : Wanted) (hs : List Event) (drawn : B
   pub starts : List ℕ
   pub burnt : List ℕ
   pub lasts : List ℕ
-  pub written : let r = report_new drawn in text ≡ begun_text r ++ (tellings_text r told
-      ++ ended_until (report_after r told) seconds (length w.lamps) starts burnt lasts lines
+  pub written : text ≡ begun_text way ++ (tellings_text way told
+      ++ ended_until (report_after way told) seconds (length w.lamps) starts burnt lasts lines
       (option_map stray_text stray))
   -- of each lamp its stretches in the history
   pub stretches : (k : ℕ) → k < length w.lamps → StretchesTell w (start_marks b w) k hs (stretches_in k told)
@@ -51,19 +52,19 @@ abbrev pub IsCutLine : Option FirstStray → Type 0
 IsCutLine None = Unit {0}
 IsCutLine (Some s) = s.why ≡ unended
 
-pub record HostTold (b : Beginning) (w : Wanted) (sum : ℕ) (drawn : Bool) (ss : List (HostStep × ℕ)) : Type 0 where
+pub record HostTold (b : Beginning) (w : Wanted) (sum : ℕ) (way : Report) (ss : List (HostStep × ℕ)) : Type 0 where
   pub whole : let d = (begun_by ours b w).device in
       let log = host_log (chain_begun sum) d ss in
       (chain_stray d sum log ≡ None)
-      × HistoryTold b w (history_of ours b w (step_calls ss)) drawn None (chain_told d sum drawn log)
+      × HistoryTold b w (history_of ours b w (step_calls ss)) way None (chain_told d sum way log)
   pub cut : let d = (begun_by ours b w).device in
       (n : ℕ) → let log = take n (host_log (chain_begun sum) d ss) in
       (k : ℕ) × (k ≤ length ss) × IsCutLine (chain_stray d sum log)
-      × HistoryTold b w (history_of ours b w (step_calls (take k ss))) drawn (chain_stray d sum log)
-      (chain_told d sum drawn log)
+      × HistoryTold b w (history_of ours b w (step_calls (take k ss))) way (chain_stray d sum log)
+      (chain_told d sum way log)
 
 abbrev pub HostsTold : Type 0
 HostsTold = (b : Beginning) (w : Wanted) → IsAccepted ours b w → (sum : ℕ) → sum < 2 ^ 32
     → (ss : List (HostStep × ℕ)) → AreTypedSteps ss
     → AreKept (chain_begun sum) (begun_by ours b w).device ss
-    → (drawn : Bool) → HostTold b w sum drawn ss
+    → (way : Report) → HostTold b w sum way ss

@@ -1,15 +1,15 @@
 -- What `burnt` writes of a log of either kind.
---   told d sum drawn log     what is written of a whole log that begins with the device d, of which the form has that
---                            sum
+--   told d sum way log       what is written of a whole log that begins with the device d, of which the form has that
+--                            sum, as the report `way` has it
 --   stray_in d sum log       its first line that does not belong; none does in a log of the first kind
 --   unplayed_in d log        what of a log of the first kind is not played; of a history it is none
 --   IsTooMuch log            it can't be told to its end
 --   steps_in d sum ls        the steps of its lines ls, from the first on
---   IsToldSoFar d sum drawn log left ..   the sink got what is told by the lines that have ended in what was read of
+--   IsToldSoFar d sum way log left ..   the sink got what is told by the lines that have ended in what was read of
 --                                         the
 --                            log, where this is left
 -- Assumes nothing.
-use Rattle.std.specs.Prelude.{ℕ, ◌≡◌, ◌≢◌, Bool, List, ◌++◌, All, map, if◌then◌else◌, MatchBool, Option, None}
+use Rattle.std.specs.Prelude.{ℕ, ◌≡◌, ◌≢◌, List, ◌++◌, All, map, if◌then◌else◌, MatchBool, Option, None}
 use Rattle.std.specs.Io.KnownBytes.{Appends}
 use Rattle.record.specs.declared.types.Device.{Device}
 use Rattle.textio.specs.Lines.{LogLine, texts_of}
@@ -22,13 +22,14 @@ use Rattle.watch.specs.Marking.{floor_event, floor_steps}
 use Rattle.watch.specs.Telling.{floor_unplayed}
 use Rattle.watch.specs.CallSteps.{entry_steps}
 use Rattle.watch.specs.Watching.{Step, watching_from}
-use Rattle.report.specs.Reports.{report_new, begun_text}
+use Rattle.report.specs.Reports.{begun_text}
+use Rattle.report.specs.declared.Report.{Report}
 use Rattle.burnt.specs.Told.{tellings_text, told_within, log_told, IsUntold}
 use Rattle.burnt.specs.ChainTold.{chain_told, chain_stray, IsChainUntold}
 
-abbrev pub told : Device → ℕ → Bool → List ℕ → List ℕ
-told d sum drawn log =
-    if is_history (kept_lines log) then chain_told d sum drawn log else log_told d drawn log
+abbrev pub told : Device → ℕ → Report → List ℕ → List ℕ
+told d sum way log =
+    if is_history (kept_lines log) then chain_told d sum way log else log_told d way log
 
 abbrev pub stray_in : Device → ℕ → List ℕ → Option FirstStray
 stray_in d sum log = if is_history (kept_lines log) then chain_stray d sum log else None
@@ -44,11 +45,11 @@ steps_in d sum ls =
     if is_history ls then entry_steps d (belonging (chain_begun sum) d ls)
     else floor_steps d (map floor_event (texts_of ls))
 
-pub record IsToldSoFar (d : Device) (sum : ℕ) (drawn : Bool) (log left : List ℕ) (old new : Option (List ℕ)) : Type 0
+pub record IsToldSoFar (d : Device) (sum : ℕ) (way : Report) (log left : List ℕ) (old new : Option (List ℕ)) : Type 0
   where
     pub lines_told : List LogLine
     pub part : List ℕ
     pub one_line : All (λ b. b ≢ 10) part
     pub lines : kept_lines log ≡ lines_told ++ kept_lines (part ++ left)
-    pub printed : let r = report_new drawn in Appends old new (begun_text r
-        ++ tellings_text r (told_within (watching_from d) (steps_in d sum lines_told)))
+    pub printed : Appends old new (begun_text way
+        ++ tellings_text way (told_within (watching_from d) (steps_in d sum lines_told)))

@@ -6,27 +6,28 @@
 --                            are under way, and then what `end` says of the report and the state there
 --   totals_text starts r s   what stands at the end of a log of the first kind that began with these seconds of its
 --                            lamps and leaves the state s
---   log_told d drawn log     what is written of a whole log of the first kind that begins with the device d, on a page
---                            or as lines
+--   log_told d way log       what is written of a whole log of the first kind that begins with the device d, as the
+--                            report `way` has it
 --   IsUntold log             it has more lines, or more bytes in one, or lets more seconds pass, than 64 bits count
 -- Assumes nothing.
-use Rattle.std.specs.Prelude.{ℕ, ◌⊎◌, min, Bool, List, [], ◌∷◌, ◌++◌}
+use Rattle.std.specs.Prelude.{ℕ, ◌⊎◌, min, List, [], ◌∷◌, ◌++◌}
 use Rattle.record.specs.declared.types.Device.{Device}
 use Rattle.clock.specs.Second.{marks_in}
 use Rattle.textio.specs.Lines.{IsTooLong}
 use Rattle.watch.specs.Watching.{Step, Watching, watching_from, watched_on, burnt_by}
 use Rattle.watch.specs.Telling.{log_steps, Telling, told_on, tellings, after_log, IsUncounted}
-use Rattle.report.specs.Reports.{report_new, begun_text, report_told, told_text, ended_text}
+use Rattle.report.specs.Reports.{begun_text, report_told, told_text, ended_text}
 use Rattle.report.specs.declared.Report.{Report}
 
 unfoldable pub tellings_text : Report → List Telling → List ℕ
 tellings_text r [] = []
 tellings_text r (t ∷ ts) =
-    told_text r (marks_in t.device.settings t.device.own) t.from t.to ++ tellings_text (report_told r t.from t.to) ts
+    let lit = marks_in t.device.settings t.device.own in
+    told_text r lit t.from t.to ++ tellings_text (report_told r lit t.from t.to) ts
 
 unfoldable pub report_after : Report → List Telling → Report
 report_after r [] = r
-report_after r (t ∷ ts) = report_after (report_told r t.from t.to) ts
+report_after r (t ∷ ts) = report_after (report_told r (marks_in t.device.settings t.device.own) t.from t.to) ts
 
 unfoldable pub told_within : Watching → List Step → List Telling
 told_within s [] = []
@@ -41,10 +42,9 @@ abbrev pub totals_text : List ℕ → Report → Watching → List ℕ
 totals_text starts r s =
     ended_text r s.time (min s.device.settings.lamp_count 8) starts (burnt_by s) s.device.own.lamps
 
-abbrev pub log_told : Device → Bool → List ℕ → List ℕ
-log_told d drawn log =
-    let r = report_new drawn in
-    begun_text r ++ told_from (totals_text d.own.lamps) r (watching_from d) (log_steps d log)
+abbrev pub log_told : Device → Report → List ℕ → List ℕ
+log_told d way log =
+    begun_text way ++ told_from (totals_text d.own.lamps) way (watching_from d) (log_steps d log)
 
 abbrev pub IsUntold : List ℕ → Type 0
 IsUntold log = IsTooLong log ⊎ IsUncounted log

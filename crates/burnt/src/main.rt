@@ -14,6 +14,7 @@ use program::about::About;
 use program::outside::System;
 use program::run;
 use program::telling::{Ending, Telling};
+use report::Report;
 use std::process::ExitCode;
 use textio::lines::Failure;
 use textio::reader::{ByteSource, Reader};
@@ -52,7 +53,7 @@ impl Telling for Burnt {
         from: &mut Reader<R>,
         to: &mut W,
     ) -> Result<Ending, Failure> {
-        telling::tell_log(begun.device, begun.sum, command.page, from, to)
+        telling::tell_log(begun.device, begun.sum, Report::new(command.page), from, to)
     }
 }
 

@@ -170,8 +170,8 @@ fn ending_of(teller: &ByKind<Teller, ChainTeller>) -> Ending
     }
 }
 
-/// The log that a reader has left, which begins with a device: which lamp burnt when goes to a sink, as lines or drawn
-/// on a page, as it comes. What is told is handed on before each read, which may wait. A log whose first line begins
+/// The log that a reader has left, which begins with a device: which lamp burnt when goes to a sink, as the report has
+/// it, as it comes. What is told is handed on before each read, which may wait. A log whose first line begins
 /// with `LOG ` is of the second kind: `sum` is the CRC-32 of the form that it begins with. Returns its first line that
 /// does not belong, which is told last, if there is one, and what of a log of the first kind was not played. Errors:
 /// those of a read or a write; `TooLong` for a log with more lines, more bytes in one, or more seconds than 64 bits
@@ -179,29 +179,28 @@ fn ending_of(teller: &ByKind<Teller, ChainTeller>) -> Ending
 pub fn tell_log<R: ByteSource, W: ByteSink>(
     begun: Device,
     sum: u32,
-    drawn: bool,
+    report: Report,
     from: &mut Reader<R>,
     to: &mut W,
 ) -> Result<Ending, Failure>
     ensures whole { OnOk result (IfSome (left_in R.remaining from.old) (λ log. Appends (W.contents to.old)
-        (W.contents to.new) (told begun sum drawn log))) }
+        (W.contents to.new) (told begun sum report log))) }
     ensures stray { IfOk result (λ ending. IfSome (left_in R.remaining from.old) (λ log.
         option_map stray_seen ending.stray ≡ stray_in begun sum log)) }
     ensures unplayed { IfOk result (λ ending. IfSome (left_in R.remaining from.old) (λ log.
         ending.unplayed ≡ unplayed_in begun log)) }
     ensures front { IfSome (left_in R.remaining from.old) (λ log. WritesFront (W.contents to.old)
-        (W.contents to.new) (told begun sum drawn log)) }
+        (W.contents to.new) (told begun sum report log)) }
     ensures none_waits { OnOk result (W.waiting to.new ≡ []) }
     ensures read { IfErr result (OnFailedRead (W.waiting to.new ≡ [])) }
     ensures broken { IfErr result (OnFailedRead (IfSome (left_in R.remaining from.old) (λ log.
         IfSome (left_in R.remaining from.new) (λ left.
-        IsToldSoFar begun sum drawn log left (W.contents to.old) (W.contents to.new))))) }
+        IsToldSoFar begun sum report log left (W.contents to.old) (W.contents to.new))))) }
     ensures err { IfErr result
         (FailureComesOf R.fails_with W.fails_with IsTooMuch (left_in R.remaining from.old)) }
     ensures short { IfSome (left_in R.remaining from.old) (λ log. length log < 2 ^ 32
         → result ≢ Err Failure.TooLong) }
 {
-    let report = Report::new(drawn);
     let mut teller = ByKind::new(
         Teller::new(begun, report),
         ChainTeller::new(begun, sum, report),

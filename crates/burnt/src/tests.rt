@@ -3,6 +3,7 @@ use crate::telling::tell_log;
 use floorlog::{cut, sample};
 use record::types::Device;
 use recorded::chain::Why;
+use report::Report;
 use setup::wanted::{Class, Wanted};
 use textio::lines::Failure;
 use textio::reader::Reader;
@@ -24,7 +25,7 @@ fn source(most: usize, until: usize) -> Reader<Pieces> {
 fn a_log_in_odd_pieces(rt: HostRuntime) {
     for most in 1..12 {
         let mut to = Taken::new(most, 64);
-        let told = tell_log(sample(), 0, false, &mut source(most, 1000), &mut to);
+        let told = tell_log(sample(), 0, Report::Lines, &mut source(most, 1000), &mut to);
         assert!(rt; told.is_ok());
         assert!(rt; to.text() == TOLD);
     }
@@ -33,7 +34,7 @@ fn a_log_in_odd_pieces(rt: HostRuntime) {
 #[test]
 fn a_read_that_fails_after_a_stretch(rt: HostRuntime) {
     let mut to = Taken::new(6, 64);
-    let told = tell_log(sample(), 0, false, &mut source(5, 42), &mut to);
+    let told = tell_log(sample(), 0, Report::Lines, &mut source(5, 42), &mut to);
     assert!(rt; matches!(told, Err(Failure::Read(_))));
     assert!(rt; to.text() == b"lamp 1 from 0 to 2400\n".as_slice());
     // it is handed on before the read that fails
@@ -43,7 +44,7 @@ fn a_read_that_fails_after_a_stretch(rt: HostRuntime) {
 #[test]
 fn a_write_that_fails_in_mid_line(rt: HostRuntime) {
     let mut to = Taken::new(2, 15);
-    let told = tell_log(sample(), 0, false, &mut source(7, 1000), &mut to);
+    let told = tell_log(sample(), 0, Report::Lines, &mut source(7, 1000), &mut to);
     assert!(rt; matches!(told, Err(Failure::Write(_))));
     // and nothing is written after it
     to.set_room(64);
@@ -113,7 +114,13 @@ fn four_places_and_a_password(rt: HostRuntime) {
         T 1000\n";
     for most in 1..9 {
         let mut to = Taken::new(most, 64);
-        let told = tell_log(secured(), SUM, false, &mut recorded(log, most), &mut to);
+        let told = tell_log(
+            secured(),
+            SUM,
+            Report::Lines,
+            &mut recorded(log, most),
+            &mut to,
+        );
         assert!(rt; matches!(told, Ok(None)));
         assert!(rt;
             to.text() == b"lamp 1 from 100 to 130\nlamp 1 start 0 burnt 30 now 30\n".as_slice()
@@ -126,7 +133,13 @@ fn four_places_and_a_password(rt: HostRuntime) {
 fn a_log_that_was_cut(rt: HostRuntime) {
     let mut to = Taken::new(7, 64);
     let log = b"LOG 2 1 0a1b2c3d\nT 5\nT 12";
-    let told = tell_log(secured(), SUM, false, &mut recorded(log, 4), &mut to);
+    let told = tell_log(
+        secured(),
+        SUM,
+        Report::Lines,
+        &mut recorded(log, 4),
+        &mut to,
+    );
     match told {
         Ok(Some(stray)) => {
             assert_eq!(rt; stray.line, 3);
@@ -142,7 +155,13 @@ fn a_log_that_was_cut(rt: HostRuntime) {
 fn a_log_of_another_form(rt: HostRuntime) {
     let mut to = Taken::new(7, 64);
     let log = b"LOG 2 1 0a1b2c3e\nO 0 498e4a67\nT 5\n";
-    let told = tell_log(secured(), SUM, false, &mut recorded(log, 9), &mut to);
+    let told = tell_log(
+        secured(),
+        SUM,
+        Report::Lines,
+        &mut recorded(log, 9),
+        &mut to,
+    );
     assert!(rt; matches!(told, Ok(Some(_))));
     assert!(rt; to.text() == b"lamp 1 start 0 burnt 0 now 0\n! line 1: another sum\n".as_slice());
 }

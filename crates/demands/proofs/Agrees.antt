@@ -12,7 +12,7 @@ use Rattle.std.proofs.Common.{slice_index_or, set, length-set, get_or-set_same, 
 use Rattle.std.proofs.Common.{[], ◌∷◌, ◌++◌, add-zero, zero-add, add_assoc, replicate, if◌then◌else◌}
 use Rattle.std.proofs.lemmas.Bool.{eqb-false}
 use Rattle.record.specs.Views.{marks_seen}
-use Rattle.text.proofs.FlagsTold.{raised-set, raised_many}
+use Rattle.text.proofs.FlagsTold.{raised_set, raised_many}
 use Rattle.text.specs.Flags.{flag_of}
 use Rattle.record.specs.Limits.{is_lit}
 use Rattle.record.specs.Wanted.{Wanted}
@@ -137,7 +137,17 @@ module _ {w : Wanted} {g : Stage} {ms : List Bool} {n : ℕ → ℕ} {stream : S
   -- a mark replaced, here and there
   pub remarked : (lamp : ℕ) (mark : Bool) → lamp < length w.lamps → lamp < length d.own.enabled
       → Agrees w g (set ms lamp mark) n stream (with_own d (with_marks d.own (set d.own.enabled lamp (flag_of mark))))
-  remarked lamp mark there room = grind (arith, length-set, eqb-true, get_or-set_same, eqb-false, get_or-set_other, raised-set, raised_many)
+  remarked lamp mark there room =
+      grind (
+        arith,
+        length-set,
+        eqb-true,
+        get_or-set_same,
+        eqb-false,
+        get_or-set_other,
+        raised_set,
+        raised_many,
+      )
 
 pub stage_from-append : (w : Wanted) (g : Stage) (es fs : List Event)
     → stage_from w g (es ++ fs) ≡ stage_from w (stage_from w g es) fs

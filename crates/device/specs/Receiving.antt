@@ -66,7 +66,8 @@ refused_digest o c = record { own = o; connection = phase_start c failed; reply 
 -- is refused; failed: ignored
 unfoldable pub line_ended : Settings → Own → Connection → Line → Ended
 line_ended s o c l =
-    if c.phase == opened then served_line c (if is_raised l.overlong then line_swallowed o else line_answer s o (line_text l))
+    if c.phase == opened then
+    served_line c (if is_raised l.overlong then line_swallowed o else line_answer s o (line_text l))
     else if c.phase == awaiting then
     (if is_match s c l then served_line c (line_answer s o (drop digest_long (line_text l))) else refused_digest o c)
     else no_reply o c

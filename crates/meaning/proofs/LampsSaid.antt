@@ -3,6 +3,7 @@
 use Rattle.std.specs.List.{list_all}
 use Rattle.std.proofs.Common.{ℕ, zero, suc, ◌+◌, ◌<◌, ◌≡◌, refl, sym, ap, Bool, true, false, ◌&&◌, List, [], ◌∷◌}
 use Rattle.std.proofs.Common.{◌++◌, arith, length, slice_index_or, take}
+use Rattle.text.proofs.FlagsTold.{raised_at}
 use Rattle.text.proofs.Choices.{both, both_left, both_right}
 use Rattle.words.specs.declared.lamp.LampHours.{LampHours}
 use Rattle.meaning.specs.Meaning.{lamp_said, lamps_said}
@@ -61,3 +62,6 @@ module _ (lit : Bool) where
   list_all-lamps_said f g h (m ∷ ms) (x ∷ xs) e =
       both (h (lit && m) x (both_left (f x) (list_all f xs) e))
       (list_all-lamps_said f g h ms xs (both_right (f x) (list_all f xs) e))
+
+-- with the marks told
+pub ruleset lamps_one_by_one = (none_said, one_more_said, raised_at)

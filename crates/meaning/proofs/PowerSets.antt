@@ -43,7 +43,8 @@ module _ (s : Settings) (o : Own) where
     power_set_only =
         refused_or_passed s o (Ok (PowerSet wanted)) (λ m k. OkayOnly m) (λ n e. cc) (λ p e. (p.sound, p.timely))
 
-    pub power_set_passes : is_raised o.fault ≡ false → is_between o.power ≡ false → answer_for s o (Ok (PowerSet wanted)) ≡ okay
+    pub power_set_passes : is_raised o.fault ≡ false → is_between o.power ≡ false
+        → answer_for s o (Ok (PowerSet wanted)) ≡ okay
     power_set_passes f b = grind (arith, meant_passed)
 
     pub power_set_done : answer_for s o (Ok (PowerSet wanted)) ≡ okay

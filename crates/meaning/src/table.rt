@@ -43,7 +43,7 @@ fn lamp_said(lit: bool, seconds: u32) -> LampHours
 }
 
 // The first `count` lamps.
-#[tactic(auto, using(crate::proofs::LampsSaid::none_said, crate::proofs::LampsSaid::one_more_said, text::proofs::FlagsTold::raised_at))]
+#[tactic(auto, using(crate::proofs::LampsSaid::lamps_one_by_one))]
 fn lamps_said(
     seconds: &[u32; LAMPS_MOST],
     marks: &[u8; LAMPS_MOST],

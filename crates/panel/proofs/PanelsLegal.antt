@@ -1,8 +1,8 @@
 -- A legal panel stays legal, whatever call is made and whatever line comes.
 -- Assumes nothing.
 use Rattle.std.specs.List.{list_all}
-use Rattle.std.proofs.Common.{ℕ, suc, ◌<◌, ◌≤◌, ◌≡◌, refl, sym, ap, subst, ◌∙◌, Bool, true, false, List, [], arith}
-use Rattle.std.proofs.Common.{add-one, length, slice_index_or, set, drop, replicate, length-set, drop-cons, drop-set-lt}
+use Rattle.std.proofs.Common.{ℕ, suc, ◌<◌, ◌≤◌, ◌≡◌, refl, sym, ap, subst, ◌∙◌, true, false, List, [], arith}
+use Rattle.std.proofs.Common.{add-one, length, slice_index_or, drop, length-set, drop-cons, drop-set-lt}
 use Rattle.std.proofs.lemmas.List.{length-replicate}
 use Rattle.text.proofs.Choices.{both_right}
 use Rattle.text.proofs.Scanning.{list_all-set, list_all-replicate}

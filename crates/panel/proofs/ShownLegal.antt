@@ -2,11 +2,11 @@
 -- was.
 -- Assumes nothing.
 use Rattle.std.specs.List.{list_all}
-use Rattle.std.proofs.Common.{ℕ, ◌≤◌, ◌≡◌, refl, sym, ◌∙◌, subst, Bool, true, false, not, ◌&&◌, List, []}
+use Rattle.std.proofs.Common.{ℕ, ◌≤◌, ◌≡◌, refl, sym, ◌∙◌, subst, Bool, true, false, ◌&&◌, List, []}
 use Rattle.std.proofs.Common.{map, arith, length, nat_le, ◌==◌}
 use Rattle.std.proofs.lemmas.List.{length-map, map-append}
 use Rattle.text.proofs.Choices.{both}
-use Rattle.text.proofs.FlagsTold.{flags_legal, lowered-replicate}
+use Rattle.text.proofs.FlagsTold.{flags_legal, lowered_replicate}
 use Rattle.text.specs.Flags.{is_flag, is_lowered, is_raised, flag_of}
 use Rattle.text.specs.Rooms.{filled_room, Uses}
 use Rattle.text.proofs.RoomsTold.{uses_told, kept_used}
@@ -66,13 +66,14 @@ module _ (n : ℕ) (few : n ≤ lamps_carried) where
   -- the flags of the room are the room of the flags
   flags_room : (bs : List Bool)
       → map flag_of (filled_room false lamps_carried bs) ≡ filled_room 0 lamps_carried (map flag_of bs)
-  flags_room bs = grind (arith, map-append, lowered-replicate, length-map)
+  flags_room bs = grind (arith, map-append, lowered_replicate, length-map)
 
   lit_shown : (bs : List Bool) → n ≡ length bs → is_lit_room (map flag_of (filled_room false lamps_carried bs)) n ≡ true
   unfolding is_lit_room
   lit_shown bs long =
       let many = length-map bs flag_of in
-      let room = room_used is_lowered 0 (λ _. true) (map flag_of bs) (long ∙ sym many) (omega (arith, many)) refl refl in
+      let room =
+      room_used is_lowered 0 (λ _. true) (map flag_of bs) (long ∙ sym many) (omega (arith, many)) refl refl in
       let used = subst (λ (l : List ℕ). Uses is_lowered lamps_carried (λ _. true) l n) (sym (flags_room bs)) room in
       both ((room_told is_lowered lamps_carried _ n).1 used) (flags_legal (filled_room false lamps_carried bs))
 

@@ -84,7 +84,8 @@ module _ (e : Entry) (l : List ℕ) where
       step_by (StepTo e l) (λ g. greeting_row g (read_greeting l) refl) (λ g w. strays (late g w))
       (λ g w. by g w (coded_command e.command) refl)
     where
-      by : (e.greeting ≡ ungreeted → ⊥) → is_raised e.under_way ≡ true → (m : Option Command) → coded_command e.command ≡ m
+      by : (e.greeting ≡ ungreeted → ⊥) → is_raised e.under_way ≡ true → (m : Option Command)
+          → coded_command e.command ≡ m
           → StepTo e l (replied_to e m l)
       by g w (Some c) a =
           reply_row c (record { greeted = g; waits = w; asked = a }) (read_reply c l).outcome (read_reply c l).said refl

@@ -1,7 +1,7 @@
 -- What a legal talk tells, and how one is shown.
 --   TalkTold t      the parts of is_talk
 -- Assumes nothing.
-use Rattle.std.proofs.Common.{◌≡◌, true, false, not, ◌&&◌, ◌||◌, arith, nat_le, ◌==◌, is_some}
+use Rattle.std.proofs.Common.{◌≡◌, true, false, ◌&&◌, ◌||◌, arith, nat_le, ◌==◌, is_some}
 use Rattle.text.specs.Flags.{is_flag, is_lowered, is_raised}
 use Rattle.codes.specs.Commands.{coded_command}
 use Rattle.codes.specs.declared.command.Coded.{Coded}

@@ -3,8 +3,9 @@
 --   NothingKnown e  what an unused entry says;    RoomsKept e    the lamps that are shown, part by part
 -- Assumes nothing.
 use Rattle.std.specs.List.{list_all}
-use Rattle.std.proofs.Common.{ℕ, ◌<◌, ◌≤◌, ◌+◌, ◌-◌, ◌≡◌, refl, sym, ap, ◌∙◌, Bool, true, false, not, List, [], ◌∷◌}
-use Rattle.std.proofs.Common.{arith, ◌&&◌, ◌||◌, length, slice_index_or, drop, replicate, length-drop, get_or-drop, eqb-true, ◌==◌}
+use Rattle.std.proofs.Common.{ℕ, ◌<◌, ◌≤◌, ◌+◌, ◌-◌, ◌≡◌, refl, sym, ap, ◌∙◌, Bool, true, false, List, [], ◌∷◌}
+use Rattle.std.proofs.Common.{arith, ◌&&◌, ◌||◌, length, slice_index_or, drop, replicate, length-drop, get_or-drop}
+use Rattle.std.proofs.Common.{eqb-true, ◌==◌}
 use Rattle.text.specs.Flags.{is_lowered, is_raised}
 use Rattle.text.proofs.RoomsTold.{uses_told}
 use Rattle.text.proofs.Choices.{both_left, both_right}

@@ -14,7 +14,7 @@
 --   fresh_entry s        a projector just added, with the password s
 --   blank_entry          all zero
 -- Assumes nothing.
-use Rattle.std.specs.Prelude.{ℕ, Bool, true, false, not, ◌&&◌, List, take, replicate, ◌==◌}
+use Rattle.std.specs.Prelude.{ℕ, Bool, not, ◌&&◌, List, take, replicate, ◌==◌}
 use Rattle.text.specs.Flags.{is_raised, flag_of}
 use Rattle.pjlink.specs.Carried.{lamps_carried}
 use Rattle.codes.specs.Commands.{code_with}

@@ -3,7 +3,7 @@
 --   with_power_shown, with_input_shown, with_lamps_shown   what is shown, with that known besides
 --   showing s m          what was said is shown: a power, an input or lamps; anything else changes nothing
 -- Assumes nothing.
-use Rattle.std.specs.Prelude.{ℕ, Bool, true, false, List, map, length}
+use Rattle.std.specs.Prelude.{ℕ, false, List, map, length}
 use Rattle.text.specs.Flags.{flag_of}
 use Rattle.pjlink.specs.Said.{Said, power_is, chosen_is, lamps_are}
 use Rattle.pjlink.specs.Carried.{lamps_carried}

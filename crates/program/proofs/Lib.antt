@@ -1,1 +1,2 @@
-pub mod UnbegunTold
+pub mod SaidSo
+pub mod JoinedReads

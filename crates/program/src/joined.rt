@@ -1,5 +1,8 @@
 // Several files of a log, read as one.
+ghost use Rattle.std.specs.Prelude.{◌≡◌, ◌<◌, true, false, Ok, length, IfOk, List, ℕ, Option};
 ghost use Rattle.std.specs.Io.{ReadsAtMost};
+ghost use Rattle.std.specs.Io.KnownBytes.{Keeps, IsAtEnd, ReadConsumes};
+ghost use Rattle.program.specs.Joined.{join_known, joined_bytes, source_left, names_in};
 
 use std::io;
 use std::io::Read;
@@ -9,8 +12,12 @@ pub trait Opens {
     /// What is read of one.
     type Source: Read + Drop;
 
-    /// Opens one.
-    fn open_log(&self, name: &str) -> io::Result<Self::Source>;
+    /// The bytes of the file with that name, where they are known.
+    ghost log_bytes: { Self → List ℕ → Option (List ℕ) };
+
+    /// Opens one, at its start.
+    fn open_log(&self, name: &str) -> io::Result<Self::Source>
+        ensures { IfOk result (λ source. Self.Source.remaining source ≡ log_bytes self.now name.now) };
 }
 
 /// Files one after the other, each opened when the one before it has ended. A file that cannot be opened is a failed
@@ -22,19 +29,20 @@ pub struct Joined<'a, 'w, O: Opens> {
     name: &'w str,
     source: Option<O::Source>,
     later: &'a [&'w str],
-    // whether standard input is read, since no file is named
-    standard: bool,
 }
 
 impl<'a, 'w, O: Opens> Joined<'a, 'w, O> {
-    /// These files, from the start of the first; standard input where none is named.
-    pub fn new(opens: &'a O, names: &'a [&'w str]) -> Joined<'a, 'w, O> {
+    /// These files, from the start of the first.
+    pub fn new(opens: &'a O, names: &'a [&'w str]) -> Joined<'a, 'w, O>
+        ensures { join_known (source_left O.Source.remaining result.source)
+            (joined_bytes (O.log_bytes result.opens.now) (names_in result.later.now))
+            ≡ joined_bytes (O.log_bytes opens.now) (names_in names.now) }
+    {
         Joined {
             opens,
             name: "-",
             source: None,
             later: names,
-            standard: names.is_empty(),
         }
     }
 
@@ -44,16 +52,19 @@ impl<'a, 'w, O: Opens> Joined<'a, 'w, O> {
     }
 
     // Whether there is another file; it is opened.
-    fn open_next(&mut self) -> io::Result<bool> {
+    fn open_next(&mut self) -> io::Result<bool>
+        requires { IsAtEnd (source_left O.Source.remaining self.old.source) }
+        ensures keeps { Keeps (join_known (source_left O.Source.remaining self.old.source)
+            (joined_bytes (O.log_bytes self.old.opens.now) (names_in self.old.later.now)))
+            (join_known (source_left O.Source.remaining self.new.source)
+            (joined_bytes (O.log_bytes self.new.opens.now) (names_in self.new.later.now))) }
+        ensures opens { self.new.opens ≡ self.old.opens }
+        ensures end { result ≡ Ok false → IsAtEnd (join_known (source_left O.Source.remaining self.new.source)
+            (joined_bytes (O.log_bytes self.new.opens.now) (names_in self.new.later.now))) }
+        ensures fewer { result ≡ Ok true → length self.new.later.now < length self.old.later.now }
+    {
         match self.later {
-            [] => {
-                let opens = self.standard;
-                if opens {
-                    self.standard = false;
-                    self.source = Some(self.opens.open_log("-")?);
-                }
-                Ok(opens)
-            }
+            [] => Ok(false),
             [name, later @ ..] => {
                 self.name = *name;
                 self.source = Some(self.opens.open_log(*name)?);
@@ -65,7 +76,11 @@ impl<'a, 'w, O: Opens> Joined<'a, 'w, O> {
 
     // Reads of the file that is open; nothing where none is.
     fn read_open(&mut self, buf: &mut [u8]) -> io::Result<usize>
-        ensures { ReadsAtMost result buf.new }
+        ensures bound { ReadsAtMost result buf.new }
+        ensures bytes { ReadConsumes (source_left O.Source.remaining self.old.source)
+            (source_left O.Source.remaining self.new.source) result buf.new }
+        ensures later { self.new.later ≡ self.old.later }
+        ensures opens { self.new.opens ≡ self.old.opens }
     {
         match &mut self.source {
             None => Ok(0),
@@ -75,16 +90,18 @@ impl<'a, 'w, O: Opens> Joined<'a, 'w, O> {
 }
 
 impl<'a, 'w, O: Opens> Read for Joined<'a, 'w, O> {
+    ghost remaining = { λ j. join_known (source_left O.Source.remaining j.source)
+        (joined_bytes (O.log_bytes j.opens.now) (names_in j.later.now)) };
+
+    #[tactic(auto, using(crate::proofs::JoinedReads::joined_reads))]
     fn read(&mut self, buf: &mut [u8]) -> io::Result<usize> {
-        for _ in 0..u64::MAX {
-            let count = self.read_open(buf)?;
-            if count > 0 || buf.is_empty() {
-                return Ok(count);
-            }
+        let mut count = self.read_open(buf)?;
+        while count == 0 && !buf.is_empty() {
             if !self.open_next()? {
                 return Ok(0);
             }
+            count = self.read_open(buf)?;
         }
-        Ok(0)
+        Ok(count)
     }
 }

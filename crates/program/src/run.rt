@@ -1,6 +1,9 @@
 // A command line answered.
 ghost use Rattle.std.specs.Prelude.{◌≡◌};
-ghost use Rattle.program.specs.Said.{UnbegunSaid};
+ghost use Rattle.program.specs.Said.{UnbegunSaid, unread_text, unwritten_text, cause_of, failed_text, shown_name};
+ghost use Rattle.program.specs.Said.{IsSaid, ending_status, ending_text};
+ghost use Rattle.program.specs.Joined.{names_in, files_asked};
+ghost use Rattle.command.specs.Asked.{asked_seen};
 ghost use Rattle.program.specs.declared.status.Status.TheVariants as Status;
 
 use crate::about::About;
@@ -25,6 +28,9 @@ use textio::streams::Stream;
 use textio::writer::{ByteSink, Writer, put};
 
 const STANDARD_OUTPUT: &str = "standard output";
+
+// The files of a log where none is named.
+const STANDARD_INPUT: &[&str] = &["-"];
 
 // What is written in the place of an output: help, or the version.
 fn put_about<W: ByteSink>(about: &About, stop: &Stop<'_>, to: &mut W) -> io::Result<()> {
@@ -63,23 +69,32 @@ fn stopped<W: ByteSink, E: ByteSink>(
     }
 }
 
+#[tactic(auto, using(crate::proofs::SaidSo::said_so))]
 fn unread<E: ByteSink>(name: &str, error: &Error, errors: &mut E) -> Status
-    ensures { result ≡ Status.Failed }
+    ensures status { result ≡ Status.Failed }
+    ensures said { IsSaid E.fails_with (E.contents errors.old) (E.contents errors.new)
+        (unread_text name.now (cause_of error.now)) }
 {
     let _said = said::say_unread(errors, name, said::cause(error)).is_ok();
     Status::Failed
 }
 
+#[tactic(auto, using(crate::proofs::SaidSo::said_so))]
 fn unwritten<E: ByteSink>(name: &str, error: &Error, errors: &mut E) -> Status
-    ensures { result ≡ Status.Failed }
+    ensures status { result ≡ Status.Failed }
+    ensures said { IsSaid E.fails_with (E.contents errors.old) (E.contents errors.new)
+        (unwritten_text name.now (cause_of error.now)) }
 {
     let _said = said::say_unwritten(errors, name, said::cause(error)).is_ok();
     Status::Failed
 }
 
 // Why a log was not told to its end.
+#[tactic(auto, using(crate::proofs::SaidSo::said_so))]
 fn failed<E: ByteSink>(failure: &Failure, source: &str, sink: &str, errors: &mut E) -> Status
-    ensures { result ≡ Status.Failed }
+    ensures status { result ≡ Status.Failed }
+    ensures said { IsSaid E.fails_with (E.contents errors.old) (E.contents errors.new)
+        (failed_text failure.now source.now sink.now) }
 {
     match failure {
         Failure::Read(error) => unread(source, error, errors),
@@ -92,7 +107,9 @@ fn failed<E: ByteSink>(failure: &Failure, source: &str, sink: &str, errors: &mut
 }
 
 // The name of standard input in words.
-fn shown(name: &str) -> &str {
+fn shown(name: &str) -> &str
+    ensures { result.now ≡ shown_name name.now }
+{
     if name == "-" {
         return "standard input";
     }
@@ -100,7 +117,11 @@ fn shown(name: &str) -> &str {
 }
 
 // How a log ended all of which was read, and what is told of it written.
-fn ended<E: ByteSink>(ending: &Ending, errors: &mut E) -> Status {
+#[tactic(auto, using(crate::proofs::SaidSo::said_so))]
+fn ended<E: ByteSink>(ending: &Ending, errors: &mut E) -> Status
+    ensures status { result ≡ ending_status ending.now }
+    ensures said { IsSaid E.fails_with (E.contents errors.old) (E.contents errors.new) (ending_text ending.now) }
+{
     if let Some(line) = &ending.stray {
         let _said = said::say_stray(errors, line).is_ok();
         return Status::Strayed;
@@ -200,6 +221,16 @@ fn begin_by<O: Outside>(outside: &O, alloc: Global, form: Option<&str>) -> Resul
     }
 }
 
+// The files of the log; standard input where none is named.
+fn files_of<'c, 'w>(command: &'c Command<'w>) -> &'c [&'w str]
+    ensures { names_in result.now ≡ files_asked (asked_seen command.now) }
+{
+    if command.logs.is_empty() {
+        return STANDARD_INPUT;
+    }
+    command.logs.as_slice()
+}
+
 fn tell<P: Telling, O: Outside, W: ByteSink, E: ByteSink>(
     program: &P,
     alloc: Global,
@@ -219,7 +250,7 @@ fn tell<P: Telling, O: Outside, W: ByteSink, E: ByteSink>(
             return status;
         }
     };
-    let log = Joined::new(outside, command.logs.as_slice());
+    let log = Joined::new(outside, files_of(command));
     match command.output {
         None => tell_out(program, &begun, command, log, to, errors),
         Some(name) => tell_saved(program, &begun, command, log, outside, name, errors),

@@ -1,8 +1,8 @@
 // The words on standard error. Where a write fails, a front of them is there.
-ghost use Rattle.std.specs.Prelude.{◌++◌};
+ghost use Rattle.std.specs.Prelude.{◌≡◌, ◌++◌};
 ghost use Rattle.textio.specs.Fronts.{WritesText};
 ghost use Rattle.program.specs.Said.{unread_text, unwritten_text, refused_text, endless_text, stop_text};
-ghost use Rattle.program.specs.Said.{stray_warning};
+ghost use Rattle.program.specs.Said.{cause_of, stray_warning};
 ghost use Rattle.floorlog.specs.Unplayed.{unplayed_text};
 ghost use Rattle.recorded.specs.Following.{stray_seen};
 
@@ -16,7 +16,9 @@ use textio::forms::fill;
 use textio::writer::{ByteSink, put};
 
 /// Why a read or a write failed: a colon, a space and words, or nothing where the system says no more.
-pub fn cause(error: &Error) -> &'static str {
+pub fn cause(error: &Error) -> &'static str
+    ensures { result.now ≡ cause_of error.now }
+{
     match error.kind() {
         ErrorKind::NotFound => ": no such file",
         ErrorKind::PermissionDenied => ": no permission",

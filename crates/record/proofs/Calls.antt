@@ -92,12 +92,14 @@ module _ (d : Device) where
   unfolding fault_set
   fault_illegal m h = rw h
 
-  pub fault_accepted : (m : Bool) → is_legal d ≡ true → fault_set d m ≡ Ok (with_own d (with_fault d.own (flag_of m)))
+  pub fault_accepted : (m : Bool) → is_legal d ≡ true
+      → fault_set d m ≡ Ok (with_own d (with_fault d.own (flag_of m)))
   unfolding fault_set
   fault_accepted m h = rw h
 
   pub fault_set_by : (P : Given Device → Type 0) (m : Bool) → P (refusal_with 1 d)
-      → (is_legal d ≡ true → P (acceptance_of (with_own d (with_fault d.own (flag_of m))))) → P (given_by d (fault_set d m))
+      → (is_legal d ≡ true → P (acceptance_of (with_own d (with_fault d.own (flag_of m)))))
+      → P (given_by d (fault_set d m))
   unfolding fault_set
   fault_set_by P m refuse accept = grind arith
 

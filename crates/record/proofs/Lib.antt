@@ -8,6 +8,7 @@ pub mod MarksTold
 pub mod PowerSeen
 pub mod PhaseSeen
 pub mod FactsTold
+pub mod FlagsLegal
 pub mod Kept
 pub mod Rules
 pub mod Spelt

@@ -6,9 +6,10 @@
 --   IsSettings s              the settings are in range; a password is one of the writer's, and long enough
 --   IsOwn s o                 the own part is legal under the settings s
 --   IsConnection c            the connection is legal
+--   HasFlags d                each flag of the record is 0 or 1
 --   IsLegal d                 the record is
 -- Assumes nothing.
-use Rattle.std.specs.Prelude.{ℕ, ◌*◌, ◌≤◌, ◌<◌, ◌≡◌, IsTrue, Bool, List, All, length}
+use Rattle.std.specs.Prelude.{ℕ, ◌*◌, ◌≤◌, ◌<◌, ◌≡◌, IsTrue, Bool, List, All, length, slice_index_or}
 use Rattle.std.specs.List.{list_all}
 use Rattle.text.specs.Flags.{is_raised}
 use Rattle.text.specs.Rooms.{Uses}
@@ -18,6 +19,7 @@ use Rattle.record.specs.Limits.{text_room, listed_most, input_room, lamps_most, 
 use Rattle.record.specs.Limits.{stretch_most, shut, failed, volume_most}
 use Rattle.record.specs.Rules.{is_long_enough, is_inputs, is_lamps, is_marks, is_error_list}
 use Rattle.record.specs.Legal.{is_zero, fills_name_room, is_age, is_held}
+use Rattle.record.specs.Places.{connection_at}
 use Rattle.record.specs.Views.{IsPowerOf}
 use Rattle.record.specs.declared.types.InputName.{InputName}
 use Rattle.record.specs.declared.types.Settings.{Settings}
@@ -70,6 +72,15 @@ pub record IsConnection (c : Connection) : Type 0 where
   pub random : c.phase ≡ shut → c.random ≡ 0
   pub overlong : c.line.overlong ≤ 1
   pub held : IsTrue (is_held c.phase (is_raised c.line.overlong) c.line.held)
+
+-- each flag of the record is 0 or 1
+pub record HasFlags (d : Device) : Type 0 where
+  pub video_muted : d.own.video_muted ≤ 1
+  pub audio_muted : d.own.audio_muted ≤ 1
+  pub fault : d.own.fault ≤ 1
+  pub frozen : d.own.frozen ≤ 1
+  pub enabled : (k : ℕ) → slice_index_or d.own.enabled k 0 ≤ 1
+  pub overlong : (p : ℕ) → p < places_count → (connection_at d p).line.overlong ≤ 1
 
 pub record IsLegal (d : Device) : Type 0 where
   pub settings : IsSettings d.settings

@@ -62,7 +62,9 @@ fn marks_ok(marks: &[u8; LAMPS_MOST], count: usize) -> bool
     requires { count ≤ lamps_most }
     ensures { result ≡ is_marks count marks.now }
 {
-    rooms::used(marks, count).is_some() && flag::are_flags(marks) && (count == 0 || !none_marked(marks))
+    rooms::used(marks, count).is_some()
+        && flag::are_flags(marks)
+        && (count == 0 || !none_marked(marks))
 }
 
 /// Six error digits, each 0 to 2.

@@ -2,12 +2,12 @@
 // is that the theorems stand.
 ghost use Rattle.std.specs.Prelude.{◌≡◌, ◌≢◌, ◌+◌, ◌*◌, ◌<◌, ◌≤◌, Bool, IsTrue, true, false, List, ℕ, Option};
 ghost use Rattle.std.specs.Prelude.{Some, None, Result, OnErr, length, map, [], ◌∷◌, codes};
-ghost use Rattle.text.specs.Flags.{is_raised};
+ghost use Rattle.text.specs.Flags.{is_flag, is_raised, flag_of};
 ghost use Rattle.words.specs.Bytes.{◌at◌};
 ghost use Rattle.words.specs.Texts.{password_most};
 ghost use Rattle.record.specs.Limits.{age_end, errors_count, error_most, lamp_limit};
 ghost use Rattle.record.specs.Rules.{is_long_enough};
-ghost use Rattle.record.specs.Facts.{IsSettings, IsOwn, IsConnection};
+ghost use Rattle.record.specs.Facts.{IsSettings, IsOwn, IsConnection, HasFlags};
 ghost use Rattle.record.specs.declared.types.Settings.{Settings};
 ghost use Rattle.record.specs.declared.types.Own.{Own};
 ghost use Rattle.record.specs.declared.types.Connection.{Connection};
@@ -81,7 +81,17 @@ pub fn legal_parts_keep_the_rules()
     ensures errors { (s : Settings) (o : Own) (k : ℕ) → IsOwn s o → k < errors_count
         → o.errors at k ≤ error_most }
     ensures age { (c : Connection) → IsConnection c → c.age < age_end }
-    ensures overlong { (c : Connection) → IsConnection c → IsTrue (is_raised c.line.overlong) → IsTrue (is_collecting c.phase) }
+    ensures overlong { (c : Connection) → IsConnection c → IsTrue (is_raised c.line.overlong)
+        → IsTrue (is_collecting c.phase) }
+{}
+
+/// A record may have any byte for a flag. A legal one has 0 or 1 for each: then the flag is what it says, and what is
+/// written is what is read (RULES, The legal record).
+#[tactic(auto, using(crate::proofs::FlagsLegal::flags_told_of_legal))]
+pub fn flags_are_bytes()
+    ensures legal { (d : Device) → is_legal d ≡ true → HasFlags d }
+    ensures said { (b : Bool) → is_raised (flag_of b) ≡ b }
+    ensures back { (n : ℕ) → is_flag n ≡ true → flag_of (is_raised n) ≡ n }
 {}
 
 /// Set-ups worked out, by the number that each gives: inputs, their most, passwords and what Class 2 has more, on both

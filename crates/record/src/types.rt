@@ -1,6 +1,5 @@
-// The device record (RULES, The legal record): numbers, arrays and structs of these, so that it can
-// cross to C and any bytes of it are a record. A flag is a number too: 0 or 1 in a legal record, and raised where it is not
-// 0 (`text::flag`).
+// The device record (RULES, The legal record): numbers, arrays and structs of these, so that it can cross to C, and any
+// bytes are a record. A flag is a number too: 0 or 1 in a legal record, and raised where it is not 0 (`text::flag`).
 use words::texts::INPUT_NAME_MOST;
 
 /// The room of a text, in bytes.
@@ -96,15 +95,16 @@ pub struct Own {
     pub video_muted: u8,
     /// A flag: the sound is muted (AVMT; PJLink 1.04, 4.5).
     pub audio_muted: u8,
-    /// A flag, the host's fault mark: with it POWR, INPT, AVMT, FREZ, SVOL and MVOL answer ERR4 (RULES, Commands, Class 2).
+    /// A flag, the host's fault mark: with it POWR, INPT, AVMT, FREZ, SVOL and MVOL answer ERR4 (RULES, Commands,
+    /// Class 2).
     pub fault: u8,
     /// What ERST answers of fan, lamp, temperature, cover, filter and other, as numbers and not characters:
     /// 0 no error or not known, 1 a warning, 2 an error (PJLink 1.04, 4.7).
     pub errors: [u8; ERRORS],
     /// The seconds that each lamp has burnt, at most 359,999,999 (RULES, Lamps); zero past the lamps.
     pub lamps: [u32; LAMPS_MOST],
-    /// A flag for each lamp, its mark: without it the lamp stays dark. At least one is raised where there are lamps, none
-    /// past them.
+    /// A flag for each lamp, its mark: without it the lamp stays dark. At least one is raised where there are lamps,
+    /// none past them.
     pub enabled: [u8; LAMPS_MOST],
     /// A flag: the picture stands still, and FREZ alone changes it (RULES, Class 2).
     pub frozen: u8,

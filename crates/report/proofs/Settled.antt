@@ -4,13 +4,17 @@ use Rattle.std.proofs.Common.{◌≡◌, refl, [], ◌∷◌, codes}
 use Rattle.numbers.specs.Computing.{computing as numbers}
 use Rattle.textio.specs.Computing.{computing as textio}
 use Rattle.report.specs.Reports.{ended_text}
-use Rattle.report.specs.Settled.{AreTold, bar_rows, line_rows}
+use Rattle.report.specs.Settled.{AreTold, bar_rows, day_rows, line_rows}
 use Rattle.report.specs.declared.Report.TheVariants.{Lines, Page}
 use Rattle.report.specs.Computing.{computing}
 
 pub bars_told : AreTold (Page 2) bar_rows
 unfolding computing numbers textio
-bars_told = (refl, (refl, (refl, (refl, (refl, (refl, (refl, tt)))))))
+bars_told = (refl, (refl, (refl, (refl, (refl, (refl, (refl, (refl, tt))))))))
+
+pub days_told : AreTold (Page 1) day_rows
+unfolding computing numbers textio
+days_told = (refl, tt)
 
 pub lines_told : AreTold Lines line_rows
 unfolding computing numbers textio
@@ -21,4 +25,4 @@ unfolding computing numbers textio
 totals_told = refl
 
 pub ruleset told_stretches =
-    (bars_told, lines_told, totals_told)
+    (bars_told, days_told, lines_told, totals_told)

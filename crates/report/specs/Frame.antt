@@ -1,7 +1,9 @@
 -- What stands around the days of a page (RULES, Floor log): "one HTML document with no script in it".
---   head         the document's head, title and a line of help
---   hours        "the hours 0 to 24 along the top"
---   table n starts burnt lasts        "each lamp's seconds at the start, burnt, and now", of n lamps
+--   head         the document's head, title and what the page is
+--   hours        "the hours 0 to 24 along the top", counted from where a day begins: the head of the table of the days
+--   timed n      n seconds as hours, minutes and seconds
+--   table n starts burnt lasts    "each lamp's hours and minutes, and its seconds, at the start, burnt, and now", of n
+--                                 lamps
 --   page_begun       what stands above the rows
 --   page_ended rows seconds n ..    the rows up to the end of a log of so many seconds, and what stands below them
 --   until_text seconds lines  until when a log of the second kind goes (RULES, History of a board: "that a log's end is
@@ -9,55 +11,109 @@
 --   stray_paragraph s    what is said of the line that does not belong, if there is one
 --   page_ended_until .. lines stray    the page's end for such a log
 -- Assumes nothing.
-use Rattle.std.specs.Prelude.{ℕ, List, [], ◌∷◌, ◌++◌, codes, Option, Some, None}
+use Rattle.std.specs.Prelude.{ℕ, ◌+◌, ◌/◌, ◌%◌, List, [], ◌∷◌, ◌++◌, codes, slice_index_or, Option, Some, None}
+use Rattle.std.specs.List.{flat_map, range_with_len}
 use Rattle.textio.specs.Forms.{form_filled}
-use Rattle.report.specs.LampLines.{totals_filled}
-use Rattle.report.specs.Days.{days_of, rows_opened, row_ended}
+use Rattle.report.specs.Days.{days_of, days_ended}
 
 unfoldable pub head : List ℕ
 head = codes "<!DOCTYPE html>\n"
     ++ (codes "<html lang=\"en\"><head><meta charset=\"utf-8\"><title>Which lamp burnt when</title>\n"
+    ++ (codes "<meta name=\"viewport\" content=\"width=device-width,initial-scale=1\">\n"
     ++ (codes "<style>\n"
-    ++ (codes "body{font:14px sans-serif;margin:1.5em;color:#000;background:#fff}\n"
-    ++ (codes "h1{font-size:1.3em}\n"
-    ++ (codes "svg{display:block;width:100%;max-width:1100px;break-inside:avoid}\n"
-    ++ (codes "text{font:11px sans-serif}\n"
-    ++ (codes ".b{fill:#f4f4f4;stroke:#bbb;stroke-width:.5}\n"
-    ++ (codes ".h{stroke:#bbb;stroke-width:.5}\n"
-    ++ (codes ".l{fill:#0072b2;stroke:#000;stroke-width:.6}\n"
-    ++ (codes "table{border-collapse:collapse;margin-top:1em}\n"
-    ++ (codes "td,th{border:1px solid #888;padding:.25em .7em;text-align:right}\n"
-    ++ (codes "@media print{body{margin:0}.l,.b{-webkit-print-color-adjust:exact;print-color-adjust:exact}}\n"
-    ++ (codes "</style></head><body>\n"
+    ++ (codes "body{font:16px/1.4 sans-serif;max-width:2400px;margin:1em auto;padding:0 1em}\n"
+    ++ (codes "body{color:#111111;background:#ffffff}\n"
+    ++ (codes "h1{font-size:1.4em}\n"
+    ++ (codes "table{border-collapse:collapse;margin:1em 0}\n"
+    ++ (codes "caption{text-align:left;font-weight:bold;padding:.3em 0}\n"
+    ++ (codes "td,th{border:1px solid #767676;padding:.25em .6em;text-align:right}\n"
+    ++ (codes ".d{width:100%}\n"
+    ++ (codes ".d td,.d th{border-width:1px 0;padding:.2em .4em;text-align:left;vertical-align:top}\n"
+    ++ (codes ".d td:last-child{width:100%}\n"
+    ++ (codes ".n span{display:block;font-size:13px;line-height:18px;white-space:nowrap}\n"
+    ++ (codes ".o{position:relative;height:1.4em;font-size:13px;font-weight:normal}\n"
+    ++ (codes ".o span{position:absolute;transform:translateX(-50%);white-space:nowrap}\n"
+    ++ (codes ".o .f{transform:none}\n"
+    ++ (codes ".o .t{transform:translateX(-100%)}\n"
+    ++ (codes "svg{display:block;width:100%}\n"
+    ++ (codes "svg *{vector-effect:non-scaling-stroke}\n"
+    ++ (codes ".b{fill:#eeeeee;stroke:#767676}\n"
+    ++ (codes ".h{stroke:#767676}\n"
+    ++ (codes ".l{fill:#0b5394;stroke:#0b5394}\n"
+    ++ (codes "@media(max-width:50em){\n"
+    ++ (codes "body{padding:0 .5em}\n"
+    ++ (codes "td,th{padding:.2em .3em}\n"
+    ++ (codes ".o .s{display:none}}\n"
+    ++ (codes "@media screen{\n"
+    ++ (codes ":root{color-scheme:light dark}}\n"
+    ++ (codes "@media screen and (prefers-color-scheme:dark){\n"
+    ++ (codes "body{color:#eeeeee;background:#111111}\n"
+    ++ (codes "td,th{border-color:#8c8c8c}\n"
+    ++ (codes ".b{fill:#2a2a2a;stroke:#8c8c8c}\n"
+    ++ (codes ".h{stroke:#8c8c8c}\n"
+    ++ (codes ".l{fill:#6fb7f2;stroke:#6fb7f2}}\n"
+    ++ (codes "@media(forced-colors:active){\n"
+    ++ (codes ".b{fill:Canvas;stroke:CanvasText}\n"
+    ++ (codes ".h{stroke:CanvasText}\n"
+    ++ (codes ".l{fill:CanvasText;stroke:CanvasText}}\n"
+    ++ (codes "@media print{\n"
+    ++ (codes "body{font-size:10pt;margin:0;padding:0}\n"
+    ++ (codes "thead{display:table-header-group}\n"
+    ++ (codes "tr,svg{break-inside:avoid}\n"
+    ++ (codes ".b,.l{-webkit-print-color-adjust:exact;print-color-adjust:exact}}\n"
+    ++ (codes "</style></head><body><main>\n"
     ++ (codes "<h1>Which lamp burnt when</h1>\n"
-    ++ (codes "<p>A row is a day since the log began, a band in it a lamp; a dark bar is a stretch that it burnt. "
-    ++ codes "Rest on a bar to read its seconds.</p>\n")))))))))))))))
+    ++ (codes "<p>This page knows no clock: days and hours count from the log's first second. A row is a "
+    ++ (codes "day of 24 hours; in it each lamp has a band, and a bar on the band is a stretch that the "
+    ++ codes "lamp burnt.</p>\n")))))))))))))))))))))))))))))))))))))))))))))))
 
 unfoldable pub hours : List ℕ
-hours = codes "<svg viewBox=\"0 0 1100 16\" role=\"img\" aria-label=\"hours of the day\"><g text-anchor=\"middle\">"
-    ++ (codes "<text y=\"12\" x=\"90\">0</text><text y=\"12\" x=\"170\">2</text><text y=\"12\" x=\"250\">4</text>"
-    ++ (codes "<text y=\"12\" x=\"330\">6</text><text y=\"12\" x=\"410\">8</text><text y=\"12\" x=\"490\">10</text>"
-    ++ (codes "<text y=\"12\" x=\"570\">12</text><text y=\"12\" x=\"650\">14</text><text y=\"12\" x=\"730\">16</text>"
-    ++ (codes "<text y=\"12\" x=\"810\">18</text><text y=\"12\" x=\"890\">20</text><text y=\"12\" x=\"970\">22</text>"
-    ++ codes "<text y=\"12\" x=\"1050\">24</text></g></svg>\n"))))
+hours = codes "<table class=\"d\"><caption>The days</caption><thead><tr><th scope=\"col\">day</th><th "
+    ++ (codes "scope=\"col\">lamp</th><th scope=\"col\"><div class=\"o\">\n"
+    ++ (codes "<span class=\"f\" style=\"left:0%\">+0 h</span><span class=\"s\" style=\"left:12.5%\">+3 "
+    ++ (codes "h</span><span style=\"left:25%\">+6 h</span>\n"
+    ++ (codes "<span class=\"s\" style=\"left:37.5%\">+9 h</span><span style=\"left:50%\">+12 h</span><span "
+    ++ (codes "class=\"s\" style=\"left:62.5%\">+15 h</span>\n"
+    ++ (codes "<span style=\"left:75%\">+18 h</span><span class=\"s\" style=\"left:87.5%\">+21 h</span><span "
+    ++ (codes "class=\"t\" style=\"left:100%\">+24 h</span>\n"
+    ++ codes "</div></th></tr></thead><tbody>\n")))))))
+
+abbrev pub days_closed : List ℕ
+days_closed = codes "</tbody></table>\n"
 
 abbrev pub table_begun : List ℕ
-table_begun = codes "<table><caption>Seconds of each lamp</caption>"
-    ++ codes "<tr><th>lamp</th><th>at the start</th><th>burnt</th><th>now</th></tr>\n"
+table_begun = codes "<table><caption>Each lamp's burning time</caption><thead><tr><th scope=\"col\">lamp</th>"
+    ++ (codes "<th scope=\"col\">at the start</th><th scope=\"col\">burnt</th><th scope=\"col\">now</th></tr>"
+    ++ codes "</thead><tbody>\n")
+
+-- hours and minutes, rounded down, and all its seconds
+abbrev pub timed : ℕ → List ℕ
+timed n = (n / 3600) ∷ (n / 60 % 60) ∷ n ∷ []
 
 -- the row of a lamp
-abbrev pub table_row : List ℕ
-table_row = codes "<tr><th>#</th><td>#</td><td>#</td><td>#</td></tr>\n"
+unfoldable pub table_row : List ℕ → List ℕ → List ℕ → ℕ → List ℕ
+table_row starts burnt lasts k = form_filled
+    (codes "<tr><th scope=\"row\">lamp #</th><td># h # min (# s)</td><td># h # min (# s)</td>"
+    ++ codes "<td># h # min (# s)</td></tr>\n")
+    ((k + 1) ∷ (timed (slice_index_or starts k 0) ++ (timed (slice_index_or burnt k 0)
+    ++ timed (slice_index_or lasts k 0))))
+
+unfoldable pub table_rows : ℕ → List ℕ → List ℕ → List ℕ → List ℕ
+table_rows lamps starts burnt lasts = flat_map (table_row starts burnt lasts) (range_with_len 0 lamps)
 
 unfoldable pub table : ℕ → List ℕ → List ℕ → List ℕ → List ℕ
-table lamps starts burnt lasts = table_begun ++ (totals_filled table_row lamps starts burnt lasts ++ codes "</table>\n")
+table lamps starts burnt lasts =
+    table_begun ++ (table_rows lamps starts burnt lasts ++ codes "</tbody></table>\n")
+
+abbrev pub page_closed : List ℕ
+page_closed = codes "</main></body></html>\n"
 
 unfoldable pub page_begun : List ℕ
 page_begun = head ++ hours
 
 unfoldable pub page_ended : ℕ → ℕ → ℕ → List ℕ → List ℕ → List ℕ → List ℕ
-page_ended rows seconds lamps starts burnt lasts = rows_opened lamps rows (days_of seconds)
-    ++ (row_ended ++ (table lamps starts burnt lasts ++ codes "</body></html>\n"))
+page_ended rows seconds lamps starts burnt lasts = days_ended rows (days_of seconds)
+    ++ (days_closed ++ (table lamps starts burnt lasts ++ page_closed))
 
 abbrev pub until_text : ℕ → ℕ → List ℕ
 until_text seconds lines = form_filled
@@ -69,6 +125,6 @@ stray_paragraph None = []
 stray_paragraph (Some s) = codes "<p>" ++ (s ++ codes "</p>\n")
 
 unfoldable pub page_ended_until : ℕ → ℕ → ℕ → List ℕ → List ℕ → List ℕ → ℕ → Option (List ℕ) → List ℕ
-page_ended_until rows seconds lamps starts burnt lasts lines stray = rows_opened lamps rows (days_of seconds)
-    ++ (row_ended ++ (table lamps starts burnt lasts
-    ++ (until_text seconds lines ++ (stray_paragraph stray ++ codes "</body></html>\n"))))
+page_ended_until rows seconds lamps starts burnt lasts lines stray = days_ended rows (days_of seconds)
+    ++ (days_closed ++ (table lamps starts burnt lasts
+    ++ (until_text seconds lines ++ (stray_paragraph stray ++ page_closed))))

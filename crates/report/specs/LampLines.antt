@@ -2,10 +2,8 @@
 --   with_number word n       a word, and a number after it
 --   stretch_line k f t       the lamp with the number k burnt from the second f to the second t
 --   stretch_lines k ms f t   the line of a stretch for each lamp whose mark of ms is set, the first having the number k
---   total_filled form as bs cs k    a form with the number of the lamp at place k, and its seconds at the start, burnt
---                                   and now: the k-th of as, bs and cs
---   totals_filled form n ..  that for each of n lamps
---   total_lines n ..         the line of each of n lamps
+--   total_line as bs cs k    of the lamp at place k its seconds at the start, burnt and now: the k-th of as, bs and cs
+--   total_lines n ..         that of each of n lamps
 -- Assumes nothing.
 use Rattle.std.specs.Prelude.{ℕ, ◌+◌, Bool, List, [], ◌∷◌, ◌++◌, if◌then◌else◌, slice_index_or, codes}
 use Rattle.std.specs.List.{flat_map, range_with_len}
@@ -23,13 +21,9 @@ unfoldable pub stretch_lines : ℕ → List Bool → ℕ → ℕ → List ℕ
 stretch_lines lamp [] f t = []
 stretch_lines lamp (m ∷ ms) f t = (if m then stretch_line lamp f t else []) ++ stretch_lines (lamp + 1) ms f t
 
-unfoldable pub total_filled : List ℕ → List ℕ → List ℕ → List ℕ → ℕ → List ℕ
-total_filled form starts burnt lasts k = form_filled form
+unfoldable pub total_line : List ℕ → List ℕ → List ℕ → ℕ → List ℕ
+total_line starts burnt lasts k = form_filled (codes "lamp # start # burnt # now #\n")
     ((k + 1) ∷ slice_index_or starts k 0 ∷ slice_index_or burnt k 0 ∷ slice_index_or lasts k 0 ∷ [])
 
-unfoldable pub totals_filled : List ℕ → ℕ → List ℕ → List ℕ → List ℕ → List ℕ
-totals_filled form lamps starts burnt lasts = flat_map (total_filled form starts burnt lasts) (range_with_len 0 lamps)
-
-abbrev pub total_lines : ℕ → List ℕ → List ℕ → List ℕ → List ℕ
-total_lines lamps starts burnt lasts =
-    totals_filled (codes "lamp # start # burnt # now #\n") lamps starts burnt lasts
+unfoldable pub total_lines : ℕ → List ℕ → List ℕ → List ℕ → List ℕ
+total_lines lamps starts burnt lasts = flat_map (total_line starts burnt lasts) (range_with_len 0 lamps)

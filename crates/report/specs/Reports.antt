@@ -2,7 +2,7 @@
 --   report_new drawn                  before a log
 --   begun_text r                      what stands before the first stretch
 --   told_text r lit from to           what is told of a stretch of the lamps whose marks of `lit` are set
---   report_told r from to             how the log is told on: a page has the rows of that stretch
+--   report_told r lit from to         how the log is told on: a page has the rows of that stretch
 --   ended_text r seconds n ..         the end of a log of so many seconds, with the totals of n lamps
 --   ended_until r seconds n .. lines stray    the end of one of the second kind, of so many lines that belong to it:
 --                                             and
@@ -30,9 +30,9 @@ abbrev pub told_text : Report → List Bool → ℕ → ℕ → List ℕ
 told_text Lines lit from to = stretch_lines 1 lit from to
 told_text (Page rows) lit from to = stretch_drawn rows lit from to
 
-abbrev pub report_told : Report → ℕ → ℕ → Report
-report_told Lines from to = Lines
-report_told (Page rows) from to = Page (rows_drawn rows from to)
+abbrev pub report_told : Report → List Bool → ℕ → ℕ → Report
+report_told Lines lit from to = Lines
+report_told (Page rows) lit from to = Page (rows_drawn rows lit from to)
 
 abbrev pub ended_text : Report → ℕ → ℕ → List ℕ → List ℕ → List ℕ → List ℕ
 ended_text Lines seconds lamps starts burnt lasts = total_lines lamps starts burnt lasts

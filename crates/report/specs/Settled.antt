@@ -1,9 +1,9 @@
--- Stretches and what is told of them (RULES, Floor log): "A day begins at x = 90 and is 960 wide, 90 seconds a unit; x
--- and width of a bar are in hundredths, rounded down", so that an hour is 40 wide; "The bar's title tells the whole
--- stretch".
+-- Stretches and what is told of them (RULES, Floor log): "A picture is 86,400 wide: a unit is a second"; "The bar's
+-- title tells the whole stretch".
 --   lit from f until t tells s   of a stretch of the lamps whose marks of `lit` are set, from the second f up to t
 --   bar_text x width title       a bar of the first lamp
 --   bar_rows                     on a page that has the rows of the first two days
+--   day_rows                     on a page that has the row of the first day
 --   line_rows                    as lines
 --   AreTold r rows               each row holds of a report
 -- Assumes nothing.
@@ -27,22 +27,36 @@ one_lamp = true ∷ []
 
 abbrev pub bar_text : String → String → String → List ℕ
 bar_text x width title =
-    codes "<rect class=\"l\" height=\"16\" y=\"3\" x=\"" ++ codes x ++ codes "\" width=\"" ++ codes width
+    codes "<rect class=\"l\" height=\"16\" y=\"1\" x=\"" ++ codes x ++ codes "\" width=\"" ++ codes width
     ++ codes "\"><title>" ++ codes title ++ codes "</title></rect>"
 
 -- an hour; a second; the last second of a day; a whole day; the hour after noon of the second day; an hour on each side
--- of midnight, cut there; no second
+-- of midnight, cut there; no second; no lamp
 abbrev pub bar_rows : List ToldStretch
 bar_rows =
-    (one_lamp from 0 until 3600 tells bar_text "90.00" "40.00" "lamp 1 from 0 to 3600: 3600 seconds")
-    ∷ (one_lamp from 20 until 21 tells bar_text "90.22" "0.01" "lamp 1 from 20 to 21: 1 seconds")
-    ∷ (one_lamp from 86399 until 86400 tells bar_text "1049.98" "0.01" "lamp 1 from 86399 to 86400: 1 seconds")
-    ∷ (one_lamp from 0 until 86400 tells bar_text "90.00" "960.00" "lamp 1 from 0 to 86400: 86400 seconds")
-    ∷ (one_lamp from 129600 until 133200 tells bar_text "570.00" "40.00" "lamp 1 from 129600 to 133200: 3600 seconds")
+    (one_lamp from 0 until 3600 tells bar_text "0" "3600" "lamp 1 from 0 to 3600: 3600 seconds")
+    ∷ (one_lamp from 20 until 21 tells bar_text "20" "1" "lamp 1 from 20 to 21: 1 seconds")
+    ∷ (one_lamp from 86399 until 86400 tells bar_text "86399" "1" "lamp 1 from 86399 to 86400: 1 seconds")
+    ∷ (one_lamp from 0 until 86400 tells bar_text "0" "86400" "lamp 1 from 0 to 86400: 86400 seconds")
+    ∷ (one_lamp from 129600 until 133200 tells bar_text "43200" "3600" "lamp 1 from 129600 to 133200: 3600 seconds")
     ∷ (one_lamp from 82800 until 90000 tells
-    bar_text "1010.00" "40.00" "lamp 1 from 82800 to 90000: 7200 seconds"
-    ++ bar_text "90.00" "40.00" "lamp 1 from 82800 to 90000: 7200 seconds")
+    bar_text "82800" "3600" "lamp 1 from 82800 to 90000: 7200 seconds"
+    ++ bar_text "0" "3600" "lamp 1 from 82800 to 90000: 7200 seconds")
     ∷ (one_lamp from 20 until 20 tells [])
+    ∷ ((false ∷ []) from 0 until 300000 tells [])
+    ∷ []
+
+-- the fourth day, and before it a line for the second and the third
+abbrev pub day_rows : List ToldStretch
+day_rows =
+    (one_lamp from 259200 until 259260 tells
+    codes "</svg></td></tr>\n<tr><th scope=\"row\">days 2 to 3</th><td colspan=\"2\">no lamp burnt</td></tr>\n"
+    ++ codes "<tr><th scope=\"row\">day 4</th><td class=\"n\"><span>lamp 1</span></td><td>"
+    ++ codes "<svg viewBox=\"0 0 86400 18\" height=\"18\" preserveAspectRatio=\"none\" role=\"img\" "
+    ++ codes "aria-label=\"when each lamp burnt on day 4\">"
+    ++ codes "<rect class=\"b\" x=\"0\" width=\"86400\" height=\"16\" y=\"1\"/>"
+    ++ codes "<path class=\"h\" d=\"M21600 1v16m21600 -16v16m21600 -16v16\"/>"
+    ++ bar_text "0" "60" "lamp 1 from 259200 to 259260: 60 seconds")
     ∷ []
 
 abbrev pub line_rows : List ToldStretch

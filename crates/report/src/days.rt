@@ -1,22 +1,17 @@
-// The rows of the days, and the bars in them. A row is 960 units for a day's hours, after room for the names; a second
-// is placed to a hundredth of a unit.
-ghost use Rattle.std.specs.Prelude.{◌≡◌, ◌-◌, ◌*◌, ◌<◌, ◌≤◌, max, nat_lt, [], ◌++◌, length, IfOk, if◌then◌else◌};
+// The rows of the days, and the bars in them. A picture is 86,400 units wide, a unit a second, so that a bar lies where
+// its seconds do; it is stretched to the width that there is.
+ghost use Rattle.std.specs.Prelude.{◌≡◌, ◌-◌, ◌*◌, ◌<◌, ◌≤◌, max, ◌++◌, length, IfOk};
 ghost use Rattle.textio.specs.Fronts.{WritesText};
-ghost use Rattle.report.specs.Days.{band_top, band, bands, row_ended, day_row, rows_opened};
-ghost use Rattle.report.specs.Days.{hundredths, bar_if, bars, bars_in};
+ghost use Rattle.report.specs.Days.{band_top, band, bands, lamp_name, lamp_names, day_row, idle_days, rows_opened};
+ghost use Rattle.report.specs.Days.{row_ended_if_any, days_ended, bar_if, bars, bars_in};
 
 use crate::page::{DAY, Stretch};
 use std::io;
 use textio::forms::fill;
 use textio::writer::{ByteSink, put};
 
-// A lamp's band with the gap below it.
+// A lamp's band with the gaps above it and below.
 const BAND: u64 = 18;
-
-// Where the hours begin, in hundredths of a unit.
-const LEFT: u64 = 9000;
-
-const SECONDS_A_UNIT: u64 = 90;
 
 // A lamp has its place, from 0; it is numbered from 1.
 fn top(k: u64) -> u64
@@ -24,7 +19,7 @@ fn top(k: u64) -> u64
     ensures top { result ≡ band_top k }
     ensures bound { result < 150 }
 {
-    k * BAND + 3
+    k * BAND + 1
 }
 
 fn put_band<W: ByteSink>(out: &mut W, k: u64) -> io::Result<()>
@@ -34,10 +29,9 @@ fn put_band<W: ByteSink>(out: &mut W, k: u64) -> io::Result<()>
     let y = top(k);
     fill(
         out,
-        "<text x=\"46\" y=\"#\">lamp #</text>\
-        <rect class=\"b\" x=\"90\" width=\"960\" height=\"16\" y=\"#\"/>\
-        <path class=\"h\" d=\"M330 #v16m240 -16v16m240 -16v16\"/>",
-        &[y + 12, k + 1, y, y],
+        "<rect class=\"b\" x=\"0\" width=\"86400\" height=\"16\" y=\"#\"/>\
+        <path class=\"h\" d=\"M21600 #v16m21600 -16v16m21600 -16v16\"/>",
+        &[y, y],
     )
 }
 
@@ -51,52 +45,97 @@ fn put_bands<W: ByteSink>(out: &mut W, lamps: u64) -> io::Result<()>
     Ok(())
 }
 
-// The row before it ends where this one begins.
-fn end_row<W: ByteSink>(out: &mut W, day: u64) -> io::Result<()>
-    ensures { WritesText W.fails_with (W.contents out.old) (W.contents out.new) result
-        (if nat_lt 1 day then row_ended else []) }
+fn put_name<W: ByteSink>(out: &mut W, k: u64) -> io::Result<()>
+    requires { k < 8 }
+    ensures { WritesText W.fails_with (W.contents out.old) (W.contents out.new) result (lamp_name k) }
 {
-    if day <= 1 {
-        return Ok(());
-    }
-    put(out, b"</svg>\n")
+    fill(out, "<span>lamp #</span>", &[k + 1])
 }
 
-// A row for the day, counted from 1: its name, and for each lamp a band with its name. Where there is none there is
-// room for one, so that the name is seen.
+fn put_names<W: ByteSink>(out: &mut W, lamps: u64) -> io::Result<()>
+    requires { lamps ≤ 8 }
+    ensures { WritesText W.fails_with (W.contents out.old) (W.contents out.new) result (lamp_names lamps) }
+{
+    for k in 0..lamps {
+        put_name(out, k)?;
+    }
+    Ok(())
+}
+
+// The picture that is open ends, if there is one.
+fn end_row<W: ByteSink>(out: &mut W, rows: u64) -> io::Result<()>
+    ensures { WritesText W.fails_with (W.contents out.old) (W.contents out.new) result (row_ended_if_any rows) }
+{
+    if rows == 0 {
+        return Ok(());
+    }
+    put(out, b"</svg></td></tr>\n")
+}
+
+// Of days in which no lamp burnt, those after the day `rows` up to the day `day`, one line.
+fn put_idle<W: ByteSink>(out: &mut W, rows: u64, day: u64) -> io::Result<()>
+    ensures { WritesText W.fails_with (W.contents out.old) (W.contents out.new) result (idle_days rows day) }
+{
+    if day <= rows {
+        return Ok(());
+    }
+    if rows + 1 < day {
+        return fill(
+            out,
+            "<tr><th scope=\"row\">days # to #</th><td colspan=\"2\">no lamp burnt</td></tr>\n",
+            &[rows + 1, day],
+        );
+    }
+    fill(
+        out,
+        "<tr><th scope=\"row\">day #</th><td colspan=\"2\">no lamp burnt</td></tr>\n",
+        &[day],
+    )
+}
+
+// The row of a day, counted from 1: its name, those of the lamps, and a picture with a band for each.
 fn put_row<W: ByteSink>(out: &mut W, lamps: u64, day: u64) -> io::Result<()>
     requires { lamps ≤ 8 }
     ensures { WritesText W.fails_with (W.contents out.old) (W.contents out.new) result (day_row lamps day) }
 {
-    end_row(out, day)?;
     fill(
         out,
-        "<svg viewBox=\"0 0 1100 #\" role=\"img\">\
-        <text x=\"0\" y=\"15\" font-weight=\"bold\">day #</text>",
-        &[lamps.max(1) * BAND + 8, day],
+        "<tr><th scope=\"row\">day #</th><td class=\"n\">",
+        &[day],
+    )?;
+    put_names(out, lamps)?;
+    let height = lamps * BAND;
+    fill(
+        out,
+        "</td><td><svg viewBox=\"0 0 86400 #\" height=\"#\" preserveAspectRatio=\"none\" role=\"img\" \
+        aria-label=\"when each lamp burnt on day #\">",
+        &[height, height, day],
     )?;
     put_bands(out, lamps)
 }
 
-/// Rows up to that of the day `last`, where there are so many; how many there are then.
-pub fn open_to<W: ByteSink>(out: &mut W, lamps: u64, rows: u64, last: u64) -> io::Result<u64>
+/// The rows after that of the day `rows` up to that of the day `day`; the last day that has a row then.
+pub fn open_to<W: ByteSink>(out: &mut W, lamps: u64, rows: u64, day: u64) -> io::Result<u64>
     requires { lamps ≤ 8 }
-    ensures rows { IfOk result (λ n. n ≡ max rows last) }
+    ensures rows { IfOk result (λ n. n ≡ max rows day) }
     ensures text { WritesText W.fails_with (W.contents out.old) (W.contents out.new) result
-        (rows_opened lamps rows last) }
+        (rows_opened lamps rows day) }
 {
-    for before in rows..last {
-        put_row(out, lamps, before + 1)?;
+    if day <= rows {
+        return Ok(rows);
     }
-    Ok(rows.max(last))
+    end_row(out, rows)?;
+    put_idle(out, rows, day - 1)?;
+    put_row(out, lamps, day)?;
+    Ok(day)
 }
 
-fn hundredths_of(seconds: u64) -> u64
-    requires { seconds ≤ 86400 }
-    ensures hundredths { result ≡ hundredths seconds }
-    ensures bound { result ≤ 96000 }
+/// The rows after that of the day `rows` up to that of the day `day`, where no lamp burnt in these.
+pub fn end<W: ByteSink>(out: &mut W, rows: u64, day: u64) -> io::Result<()>
+    ensures { WritesText W.fails_with (W.contents out.old) (W.contents out.new) result (days_ended rows day) }
 {
-    seconds * 100 / SECONDS_A_UNIT
+    end_row(out, rows)?;
+    put_idle(out, rows, day)
 }
 
 // What of a stretch lies in a day: from the second x of the day on, so many seconds.
@@ -106,8 +145,6 @@ struct Part {
     x: u64,
     seconds: u64,
     ghost ordered: { whole.from ≤ whole.to },
-    ghost begins_in_day: { x ≤ 86400 },
-    ghost lasts_a_day: { seconds ≤ 86400 },
 }
 
 // The bar of a lamp, if its mark is set.
@@ -119,26 +156,12 @@ fn put_bar<W: ByteSink>(out: &mut W, k: u64, is_lit: bool, p: Part) -> io::Resul
     if !is_lit {
         return Ok(());
     }
-    let place = LEFT + hundredths_of(p.x);
-    let width = hundredths_of(p.seconds);
     let Stretch { from, to } = p.whole;
     fill(
         out,
-        "<rect class=\"l\" height=\"16\" y=\"#\" x=\"#.##\" width=\"#.##\">\
+        "<rect class=\"l\" height=\"16\" y=\"#\" x=\"#\" width=\"#\">\
         <title>lamp # from # to #: # seconds</title></rect>",
-        &[
-            top(k),
-            place / 100,
-            place / 10 % 10,
-            place % 10,
-            width / 100,
-            width / 10 % 10,
-            width % 10,
-            k + 1,
-            from,
-            to,
-            to - from,
-        ],
+        &[top(k), p.x, p.seconds, k + 1, from, to, to - from],
     )
 }
 
@@ -178,7 +201,7 @@ fn put_bars_in<W: ByteSink>(out: &mut W, day: u64, lit: &[bool], s: Stretch) -> 
     )
 }
 
-/// Rows up to that of the day, and in it what of the stretch lies there; how many rows there are then.
+/// The rows up to that of the day, and in it what of the stretch lies there; the last day that has a row then.
 pub fn draw_in<W: ByteSink>(
     out: &mut W,
     rows: u64,

@@ -1,15 +1,15 @@
 // What stands around the rows of the days: the head and the hours above them, the table of totals below.
-ghost use Rattle.std.specs.Prelude.{◌≤◌};
+ghost use Rattle.std.specs.Prelude.{◌≤◌, ◌<◌};
 ghost use Rattle.textio.specs.Fronts.{WritesText};
-ghost use Rattle.report.specs.Frame.{head, hours, table, until_text, stray_paragraph};
+ghost use Rattle.report.specs.Frame.{head, hours, table_row, table_rows, table, until_text, stray_paragraph};
 ghost use Rattle.report.specs.Reports.{stray_said};
 
-use crate::lamps::{Totals, fill_totals};
+use crate::lamps::Totals;
 use std::io;
 use textio::forms::fill;
 use textio::writer::{ByteSink, put};
 
-/// The document's head, its title and a line of help.
+/// The document's head, its title and what the page is.
 pub fn put_head<W: ByteSink>(out: &mut W) -> io::Result<()>
     ensures { WritesText W.fails_with (W.contents out.old) (W.contents out.new) result head }
 {
@@ -17,40 +17,112 @@ pub fn put_head<W: ByteSink>(out: &mut W) -> io::Result<()>
         out,
         b"<!DOCTYPE html>\n\
         <html lang=\"en\"><head><meta charset=\"utf-8\"><title>Which lamp burnt when</title>\n\
+        <meta name=\"viewport\" content=\"width=device-width,initial-scale=1\">\n\
         <style>\n\
-        body{font:14px sans-serif;margin:1.5em;color:#000;background:#fff}\n\
-        h1{font-size:1.3em}\n\
-        svg{display:block;width:100%;max-width:1100px;break-inside:avoid}\n\
-        text{font:11px sans-serif}\n\
-        .b{fill:#f4f4f4;stroke:#bbb;stroke-width:.5}\n\
-        .h{stroke:#bbb;stroke-width:.5}\n\
-        .l{fill:#0072b2;stroke:#000;stroke-width:.6}\n\
-        table{border-collapse:collapse;margin-top:1em}\n\
-        td,th{border:1px solid #888;padding:.25em .7em;text-align:right}\n\
-        @media print{body{margin:0}.l,.b{-webkit-print-color-adjust:exact;print-color-adjust:exact}}\n\
-        </style></head><body>\n\
+        body{font:16px/1.4 sans-serif;max-width:2400px;margin:1em auto;padding:0 1em}\n\
+        body{color:#111111;background:#ffffff}\n\
+        h1{font-size:1.4em}\n\
+        table{border-collapse:collapse;margin:1em 0}\n\
+        caption{text-align:left;font-weight:bold;padding:.3em 0}\n\
+        td,th{border:1px solid #767676;padding:.25em .6em;text-align:right}\n\
+        .d{width:100%}\n\
+        .d td,.d th{border-width:1px 0;padding:.2em .4em;text-align:left;vertical-align:top}\n\
+        .d td:last-child{width:100%}\n\
+        .n span{display:block;font-size:13px;line-height:18px;white-space:nowrap}\n\
+        .o{position:relative;height:1.4em;font-size:13px;font-weight:normal}\n\
+        .o span{position:absolute;transform:translateX(-50%);white-space:nowrap}\n\
+        .o .f{transform:none}\n\
+        .o .t{transform:translateX(-100%)}\n\
+        svg{display:block;width:100%}\n\
+        svg *{vector-effect:non-scaling-stroke}\n\
+        .b{fill:#eeeeee;stroke:#767676}\n\
+        .h{stroke:#767676}\n\
+        .l{fill:#0b5394;stroke:#0b5394}\n\
+        @media(max-width:50em){\n\
+        body{padding:0 .5em}\n\
+        td,th{padding:.2em .3em}\n\
+        .o .s{display:none}}\n\
+        @media screen{\n\
+        :root{color-scheme:light dark}}\n\
+        @media screen and (prefers-color-scheme:dark){\n\
+        body{color:#eeeeee;background:#111111}\n\
+        td,th{border-color:#8c8c8c}\n\
+        .b{fill:#2a2a2a;stroke:#8c8c8c}\n\
+        .h{stroke:#8c8c8c}\n\
+        .l{fill:#6fb7f2;stroke:#6fb7f2}}\n\
+        @media(forced-colors:active){\n\
+        .b{fill:Canvas;stroke:CanvasText}\n\
+        .h{stroke:CanvasText}\n\
+        .l{fill:CanvasText;stroke:CanvasText}}\n\
+        @media print{\n\
+        body{font-size:10pt;margin:0;padding:0}\n\
+        thead{display:table-header-group}\n\
+        tr,svg{break-inside:avoid}\n\
+        .b,.l{-webkit-print-color-adjust:exact;print-color-adjust:exact}}\n\
+        </style></head><body><main>\n\
         <h1>Which lamp burnt when</h1>\n\
-        <p>A row is a day since the log began, a band in it a lamp; a dark bar is a stretch that it burnt. \
-        Rest on a bar to read its seconds.</p>\n",
+        <p>This page knows no clock: days and hours count from the log's first second. A row is a day \
+        of 24 hours; in it each lamp has a band, and a bar on the band is a stretch that the lamp \
+        burnt.</p>\n",
     )
 }
 
-/// The hours along the top.
+/// The head of the table of the days, with the hours along the top.
 pub fn put_hours<W: ByteSink>(out: &mut W) -> io::Result<()>
     ensures { WritesText W.fails_with (W.contents out.old) (W.contents out.new) result hours }
 {
     put(
         out,
-        b"<svg viewBox=\"0 0 1100 16\" role=\"img\" aria-label=\"hours of the day\"><g text-anchor=\"middle\">\
-        <text y=\"12\" x=\"90\">0</text><text y=\"12\" x=\"170\">2</text><text y=\"12\" x=\"250\">4</text>\
-        <text y=\"12\" x=\"330\">6</text><text y=\"12\" x=\"410\">8</text><text y=\"12\" x=\"490\">10</text>\
-        <text y=\"12\" x=\"570\">12</text><text y=\"12\" x=\"650\">14</text><text y=\"12\" x=\"730\">16</text>\
-        <text y=\"12\" x=\"810\">18</text><text y=\"12\" x=\"890\">20</text><text y=\"12\" x=\"970\">22</text>\
-        <text y=\"12\" x=\"1050\">24</text></g></svg>\n",
+        b"<table class=\"d\"><caption>The days</caption><thead><tr><th scope=\"col\">day</th><th \
+        scope=\"col\">lamp</th><th scope=\"col\"><div class=\"o\">\n\
+        <span class=\"f\" style=\"left:0%\">+0 h</span><span class=\"s\" style=\"left:12.5%\">+3 h</span><span \
+        style=\"left:25%\">+6 h</span>\n\
+        <span class=\"s\" style=\"left:37.5%\">+9 h</span><span style=\"left:50%\">+12 h</span><span \
+        class=\"s\" style=\"left:62.5%\">+15 h</span>\n\
+        <span style=\"left:75%\">+18 h</span><span class=\"s\" style=\"left:87.5%\">+21 h</span><span \
+        class=\"t\" style=\"left:100%\">+24 h</span>\n\
+        </div></th></tr></thead><tbody>\n",
     )
 }
 
-/// The table of totals: the row of each lamp.
+// The row of the lamp at that place.
+fn put_table_row<W: ByteSink>(out: &mut W, t: Totals, k: usize) -> io::Result<()>
+    requires { k < 8 }
+    ensures { WritesText W.fails_with (W.contents out.old) (W.contents out.new) result
+        (table_row t.starts t.burnt t.lasts k) }
+{
+    let (start, burnt, last) = (t.starts[k] as u64, t.burnt[k], t.lasts[k] as u64);
+    fill(
+        out,
+        "<tr><th scope=\"row\">lamp #</th><td># h # min (# s)</td><td># h # min (# s)</td>\
+        <td># h # min (# s)</td></tr>\n",
+        &[
+            k as u64 + 1,
+            start / 3600,
+            start / 60 % 60,
+            start,
+            burnt / 3600,
+            burnt / 60 % 60,
+            burnt,
+            last / 3600,
+            last / 60 % 60,
+            last,
+        ],
+    )
+}
+
+fn put_table_rows<W: ByteSink>(out: &mut W, t: Totals) -> io::Result<()>
+    requires { t.count ≤ 8 }
+    ensures { WritesText W.fails_with (W.contents out.old) (W.contents out.new) result
+        (table_rows t.count t.starts t.burnt t.lasts) }
+{
+    for k in 0..t.count {
+        put_table_row(out, t, k)?;
+    }
+    Ok(())
+}
+
+/// The table of the lamps: of each its hours and minutes, and its seconds.
 pub fn put_table<W: ByteSink>(out: &mut W, t: Totals) -> io::Result<()>
     requires { t.count ≤ 8 }
     ensures { WritesText W.fails_with (W.contents out.old) (W.contents out.new) result
@@ -58,15 +130,12 @@ pub fn put_table<W: ByteSink>(out: &mut W, t: Totals) -> io::Result<()>
 {
     put(
         out,
-        b"<table><caption>Seconds of each lamp</caption>\
-        <tr><th>lamp</th><th>at the start</th><th>burnt</th><th>now</th></tr>\n",
+        b"<table><caption>Each lamp's burning time</caption><thead><tr><th scope=\"col\">lamp</th>\
+        <th scope=\"col\">at the start</th><th scope=\"col\">burnt</th>\
+        <th scope=\"col\">now</th></tr></thead><tbody>\n",
     )?;
-    fill_totals(
-        out,
-        "<tr><th>#</th><td>#</td><td>#</td><td>#</td></tr>\n",
-        t,
-    )?;
-    put(out, b"</table>\n")
+    put_table_rows(out, t)?;
+    put(out, b"</tbody></table>\n")
 }
 
 /// Until when a log goes: the seconds that it lets pass, and the lines that belong to it.

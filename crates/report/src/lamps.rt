@@ -2,7 +2,7 @@
 // from 1, and lie at places from 0.
 ghost use Rattle.std.specs.Prelude.{◌+◌, ◌<◌, ◌≤◌, [], length, if◌then◌else◌};
 ghost use Rattle.textio.specs.Fronts.{WritesText};
-ghost use Rattle.report.specs.LampLines.{stretch_line, stretch_lines, total_filled, totals_filled, total_lines};
+ghost use Rattle.report.specs.LampLines.{stretch_line, stretch_lines, total_line, total_lines};
 
 use std::io;
 use textio::forms::fill;
@@ -55,15 +55,15 @@ pub fn put_stretches<W: ByteSink>(out: &mut W, lit: &[bool], from: u64, to: u64)
     Ok(())
 }
 
-// The form of a lamp, with its number, and its seconds at the start, burnt and now in the place of each `#`.
-fn fill_total<W: ByteSink>(out: &mut W, form: &str, t: Totals, k: usize) -> io::Result<()>
+// The line of a lamp's seconds in all.
+fn put_total<W: ByteSink>(out: &mut W, t: Totals, k: usize) -> io::Result<()>
     requires { k < 8 }
     ensures { WritesText W.fails_with (W.contents out.old) (W.contents out.new) result
-        (total_filled form.now t.starts t.burnt t.lasts k) }
+        (total_line t.starts t.burnt t.lasts k) }
 {
     fill(
         out,
-        form,
+        "lamp # start # burnt # now #\n",
         &[
             k as u64 + 1,
             t.starts[k] as u64,
@@ -73,23 +73,14 @@ fn fill_total<W: ByteSink>(out: &mut W, form: &str, t: Totals, k: usize) -> io::
     )
 }
 
-/// That form for each lamp.
-pub(crate) fn fill_totals<W: ByteSink>(out: &mut W, form: &str, t: Totals) -> io::Result<()>
-    requires { t.count ≤ 8 }
-    ensures { WritesText W.fails_with (W.contents out.old) (W.contents out.new) result
-        (totals_filled form.now t.count t.starts t.burnt t.lasts) }
-{
-    for k in 0..t.count {
-        fill_total(out, form, t, k)?;
-    }
-    Ok(())
-}
-
 /// The line of each lamp's seconds in all.
 pub fn put_totals<W: ByteSink>(out: &mut W, t: Totals) -> io::Result<()>
     requires { t.count ≤ 8 }
     ensures { WritesText W.fails_with (W.contents out.old) (W.contents out.new) result
         (total_lines t.count t.starts t.burnt t.lasts) }
 {
-    fill_totals(out, "lamp # start # burnt # now #\n", t)
+    for k in 0..t.count {
+        put_total(out, t, k)?;
+    }
+    Ok(())
 }

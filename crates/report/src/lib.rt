@@ -22,7 +22,7 @@ use textio::writer::{ByteSink, put};
 pub enum Report {
     /// A line for each stretch, and one for each lamp at the end.
     Lines,
-    /// An HTML page, on which so many rows, one a day, are begun.
+    /// An HTML page, on which this is the last day that has a row, counted from 1; 0 where none has.
     Page(u64),
 }
 
@@ -71,7 +71,7 @@ impl Report {
     /// A stretch of the lamps whose marks of `lit` are set.
     pub fn tell<W: ByteSink>(&mut self, out: &mut W, lit: &[bool], s: Stretch) -> io::Result<()>
         requires { length lit.now ≤ 8 }
-        ensures report { OnOk result (self.new ≡ report_told self.old s.from s.to) }
+        ensures report { OnOk result (self.new ≡ report_told self.old lit.now s.from s.to) }
         ensures kept { OnErr result (self.new ≡ self.old) }
         ensures text { WritesText W.fails_with (W.contents out.old) (W.contents out.new) result
             (told_text self.old lit.now s.from s.to) }

@@ -1,11 +1,11 @@
 // One self-contained HTML document: a row for each day since a log began, in it a band for each lamp, lit stretches as
-// bars; the hours along the top; a table of totals (RULES, Floor log). It is written as it comes: a stretch is drawn
-// once it has ended, and rows are opened up to its days. Bands stand apart by place and name, so that no colour has to
-// be told from another.
+// bars, and one line for days in which no lamp burnt; the hours along the top; a table of totals (RULES, Floor log). It
+// is written as it comes: a stretch is drawn once it has ended, and rows are opened up to its days. Bands stand apart
+// by place and name, so that no colour has to be told from another.
 ghost use Rattle.std.specs.Prelude.{◌≡◌, ◌≤◌, length, IfOk};
 ghost use Rattle.textio.specs.Fronts.{WritesText};
-ghost use Rattle.report.specs.Days.{days_of, row_ended, rows_drawn, stretch_drawn};
-ghost use Rattle.report.specs.Frame.{page_begun, page_ended, page_ended_until};
+ghost use Rattle.report.specs.Days.{days_of, is_any_lit, rows_drawn, stretch_drawn};
+ghost use Rattle.report.specs.Frame.{days_closed, page_begun, page_closed, page_ended, page_ended_until};
 ghost use Rattle.report.specs.Reports.{stray_said};
 
 use crate::lamps::Totals;
@@ -43,15 +43,25 @@ fn days_until(seconds: u64) -> u64
     1
 }
 
-/// A stretch of the lamps whose marks are set, where there are so many rows, the last of them open; how many there are
-/// then.
+fn is_any(lit: &[bool]) -> bool
+    ensures { result ≡ is_any_lit lit.now }
+{
+    lit.iter().any(|is_lit| *is_lit)
+}
+
+/// A stretch of the lamps whose marks are set, where `rows` is the last day that has a row, which is open; the last one
+/// that has then. Of none of them nothing is drawn.
 pub fn draw<W: ByteSink>(out: &mut W, rows: u64, lit: &[bool], s: Stretch) -> io::Result<u64>
     requires { length lit.now ≤ 8 }
-    ensures rows { IfOk result (λ n. n ≡ rows_drawn rows s.from s.to) }
+    ensures rows { IfOk result (λ n. n ≡ rows_drawn rows lit.now s.from s.to) }
     ensures text { WritesText W.fails_with (W.contents out.old) (W.contents out.new) result
         (stretch_drawn rows lit.now s.from s.to) }
 {
     if s.to <= s.from {
+        return Ok(rows);
+    }
+    let burns = is_any(lit);
+    if !burns {
         return Ok(rows);
     }
     let mut opened = rows;
@@ -61,11 +71,16 @@ pub fn draw<W: ByteSink>(out: &mut W, rows: u64, lit: &[bool], s: Stretch) -> io
     Ok(opened)
 }
 
-// The last row ends.
-fn end_row<W: ByteSink>(out: &mut W) -> io::Result<()>
-    ensures { WritesText W.fails_with (W.contents out.old) (W.contents out.new) result row_ended }
+fn close_days<W: ByteSink>(out: &mut W) -> io::Result<()>
+    ensures { WritesText W.fails_with (W.contents out.old) (W.contents out.new) result days_closed }
 {
-    put(out, b"</svg>\n")
+    put(out, b"</tbody></table>\n")
+}
+
+fn close<W: ByteSink>(out: &mut W) -> io::Result<()>
+    ensures { WritesText W.fails_with (W.contents out.old) (W.contents out.new) result page_closed }
+{
+    put(out, b"</main></body></html>\n")
 }
 
 /// The rows up to the end of a log of so many seconds, and what stands below them.
@@ -74,10 +89,10 @@ pub fn end<W: ByteSink>(out: &mut W, rows: u64, seconds: u64, t: Totals) -> io::
     ensures { WritesText W.fails_with (W.contents out.old) (W.contents out.new) result
         (page_ended rows seconds t.count t.starts t.burnt t.lasts) }
 {
-    days::open_to(out, t.count as u64, rows, days_until(seconds))?;
-    end_row(out)?;
+    days::end(out, rows, days_until(seconds))?;
+    close_days(out)?;
     frame::put_table(out, t)?;
-    put(out, b"</body></html>\n")
+    close(out)
 }
 
 /// The same for a log of the second kind: and until when it goes, and what is said of a line that does not belong.
@@ -93,10 +108,10 @@ pub fn end_until<W: ByteSink>(
         (page_ended_until rows seconds t.count t.starts t.burnt t.lasts until.entry.lines
         (stray_said until.entry.stray)) }
 {
-    days::open_to(out, t.count as u64, rows, days_until(seconds))?;
-    end_row(out)?;
+    days::end(out, rows, days_until(seconds))?;
+    close_days(out)?;
     frame::put_table(out, t)?;
     frame::put_until(out, seconds, until.lines)?;
     frame::put_stray(out, until.stray)?;
-    put(out, b"</body></html>\n")
+    close(out)
 }

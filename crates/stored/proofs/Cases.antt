@@ -18,7 +18,7 @@ use Rattle.record.proofs.Rules.{lamps_few, inputs_class}
 use Rattle.record.proofs.Started.{started_parts}
 use Rattle.stored.proofs.Fields.{length-seconds_in}
 use Rattle.text.specs.Flags.{is_raised, flag_of}
-use Rattle.text.proofs.FlagsTold.{flags-replicate, flags_told}
+use Rattle.text.proofs.FlagsTold.{flags_replicate, flags_told}
 use Rattle.stored.specs.Reading.{FormSaid, form}
 use Rattle.stored.specs.Views.{class_said}
 use Rattle.stored.specs.declared.form.Rest.{Rest}
@@ -97,7 +97,7 @@ module _ (w : Wanted) where
     -- in the version that has none, each of its lamps is enabled
     pub contents_unmarked : contents (saying (replicate n 1)) ≡ acceptance_of (start_device w)
     contents_unmarked =
-        ap (λ (s : List ℕ). contents (saying s)) (sym (flags-replicate n))
+        ap (λ (s : List ℕ). contents (saying s)) (sym (flags_replicate n))
         ∙ contents_of (replicate n true)
         ∙ if_yes _ _ (all_are_marks n (lamps_few w.lamps (each_in_range w ok Lamps)))
         ∙ ap acceptance_of (started_with-replicate w ok)

@@ -2,7 +2,7 @@
 --   AreMarks n bytes      what bytes that are marks of n lamps tell
 -- Assumes nothing.
 use Rattle.std.specs.List.{list_all}
-use Rattle.std.proofs.Common.{ℕ, zero, suc, ◌-◌, ◌≤◌, ◌≡◌, ◌↔◌, IsTrue, Bool, true, false, List, [], ◌∷◌, length}
+use Rattle.std.proofs.Common.{ℕ, ◌-◌, ◌≤◌, ◌≡◌, ◌↔◌, IsTrue, Bool, true, false, List, [], ◌∷◌, length}
 use Rattle.std.proofs.Common.{map, take, drop, replicate, slice_index_or, refl, sym, ap, ◌∙◌, arith, length-drop}
 use Rattle.std.proofs.Common.{take-append-drop}
 use Rattle.std.proofs.lemmas.Grind.{common_steps}
@@ -11,7 +11,7 @@ use Rattle.std.proofs.Math.Seq.{take-append_seam, length-take-le}
 use Rattle.text.specs.Flags.{is_flag, is_lowered, is_raised, flag_of}
 use Rattle.text.specs.Rooms.{filled_room}
 use Rattle.text.proofs.FlagsTold.{flags_told, flags_legal, flags_again, raised_many}
-use Rattle.text.proofs.FlagsTold.{raised-replicate, flags-replicate}
+use Rattle.text.proofs.FlagsTold.{raised_replicate, flags_replicate}
 use Rattle.record.specs.Limits.{lamps_most}
 use Rattle.record.specs.Wanted.{Wanted}
 use Rattle.record.specs.Rules.{is_marks}
@@ -39,13 +39,14 @@ flags_in_room fs e = ap (filled_room 0 lamps_most) (sym (flags_again fs e))
 
 room_seen : (ms : List Bool) → map is_raised (mark_room ms) ≡ filled_room false lamps_most ms
 unfolding mark_room
-room_seen ms = grind (arith, map-append, raised-replicate, flags_told, length-map)
+room_seen ms = grind (arith, map-append, raised_replicate, flags_told, length-map)
 
 pub room_front : (ms : List Bool) → take (length ms) (map is_raised (mark_room ms)) ≡ ms
 room_front ms =
     ap (take (length ms)) (room_seen ms) ∙ take-append_seam ms (replicate (lamps_most - length ms) false)
 
-in_room_at : (ms : List Bool) (k : ℕ) → slice_index_or (filled_room false lamps_most ms) k false ≡ slice_index_or ms k false
+in_room_at : (ms : List Bool) (k : ℕ)
+    → slice_index_or (filled_room false lamps_most ms) k false ≡ slice_index_or ms k false
 in_room_at ms k = grind (arith, common_steps)
 
 pub slice_index_or-mark_room : (ms : List Bool) (k : ℕ) →
@@ -81,7 +82,7 @@ module _ (n : ℕ) (few : n ≤ lamps_most) where
   all_room : mark_room (replicate n true) ≡ all_marks n
   unfolding mark_room
   all_room =
-      ap (filled_room 0 lamps_most) (flags-replicate n ∙ sym (take-replicate n lamps_most 1 few)) ∙ marks_kept n few
+      ap (filled_room 0 lamps_most) (flags_replicate n ∙ sym (take-replicate n lamps_most 1 few)) ∙ marks_kept n few
 
   pub all_are_marks : is_marks_of n (replicate n true) ≡ true
   all_are_marks = grind (arith, length-replicate, all_room, all_marks_legal)

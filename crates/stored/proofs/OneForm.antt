@@ -10,7 +10,7 @@ use Rattle.record.specs.Wanted.{Wanted}
 use Rattle.record.specs.declared.types.Device.{Device}
 use Rattle.record.specs.Given.{Given}
 use Rattle.text.specs.Flags.{is_raised}
-use Rattle.text.proofs.FlagsTold.{flags-replicate, flags_told, flags_again}
+use Rattle.text.proofs.FlagsTold.{flags_replicate, flags_told, flags_again}
 use Rattle.stored.specs.Form.{text_section, marks_section, texts_in_class_2, class_part_text, form_with, form_version}
 use Rattle.stored.specs.Form.{old_version, version_form, stored_of, marks_stored, stored_form}
 use Rattle.stored.specs.Loading.{said_in, settings_in, mark_bytes_in, marks_read, started_with, loaded_from}
@@ -69,7 +69,7 @@ old_enabled s e o =
     let n = length (settings_in s).lamps in
     let ones : mark_bytes_in s ≡ replicate n 1 = (read s e).marks (grind (arith, o)) in
     marks_stored_lem s e
-    ∙ ap (map is_raised) (ones ∙ sym (flags-replicate n))
+    ∙ ap (map is_raised) (ones ∙ sym (flags_replicate n))
     ∙ flags_told (replicate n true)
     ∙ ap (λ (w : Wanted). replicate (length w.lamps) true) (sym (settings_stored s e))
 

@@ -21,9 +21,9 @@ use crate::form::{Form, MARKED_VERSION, OLD_VERSION};
 use crate::reader::Reader;
 use crate::storing::VERSION;
 use numbers::highest;
+use record::fresh;
 use record::set_up_error::SetUpError;
 use record::types::{Device, LAMPS_MOST, Setting};
-use record::fresh;
 use setup::wanted::Wanted;
 use text::{flag, rooms};
 

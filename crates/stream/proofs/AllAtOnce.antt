@@ -25,7 +25,8 @@ module _ (left : List ℕ → List ℕ) (most : ℕ) (l : Line) (b : ℕ) where
   past = record { overlong = 1; held = 0; bytes = left l.bytes }
 
   pub collected_by : (P : Line → Type 0) → (is_raised l.overlong ≡ true → P l)
-      → (is_raised l.overlong ≡ false → most ≤ l.held → P past) → (is_raised l.overlong ≡ false → l.held < most → P (more l b))
+      → (is_raised l.overlong ≡ false → most ≤ l.held → P past)
+      → (is_raised l.overlong ≡ false → l.held < most → P (more l b))
       → P (collected_in left most l b)
   unfolding collected_in
   collected_by P marked full fits = grind (arith, if_by, leb-true, leb-false)
@@ -52,7 +53,8 @@ module _ (most : ℕ) where
   pub all_fit : (l : Line) (bs : List ℕ) → is_raised l.overlong ≡ false → l.held + length bs ≤ most
       → collected_all most l bs
       ≡ record { overlong = 0; held = l.held + length bs; bytes = sets l.bytes l.held bs }
-  all_fit l [] e h = (λ i. record { overlong = lowered_zero l.overlong e i; held = sym (add-zero l.held) i; bytes = l.bytes })
+  all_fit l [] e h =
+      (λ i. record { overlong = lowered_zero l.overlong e i; held = sym (add-zero l.held) i; bytes = l.bytes })
   all_fit l (b ∷ bs) e h = grind (arith, one_fits, add-one, all_fit (more l b) bs refl (omega arith))
 
   pub all_past : (l : Line) (bs : List ℕ) → is_raised l.overlong ≡ false → 1 ≤ length bs → most < l.held + length bs

@@ -1,7 +1,8 @@
 -- What a flag tells, and what a list of flags does.
 --   IsMappedTo f d xs ys k    the loop over an array has turned the first k of xs by f into those of ys
 -- Assumes nothing.
-use Rattle.std.proofs.Common.{ℕ, zero, suc, ◌+◌, ◌-◌, ◌≤◌, ◌<◌, ◌≡◌, refl, sym, ap, ◌∙◌, Bool, true, false, arith, List, [], ◌∷◌, length, map, ap₂}
+use Rattle.std.proofs.Common.{ℕ, zero, suc, ◌+◌, ◌-◌, ◌≤◌, ◌<◌, ◌≡◌, refl, sym, ap, ◌∙◌, Bool, true, false, arith}
+use Rattle.std.proofs.Common.{List, [], ◌∷◌, length, map, ap₂}
 use Rattle.std.specs.List.{list_all}
 use Rattle.std.proofs.Common.{◌++◌, append-nil, slice_index_or, set, replicate}
 use Rattle.std.proofs.Math.ListN.{get_or-map}
@@ -34,8 +35,8 @@ pub raised_at : (fs : List ℕ) (k : ℕ) → slice_index_or (map is_raised fs) 
 raised_at fs k = get_or-map is_raised fs k 0
 
 -- one of them replaced
-pub raised-set : (fs : List ℕ) (k : ℕ) (b : Bool) → map is_raised (set fs k (flag_of b)) ≡ set (map is_raised fs) k b
-raised-set fs k b = map-set is_raised fs k (flag_of b) ∙ ap (set (map is_raised fs) k) (flag_told b)
+pub raised_set : (fs : List ℕ) (k : ℕ) (b : Bool) → map is_raised (set fs k (flag_of b)) ≡ set (map is_raised fs) k b
+raised_set fs k b = map-set is_raised fs k (flag_of b) ∙ ap (set (map is_raised fs) k) (flag_told b)
 
 pub raised_many : (fs : List ℕ) → length (map is_raised fs) ≡ length fs
 raised_many fs = length-map fs is_raised
@@ -56,17 +57,17 @@ flags_again (f ∷ fs) e =
     (flags_again fs (both_right (is_flag f) (list_all is_flag fs) e))
 
 -- so many alike
-pub raised-replicate : (n : ℕ) → map is_raised (replicate n 0) ≡ replicate n false
-raised-replicate zero = refl
-raised-replicate (suc n) = ap (λ (bs : List Bool). false ∷ bs) (raised-replicate n)
+pub raised_replicate : (n : ℕ) → map is_raised (replicate n 0) ≡ replicate n false
+raised_replicate zero = refl
+raised_replicate (suc n) = ap (λ (bs : List Bool). false ∷ bs) (raised_replicate n)
 
-pub lowered-replicate : (n : ℕ) → map flag_of (replicate n false) ≡ replicate n 0
-lowered-replicate zero = refl
-lowered-replicate (suc n) = ap (λ (fs : List ℕ). 0 ∷ fs) (lowered-replicate n)
+pub lowered_replicate : (n : ℕ) → map flag_of (replicate n false) ≡ replicate n 0
+lowered_replicate zero = refl
+lowered_replicate (suc n) = ap (λ (fs : List ℕ). 0 ∷ fs) (lowered_replicate n)
 
-pub flags-replicate : (n : ℕ) → map flag_of (replicate n true) ≡ replicate n 1
-flags-replicate zero = refl
-flags-replicate (suc n) = ap (λ (fs : List ℕ). 1 ∷ fs) (flags-replicate n)
+pub flags_replicate : (n : ℕ) → map flag_of (replicate n true) ≡ replicate n 1
+flags_replicate zero = refl
+flags_replicate (suc n) = ap (λ (fs : List ℕ). 1 ∷ fs) (flags_replicate n)
 
 -- turned one after the other
 module _ {A B : Type 0} (f : A → B) (d : A) (xs : List A) where

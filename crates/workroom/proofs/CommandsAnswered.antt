@@ -5,7 +5,7 @@
 -- Assumes nothing.
 use Rattle.std.proofs.Common.{ℕ, ◌≤◌, ◌<◌, ◌≡◌, refl, sym, ap, subst, ◌∙◌, Bool, true, false, not, ◌&&◌, List, ◌++◌}
 use Rattle.std.proofs.Common.{arith, length, ⊎_elim, ne_eqb, Option, Some, None, Ok, is_some}
-use Rattle.text.specs.Flags.{is_raised}
+use Rattle.text.specs.Flags.{is_raised, flag_of}
 use Rattle.text.proofs.Choices.{if_no}
 use Rattle.text.proofs.Orders.{le_or_lt}
 use Rattle.digest.specs.Hex.{leading_digest}
@@ -64,8 +64,9 @@ fit_live : {t : Talk} {c : Connection} → Fit t c → is_shut c ≡ false
 fit_live fit = grind arith
 
 -- nothing leads what follows a first command
-none_leads : (s : Bool) → (s && not s) ≡ false
-none_leads s = grind arith
+none_leads : (s : Bool) → (s && not (is_raised (flag_of s))) ≡ false
+none_leads true = refl
+none_leads false = refl
 
 module _ (i p : ℕ) (w : Workroom) (j : IsJoined i p w) where
   abbrev entry : Entry

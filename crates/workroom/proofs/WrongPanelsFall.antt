@@ -6,7 +6,7 @@ use Rattle.pjlink.specs.declared.command.Command.TheVariants.{Query}
 use Rattle.pjlink.specs.declared.body.Body.TheVariants.{Powr, Lamp}
 use Rattle.pjlink.specs.Forms.{erra_line}
 use Rattle.controller.specs.Writing.{command_room}
-use Rattle.codes.specs.Commands.{bit, code_of}
+use Rattle.codes.specs.Commands.{code_of}
 use Rattle.panel.specs.Entries.{Talk, Shown}
 use Rattle.panel.specs.StepTable.{IsStray, late, malformed, foreign}
 use Rattle.panel.specs.Hearing.{heard_kind}

@@ -3,7 +3,7 @@
 use super::histories::NO_PLACES;
 use super::random::Random;
 use super::{Case, forms, records};
-use crate::face::{Act, Device, Lent};
+use crate::face::{Act, Device, Flag, Lent};
 use crate::reference::calls;
 use crate::reference::rules::unmistaken;
 use crate::reference::set_up::LAMP_LIMIT;
@@ -25,7 +25,7 @@ fn marked(lamps: usize, power: u8, bits: usize) -> Device {
     let mut device = unmistaken(|| calls::set_up(&lent)).device;
     device.own.power = power;
     device.own.left = if power < 2 { 0 } else { 2 };
-    device.own.enabled = std::array::from_fn(|lamp| bits >> lamp & 1 == 1);
+    device.own.enabled = std::array::from_fn(|lamp| Flag::from(bits >> lamp & 1 == 1));
     device.connections[0].phase = 2;
     device
 }
@@ -62,7 +62,7 @@ fn every_lamp(random: &mut Random) -> Vec<Case> {
         tried.dedup();
         for bits in tried {
             let mut device = marked(lamps, power, bits);
-            device.own.fault = random.one_in(4);
+            device.own.fault = Flag::from(random.one_in(4));
             let device = Rc::new(device);
             for lamp in (0..=9).chain(NO_PLACES.iter().copied()) {
                 let acts = [false, true].map(|enabled| Act::SetMark { lamp, enabled });

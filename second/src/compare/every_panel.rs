@@ -4,7 +4,7 @@
 use super::random::Random;
 use super::records::set_text;
 use super::{panel_lines, passwords};
-use crate::face::{Act, Command, Entry, Panel, PanelAct, PanelCall};
+use crate::face::{Act, Command, Entry, Flag, Panel, PanelAct, PanelCall};
 
 pub fn calls(random: &mut Random) -> Vec<Act> {
     let mut all = vec![PanelCall { panel: Panel::NONE, act: PanelAct::None }];
@@ -22,22 +22,28 @@ pub fn moments() -> Vec<Entry> {
     vec![
         shown(),
         Entry { greeting: 1, ..shown() },
-        Entry { greeting: 1, under_way: true, command: asks_lamps, ..shown() },
+        Entry { greeting: 1, under_way: Flag::YES, command: asks_lamps, ..shown() },
         secured,
-        Entry { led: true, ..secured },
-        Entry { led: true, under_way: true, command: asks_lamps, ..secured },
-        Entry { under_way: true, command: asks_lamps, ..secured },
+        Entry { led: Flag::YES, ..secured },
+        Entry { led: Flag::YES, under_way: Flag::YES, command: asks_lamps, ..secured },
+        Entry { under_way: Flag::YES, command: asks_lamps, ..secured },
     ]
 }
 
 /// All readings known, five lamps.
 fn shown() -> Entry {
-    let mut entry =
-        Entry { power_known: true, power: 3, input_known: true, input_type: 5, input_number: 9, ..Entry::NONE };
+    let mut entry = Entry {
+        power_known: Flag::YES,
+        power: 3,
+        input_known: Flag::YES,
+        input_type: 5,
+        input_number: 9,
+        ..Entry::NONE
+    };
     set_text(&mut entry.password, b"JBMIAProjectorLink");
-    (entry.lamps_known, entry.lamp_count, entry.strays) = (true, 5, 17);
+    (entry.lamps_known, entry.lamp_count, entry.strays) = (Flag::YES, 5, 17);
     entry.hours[..5].copy_from_slice(&[0, 412, 99_999, 1, 6]);
-    entry.lit[..5].copy_from_slice(&[true, false, true, false, true]);
+    entry.lit[..5].copy_from_slice(&[true, false, true, false, true].map(Flag::from));
     entry
 }
 
@@ -108,15 +114,17 @@ fn broken(entry: &Entry) -> Vec<Entry> {
         with(&|e| e.lamp_count = usize::from(byte));
     }
     [0, 1, u32::MAX].iter().for_each(|&random| with(&|e| e.random = random));
-    with(&|e| e.led = !e.led);
-    with(&|e| e.under_way = !e.under_way);
-    with(&|e| e.power_known = !e.power_known);
-    with(&|e| e.input_known = !e.input_known);
-    with(&|e| e.lamps_known = !e.lamps_known);
+    for flag in (0..=255).map(Flag) {
+        with(&|e| e.led = flag);
+        with(&|e| e.under_way = flag);
+        with(&|e| e.power_known = flag);
+        with(&|e| e.input_known = flag);
+        with(&|e| e.lamps_known = flag);
+    }
     [4, 7, 8, 256, 261, (1 << 61) + 5, usize::MAX].iter().for_each(|&count| with(&|e| e.lamp_count = count));
     for place in 0..8 {
         [0, 1, 99_999, 100_000, u32::MAX].iter().for_each(|&hours| with(&|e| e.hours[place] = hours));
-        with(&|e| e.lit[place] = !e.lit[place]);
+        (0..=255).map(Flag).for_each(|flag| with(&|e| e.lit[place] = flag));
     }
     [0, 1, 65_534, 65_535, 65_536, u32::MAX].iter().for_each(|&strays| with(&|e| e.strays = strays));
     all

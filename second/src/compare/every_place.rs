@@ -3,7 +3,7 @@
 use super::histories::NO_PLACES;
 use super::random::Random;
 use super::{Case, forms, records};
-use crate::face::{Act, Connection, Device, Lent, Line, PLACES};
+use crate::face::{Act, Connection, Device, Flag, Lent, Line, PLACES};
 use crate::reference::calls;
 use crate::reference::connection::leading_digest;
 use crate::reference::rules::unmistaken;
@@ -92,24 +92,25 @@ fn every_phase(random: &mut Random) -> Vec<Case> {
 
 /// Connections that are not legal, in each phase.
 fn illegal() -> Vec<Connection> {
-    let line = |overlong, held, byte| {
+    let line = |overlong: u8, held, byte| {
         let mut bytes = [0; 167];
         bytes[..167.min(held)].fill(byte);
-        Line { overlong, held, bytes }
+        Line { overlong: Flag(overlong), held, bytes }
     };
-    let mut late = line(false, 0, 0);
+    let mut late = line(0, 0, 0);
     late.bytes[166] = 1;
     let with = |phase, line| Connection { line, ..connection(phase, 0, u32::from(phase != 0)) };
     let mut all = vec![connection(0, 1, 0), connection(0, 0, 1), connection(2, 1, 0), connection(2, 29, 7)];
     all.extend([4, 5, 128, 255].map(|phase| connection(phase, 0, 0)));
     all.extend([1, 3].map(|phase| connection(phase, 30, 7)));
     all.extend([1, 3].map(|phase| connection(phase, u32::MAX, 7)));
-    all.extend([0, 3].map(|phase| with(phase, line(false, 1, b'%'))));
-    all.extend([0, 3].map(|phase| with(phase, line(true, 0, 0))));
-    all.extend([1, 2].map(|phase| with(phase, line(false, 1, b'\r'))));
-    all.extend([1, 2].map(|phase| with(phase, line(true, 1, b'%'))));
-    all.extend([1, 2].map(|phase| with(phase, line(false, 168, b'%'))));
-    all.push(with(2, line(false, 136, b'%')));
+    all.extend([0, 3].map(|phase| with(phase, line(0, 1, b'%'))));
+    all.extend([0, 3].map(|phase| with(phase, line(1, 0, 0))));
+    all.extend([1, 2].map(|phase| with(phase, line(0, 1, b'\r'))));
+    all.extend([1, 2].map(|phase| with(phase, line(1, 1, b'%'))));
+    all.extend([1, 2].map(|phase| with(phase, line(0, 168, b'%'))));
+    all.push(with(2, line(0, 136, b'%')));
+    all.extend([1, 2].iter().flat_map(|&phase| (2..=255).map(move |flag| with(phase, line(flag, 0, 0)))));
     all.extend([0, 1, 2, 3].map(|phase| with(phase, late)));
     all
 }

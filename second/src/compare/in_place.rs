@@ -1,6 +1,6 @@
 //! The record that a call in place finds where it is made.
 
-use crate::face::{Act, Connection, Device, Lent, Lent2, PLACES};
+use crate::face::{Act, Connection, Device, Flag, Lent, Lent2, PLACES};
 use crate::reference::calls;
 use crate::reference::rules::{Rules, unmistaken};
 use std::sync::LazyLock;
@@ -48,13 +48,13 @@ static FULL: LazyLock<Device> = LazyLock::new(|| {
     let mut device = unmistaken(|| Rules::Now.by(|| calls::set_up_2(&lent))).device;
     let own = &mut device.own;
     (own.power, own.left, own.chosen, own.errors) = (3, 600, 31, [2; 6]);
-    (own.video_muted, own.audio_muted, own.fault, own.frozen) = (true, true, true, true);
+    (own.video_muted, own.audio_muted, own.fault, own.frozen) = (Flag::YES, Flag::YES, Flag::YES, Flag::YES);
     (own.speaker, own.microphone) = (20, 20);
     let mut awaiting = Connection { phase: 1, age: 29, random: u32::MAX, ..Connection::CLOSED };
     (awaiting.line.held, awaiting.line.bytes) = (167, [b'a'; 167]);
     device.connections = [awaiting; PLACES];
     device.connections[PLACES - 1].line = Connection::CLOSED.line;
-    device.connections[PLACES - 1].line.overlong = true;
+    device.connections[PLACES - 1].line.overlong = Flag::YES;
     device
 });
 
@@ -73,7 +73,7 @@ static RUBBISH: LazyLock<Device> = LazyLock::new(|| {
     (own.lamps, own.speaker, own.microphone) = ([u32::MAX; 8], 0xA5, 0xA5);
     for connection in &mut device.connections {
         (connection.phase, connection.age) = (0xA5, u32::MAX);
-        (connection.line.overlong, connection.line.held, connection.line.bytes) = (true, usize::MAX, [0xA5; 167]);
+        (connection.line.overlong, connection.line.held, connection.line.bytes) = (Flag::YES, usize::MAX, [0xA5; 167]);
     }
     device
 });

@@ -2,7 +2,7 @@
 
 use super::random::Random;
 use super::{forms, records, setups};
-use crate::face::{Act, Command, Device, Lent};
+use crate::face::{Act, Command, Device, Flag, Lent};
 
 /// None to all 45: lent to a set-up and told of, in a stored form, in a reply; where a record has room for them, in one
 /// that lists them, and on which each is chosen and asked for.
@@ -34,7 +34,7 @@ fn in_a_record(random: &mut Random, inputs: &[u8]) -> Vec<(Device, Act)> {
     let (mut device, place) = records::open_between_lines(random);
     device.own.power = 1;
     device.own.left = 0;
-    device.own.fault = false;
+    device.own.fault = Flag::NO;
     device.own.chosen = 0;
     device.settings.input_count = inputs.len() / 2;
     device.settings.inputs = [0; 64];

@@ -2,13 +2,13 @@
 //! most.
 
 use super::every_panel::moments;
-use crate::face::{Command, Entry, Panel, PanelAct, PanelCall};
+use crate::face::{Command, Entry, Flag, Panel, PanelAct, PanelCall};
 use crate::reference::commands::BODIES;
 
 pub fn calls() -> Vec<PanelCall> {
     let lines = lines();
     let mut entries = moments();
-    entries.extend(commands().into_iter().map(|command| Entry { under_way: true, command, ..moments()[1] }));
+    entries.extend(commands().into_iter().map(|command| Entry { under_way: Flag::YES, command, ..moments()[1] }));
     for strays in [0, 254, 255, 65_533, 65_534, 65_535] {
         entries.push(Entry { strays, ..moments()[0] });
         entries.push(Entry { strays, ..moments()[1] });

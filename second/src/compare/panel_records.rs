@@ -1,9 +1,9 @@
 //! Records of panels (RULES, Panel): legal ones in every state, and damaged ones, field by field.
 
 use super::random::Random;
-use super::records::{code, count, set_text, text};
+use super::records::{code, count, flag, set_text, text};
 use super::{panels, replies};
-use crate::face::{Command, Entry, Panel};
+use crate::face::{Command, Entry, Flag, Panel};
 use crate::reference::controller;
 use crate::reference::rules::unmistaken;
 
@@ -22,10 +22,10 @@ fn entry(random: &mut Random) -> Entry {
     set_text(&mut entry.password, &random.letters_or_digits(length));
     if entry.greeting == 2 {
         entry.random = random.word();
-        entry.led = random.one_in(2);
+        entry.led = Flag::from(random.one_in(2));
     }
     if entry.greeting > 0 && random.one_in(2) {
-        entry.under_way = true;
+        entry.under_way = Flag::YES;
         entry.command = command(random);
     }
     read(random, &mut entry);
@@ -35,19 +35,19 @@ fn entry(random: &mut Random) -> Entry {
 /// Readings, each known or not.
 fn read(random: &mut Random, entry: &mut Entry) {
     if random.one_in(2) {
-        (entry.power_known, entry.power) = (true, random.below(4) as u8);
+        (entry.power_known, entry.power) = (Flag::YES, random.below(4) as u8);
     }
     if random.one_in(2) {
-        entry.input_known = true;
+        entry.input_known = Flag::YES;
         (entry.input_type, entry.input_number) = (random.from_to(1, 5) as u8, random.from_to(1, 9) as u8);
     }
     if random.one_in(2) {
-        entry.lamps_known = true;
+        entry.lamps_known = Flag::YES;
         entry.lamp_count = random.pick(&[1, 1, 2, 3, 7, 8]);
         for place in 0..entry.lamp_count {
             let any = random.below(100_000) as u32;
             entry.hours[place] = random.pick(&[0, 1, any, any, 99_999]);
-            entry.lit[place] = random.one_in(2);
+            entry.lit[place] = Flag::from(random.one_in(2));
         }
     }
 }
@@ -92,16 +92,16 @@ fn damage(random: &mut Random, entry: &mut Entry, field: usize) {
         0 => text(random, &mut entry.password),
         1 => entry.greeting = code(random),
         2 => entry.random = random.pick(&[0, 1, u32::MAX]),
-        3 => entry.led = !entry.led,
-        4 => entry.under_way = !entry.under_way,
+        3 => entry.led = flag(random, entry.led),
+        4 => entry.under_way = flag(random, entry.under_way),
         5 => entry.command = replies::command(random),
         6 => {
             *[&mut entry.command.code, &mut entry.command.first, &mut entry.command.second][random.below(3)] =
                 code(random)
         }
-        7 => entry.power_known = !entry.power_known,
-        8 => entry.input_known = !entry.input_known,
-        9 => entry.lamps_known = !entry.lamps_known,
+        7 => entry.power_known = flag(random, entry.power_known),
+        8 => entry.input_known = flag(random, entry.input_known),
+        9 => entry.lamps_known = flag(random, entry.lamps_known),
         10 => entry.power = code(random),
         11 => entry.input_type = random.pick(&[0, 1, 5, 6, 255]),
         12 => entry.input_number = random.pick(&[0, 1, 9, 10, 255]),
@@ -109,7 +109,7 @@ fn damage(random: &mut Random, entry: &mut Entry, field: usize) {
         14 => entry.hours[random.below(8)] = random.pick(&[0, 1, 99_999, 100_000, u32::MAX]),
         15 => {
             let place = random.below(8);
-            entry.lit[place] = !entry.lit[place];
+            entry.lit[place] = flag(random, entry.lit[place]);
         }
         _ => entry.strays = random.pick(&[0, 1, 65_534, 65_535, 65_536, 65_537, u32::MAX]),
     }

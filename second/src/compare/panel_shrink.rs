@@ -1,7 +1,7 @@
 //! A call on a panel (RULES, Panel) cut down: `shrink` has the other calls.
 
 use super::shrink::{memories, shorter, simpler_bytes, simpler_commands, zeroed};
-use crate::face::{Command, Entry, Panel, PanelAct, PanelCall, Text};
+use crate::face::{Command, Entry, Flag, Panel, PanelAct, PanelCall, Text};
 
 /// The named projector alone, a panel with less in it, then a simpler call.
 pub fn simpler(call: &PanelCall) -> Vec<PanelCall> {
@@ -30,16 +30,16 @@ fn plainer_entries(panel: &Panel) -> Vec<Panel> {
     let mut all = Vec::new();
     for place in 0..8 {
         let entry = panel.entries[place];
-        let no_command = Entry { under_way: false, command: Command { code: 0, first: 0, second: 0 }, ..entry };
+        let no_command = Entry { under_way: Flag::NO, command: Command { code: 0, first: 0, second: 0 }, ..entry };
         let plainer = [
             Entry::NONE,
             Entry { password: Text::EMPTY, ..entry },
             no_command,
-            Entry { greeting: 0, random: 0, led: false, ..no_command },
+            Entry { greeting: 0, random: 0, led: Flag::NO, ..no_command },
             Entry { strays: 0, ..entry },
-            Entry { power_known: false, power: 0, ..entry },
-            Entry { input_known: false, input_type: 0, input_number: 0, ..entry },
-            Entry { lamps_known: false, lamp_count: 0, hours: [0; 8], lit: [false; 8], ..entry },
+            Entry { power_known: Flag::NO, power: 0, ..entry },
+            Entry { input_known: Flag::NO, input_type: 0, input_number: 0, ..entry },
+            Entry { lamps_known: Flag::NO, lamp_count: 0, hours: [0; 8], lit: [Flag::NO; 8], ..entry },
         ];
         all.extend(plainer.into_iter().filter(|plainer| *plainer != entry).map(|plainer| {
             let mut panel = *panel;

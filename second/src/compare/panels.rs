@@ -118,10 +118,12 @@ fn act(random: &mut Random, panel: &Panel, projector: usize, far: &mut Far, maki
         2..=4 => PanelAct::Line { projector, line: any_line(random, entry, making) },
         5 if !far.on_its_way.is_empty() => PanelAct::Line { projector, line: far.on_its_way.clone() },
         _ if entry.greeting == 0 => PanelAct::Line { projector, line: far.greeting(random) },
-        _ if entry.under_way && !far.on_its_way.is_empty() && !random.one_in(3) => {
+        _ if entry.under_way.is_raised() && !far.on_its_way.is_empty() && !random.one_in(3) => {
             PanelAct::Line { projector, line: std::mem::take(&mut far.on_its_way) }
         }
-        _ if entry.under_way => PanelAct::Line { projector, line: (making.reply_line)(random, entry.command) },
+        _ if entry.under_way.is_raised() => {
+            PanelAct::Line { projector, line: (making.reply_line)(random, entry.command) }
+        }
         _ => PanelAct::Command { projector, command: command(random, making), lent: random.reply_memory(168) },
     }
 }

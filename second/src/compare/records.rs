@@ -2,7 +2,7 @@
 
 use super::random::Random;
 use super::{lines, names, setups};
-use crate::face::{Connection, Device, PLACES, Text};
+use crate::face::{Connection, Device, Flag, PLACES, Text};
 use crate::reference::calls;
 use crate::reference::rules::unmistaken;
 
@@ -18,14 +18,14 @@ pub fn legal(random: &mut Random) -> Device {
         _ => 0,
     };
     own.chosen = random.below(device.settings.input_count);
-    own.video_muted = random.one_in(2);
-    own.audio_muted = random.one_in(2);
-    own.fault = random.one_in(8);
+    own.video_muted = Flag::from(random.one_in(2));
+    own.audio_muted = Flag::from(random.one_in(2));
+    own.fault = Flag::from(random.one_in(8));
     own.errors = std::array::from_fn(|_| random.below(3) as u8);
     if device.settings.lamp_count > 0 && random.one_in(2) {
         let kept = random.below(device.settings.lamp_count);
         let marks = &mut own.enabled[..device.settings.lamp_count];
-        marks.iter_mut().enumerate().for_each(|(lamp, mark)| *mark = lamp == kept || random.one_in(2));
+        marks.iter_mut().enumerate().for_each(|(lamp, mark)| *mark = Flag::from(lamp == kept || random.one_in(2)));
     }
     let alone = random.below(PLACES);
     let temper = random.below(4);
@@ -97,7 +97,7 @@ fn collect(random: &mut Random, device: &mut Device, place: usize) {
     bytes.retain(|&b| b != b'\r');
     bytes.truncate(most);
     let line = &mut device.connections[place].line;
-    line.overlong = bytes.is_empty() && random.one_in(4);
+    line.overlong = Flag::from(bytes.is_empty() && random.one_in(4));
     line.held = bytes.len();
     line.bytes[..bytes.len()].copy_from_slice(&bytes);
 }
@@ -114,7 +114,7 @@ pub fn damaged(random: &mut Random) -> Device {
 
 /// How many fields `damage` knows: those of settings and own part, then those of each place's connection.
 pub const FIELDS: usize = SHARED + PLACES * OF_A_PLACE;
-const SHARED: usize = 18;
+const SHARED: usize = 19;
 const OF_A_PLACE: usize = 8;
 
 /// Replaces one field, of those that a record has, in their order.
@@ -151,13 +151,27 @@ pub fn damage(random: &mut Random, device: &mut Device, field: usize) {
         15 => own.lamps[random.below(8)] = random.pick(&[0, 1, 359_999_999, 360_000_000, u32::MAX]),
         16 => {
             let lamp = random.below(8);
-            own.enabled[lamp] = !own.enabled[lamp];
+            own.enabled[lamp] = flag(random, own.enabled[lamp]);
         }
-        17 => own.enabled = [random.one_in(4); 8],
+        17 => own.enabled = [Flag::from(random.one_in(4)); 8],
+        18 => {
+            let flags = [&mut own.video_muted, &mut own.audio_muted, &mut own.fault, &mut own.frozen];
+            let damaged = flags.into_iter().nth(random.below(4)).expect("one of four");
+            *damaged = flag(random, *damaged);
+        }
         _ => {
             let (place, field) = ((field - SHARED) / OF_A_PLACE, (field - SHARED) % OF_A_PLACE);
             damage_connection(random, &mut device.connections[place], field);
         }
+    }
+}
+
+/// The other one of 0 and 1, or a byte that no legal record has there.
+pub fn flag(random: &mut Random, was: Flag) -> Flag {
+    match random.below(4) {
+        0 | 1 => !was,
+        2 => Flag(1 << random.from_to(1, 7) | was.0),
+        _ => Flag(random.from_to(2, 255) as u8),
     }
 }
 
@@ -166,7 +180,7 @@ fn damage_connection(random: &mut Random, connection: &mut Connection, field: us
         0 => connection.phase = code(random),
         1 => connection.age = random.pick(&[0, 1, 29, 30, 31, u32::MAX]),
         2 => connection.random = random.pick(&[0, 1, u32::MAX]),
-        3 => connection.line.overlong = !connection.line.overlong,
+        3 => connection.line.overlong = flag(random, connection.line.overlong),
         4 => connection.line.held = count(random, connection.line.held, 167),
         5 => connection.line.held = count(random, connection.line.held, 135),
         6 => connection.line.bytes[random.below(167)] = random.pick(b"\r\x00\n1"),

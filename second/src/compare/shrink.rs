@@ -2,7 +2,7 @@
 
 use super::{Case, class_2_shrink, days, panel_shrink, recorded, tables};
 use crate::face::wire::Wire;
-use crate::face::{Act, Command, Connection, Device, Lent, Name, PLACES};
+use crate::face::{Act, Command, Connection, Device, Flag, Lent, Name, PLACES};
 use crate::reference::form::{self, Stored};
 use crate::reference::rules::unmistaken;
 
@@ -101,9 +101,9 @@ fn plainer_records(device: &Device) -> impl Iterator<Item = Device> {
         let fewer = d.settings.lamp_count.saturating_sub(1).min(7);
         d.settings.lamp_count = fewer;
         d.own.lamps[fewer] = 0;
-        d.own.enabled[fewer] = false;
+        d.own.enabled[fewer] = Flag::NO;
     });
-    change(&|d| (0..8).for_each(|lamp| d.own.enabled[lamp] = lamp < d.settings.lamp_count));
+    change(&|d| (0..8).for_each(|lamp| d.own.enabled[lamp] = Flag::from(lamp < d.settings.lamp_count)));
     if device.own.lamps[0] == 0 {
         change(&|d| d.own.lamps.rotate_left(1));
         change(&|d| {

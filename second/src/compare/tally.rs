@@ -193,8 +193,8 @@ fn panel_kind(act: &Act, after: &Panel) -> &'static str {
         (0, 1) => "PJLINK 0",
         (0, _) => "PJLINK 1",
         (_, 0) => "ERRA",
-        _ if !before.under_way => "late",
-        _ if after.under_way => "malformed or foreign",
+        _ if !before.under_way.is_raised() => "late",
+        _ if after.under_way.is_raised() => "malformed or foreign",
         _ if readings(before) != readings(after) => "shown",
         _ => "ended",
     }

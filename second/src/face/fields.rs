@@ -2,8 +2,8 @@
 
 use super::wire::Wire;
 use super::{
-    Answer, Changed, Command, Compared, Connection, Device, Digest, Entry, Greeting, Line, Log, Name, Opened, Own,
-    Heard, PLACES, Panel, PanelChanged, PanelSent, Plan, Reading, Received, Settings, Text, Verdict, Written,
+    Answer, Changed, Command, Compared, Connection, Device, Digest, Entry, Flag, Greeting, Heard, Line, Log, Name, Opened,
+    Own, PLACES, Panel, PanelChanged, PanelSent, Plan, Reading, Received, Settings, Text, Verdict, Written,
 };
 
 /// A value's fields, as (path, value) in their order.
@@ -98,6 +98,18 @@ impl<const N: usize> Fields for [u8; N] {
 impl Fields for [u32; 8] {
     fn list(&self, path: &str, into: &mut Vec<(String, String)>) {
         into.push((path.to_string(), format!("{self:?}")));
+    }
+}
+
+impl Fields for Flag {
+    fn list(&self, path: &str, into: &mut Vec<(String, String)>) {
+        self.0.list(path, into);
+    }
+}
+
+impl Fields for [Flag; 8] {
+    fn list(&self, path: &str, into: &mut Vec<(String, String)>) {
+        into.push((path.to_string(), format!("{:?}", self.map(|flag| flag.0))));
     }
 }
 

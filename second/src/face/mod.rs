@@ -1,10 +1,12 @@
 //! The face that a host links, as `include/ceiling.h` declares it: its records, field by field in that order, and its
 //! calls on the archive.
 //!
-//! A `bool` is 0 or 1 at this border; no other value is ever lent for one, since a host in C or Rust cannot have one.
+//! A `bool` is 0 or 1 at this border; no other value is ever lent for one, since a host in C or Rust cannot have one. A
+//! record has no `bool`: its flags are bytes ([`Flag`]), and any is lent.
 
 mod call;
 pub mod fields;
+mod flag;
 mod hand_on;
 mod panel;
 mod recorded;
@@ -12,6 +14,7 @@ mod service;
 pub mod wire;
 
 pub use call::{Act, Answer, Lent, Lent2};
+pub use flag::Flag;
 pub use hand_on::{InPlace, Side};
 pub use panel::{Entry, Heard, Panel, PanelAct, PanelCall, PanelChanged, PanelSent};
 pub use recorded::{Again, Kept, Log, Part, Said};
@@ -84,13 +87,13 @@ pub struct Own {
     pub power: u8,
     pub left: u32,
     pub chosen: usize,
-    pub video_muted: bool,
-    pub audio_muted: bool,
-    pub fault: bool,
+    pub video_muted: Flag,
+    pub audio_muted: Flag,
+    pub fault: Flag,
     pub errors: [u8; 6],
     pub lamps: [u32; 8],
-    pub enabled: [bool; 8],
-    pub frozen: bool,
+    pub enabled: [Flag; 8],
+    pub frozen: Flag,
     pub speaker: u8,
     pub microphone: u8,
 }
@@ -98,7 +101,7 @@ pub struct Own {
 #[repr(C)]
 #[derive(Clone, Copy, PartialEq, Eq, Debug)]
 pub struct Line {
-    pub overlong: bool,
+    pub overlong: Flag,
     pub held: usize,
     pub bytes: [u8; 167],
 }
@@ -230,7 +233,7 @@ impl Name {
 
 impl Connection {
     pub const CLOSED: Connection =
-        Connection { phase: 0, age: 0, random: 0, line: Line { overlong: false, held: 0, bytes: [0; 167] } };
+        Connection { phase: 0, age: 0, random: 0, line: Line { overlong: Flag::NO, held: 0, bytes: [0; 167] } };
 }
 
 impl Device {
@@ -256,13 +259,13 @@ impl Device {
             power: 0,
             left: 0,
             chosen: 0,
-            video_muted: false,
-            audio_muted: false,
-            fault: false,
+            video_muted: Flag::NO,
+            audio_muted: Flag::NO,
+            fault: Flag::NO,
             errors: [0; 6],
             lamps: [0; 8],
-            enabled: [false; 8],
-            frozen: false,
+            enabled: [Flag::NO; 8],
+            frozen: Flag::NO,
             speaker: 0,
             microphone: 0,
         },

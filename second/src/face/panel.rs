@@ -1,6 +1,6 @@
 //! The workroom panel (RULES, Panel): its records, field by field as `include/ceiling.h` has them, and the calls on it.
 
-use super::{Command, Reading, Text};
+use super::{Command, Flag, Reading, Text};
 
 /// One projector of a panel. `greeting` is 0 where none has come yet, 1 for `PJLINK 0`, 2 for `PJLINK 1`.
 #[repr(C)]
@@ -9,18 +9,18 @@ pub struct Entry {
     pub password: Text,
     pub greeting: u8,
     pub random: u32,
-    pub led: bool,
-    pub under_way: bool,
+    pub led: Flag,
+    pub under_way: Flag,
     pub command: Command,
-    pub power_known: bool,
-    pub input_known: bool,
-    pub lamps_known: bool,
+    pub power_known: Flag,
+    pub input_known: Flag,
+    pub lamps_known: Flag,
     pub power: u8,
     pub input_type: u8,
     pub input_number: u8,
     pub lamp_count: usize,
     pub hours: [u32; 8],
-    pub lit: [bool; 8],
+    pub lit: [Flag; 8],
     pub strays: u32,
 }
 
@@ -99,18 +99,18 @@ impl Entry {
         password: Text::EMPTY,
         greeting: 0,
         random: 0,
-        led: false,
-        under_way: false,
+        led: Flag::NO,
+        under_way: Flag::NO,
         command: Command { code: 0, first: 0, second: 0 },
-        power_known: false,
-        input_known: false,
-        lamps_known: false,
+        power_known: Flag::NO,
+        input_known: Flag::NO,
+        lamps_known: Flag::NO,
         power: 0,
         input_type: 0,
         input_number: 0,
         lamp_count: 0,
         hours: [0; 8],
-        lit: [false; 8],
+        lit: [Flag::NO; 8],
         strays: 0,
     };
 }

@@ -1,7 +1,7 @@
 //! How calls and answers go to a process and back: every field in its order, numbers with their lowest byte first, a
 //! `size_t` as eight bytes, a slice after its length. `host/host.c` is the other end.
 
-use super::{Act, Answer, Day, Device, Lent, Lent2, PanelAct, PanelCall, Said};
+use super::{Act, Answer, Day, Device, Flag, Lent, Lent2, PanelAct, PanelCall, Said};
 
 pub trait Wire {
     fn put(&self, out: &mut Vec<u8>);
@@ -27,6 +27,16 @@ impl Wire for bool {
 
     fn get(from: &mut &[u8]) -> bool {
         u8::get(from) != 0
+    }
+}
+
+impl Wire for Flag {
+    fn put(&self, out: &mut Vec<u8>) {
+        self.0.put(out);
+    }
+
+    fn get(from: &mut &[u8]) -> Flag {
+        Flag(u8::get(from))
     }
 }
 

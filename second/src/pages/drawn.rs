@@ -1,14 +1,14 @@
-//! What a page has to show of a log (RULES, Floor log): "a row for each day that has a second of the log, 86,400 seconds
-//! a day since the log began, and for the first where there is none"; in a row "a band for each lamp, with its number; on
-//! it a bar for each stretch with a second in that day, cut at the day's ends"; and each lamp's sums.
+//! What a page has to show of a log (RULES, Floor log): of each day with a second of the log, "86,400 seconds a day since
+//! the log began, and of the first where there is none", either a row of its own, in it "a band for each lamp, with its
+//! number; on it a bar for each stretch with a second in that day, cut at the day's ends", or, with the days beside it in
+//! which no lamp burnt, one line; and each lamp's sums.
 
 use crate::burnt::{Stretch, Sum, Told};
 
 pub const DAY: u128 = 86_400;
 
-/// "A day begins at x = 90 and is 960 wide": in hundredths.
-pub const LEFT: u64 = 90 * 100;
-pub const WIDE: u64 = 960 * 100;
+/// "a picture is 86,400 wide, a unit a second".
+pub const WIDE: u64 = 86_400;
 
 #[derive(Debug)]
 pub struct Drawn {
@@ -37,28 +37,54 @@ impl Bar {
         self.to - self.from
     }
 
-    pub fn x(&self) -> u64 {
-        LEFT + hundredths(self.from)
-    }
-
-    pub fn width(&self) -> u64 {
-        hundredths(self.seconds())
-    }
-
     /// "The bar's title tells the whole stretch".
     pub fn title(&self) -> String {
         title(self.lamp, self.stretch.from, self.stretch.to)
     }
 }
 
-/// "90 seconds a unit; x and width of a bar are in hundredths, rounded down".
-pub fn hundredths(seconds: u64) -> u64 {
-    seconds * 100 / 90
-}
-
 /// "`lamp 1 from 20 to 80: 60 seconds`".
 pub fn title(lamp: usize, from: u128, to: u128) -> String {
     format!("lamp {lamp} from {from} to {to}: {} seconds", to - from)
+}
+
+/// A row of the table of the days, counted from 1.
+#[derive(Debug, PartialEq, Eq)]
+pub enum Row {
+    Day(usize),
+    /// No lamp burnt from the one day to the other.
+    Idle(usize, usize),
+}
+
+impl Row {
+    /// "its day", or of the days in which no lamp burnt the first and the last.
+    pub fn name(&self) -> String {
+        match self {
+            Row::Day(day) => format!("day {day}"),
+            Row::Idle(first, last) if first == last => format!("day {first}"),
+            Row::Idle(first, last) => format!("days {first} to {last}"),
+        }
+    }
+}
+
+impl Drawn {
+    pub fn rows(&self) -> Vec<Row> {
+        let mut rows = Vec::new();
+        for (place, lamps) in self.days.iter().enumerate() {
+            let day = place + 1;
+            let is_idle = lamps.iter().all(Vec::is_empty);
+            match rows.last_mut() {
+                Some(Row::Idle(_, last)) if is_idle => *last = day,
+                _ => rows.push(if is_idle { Row::Idle(day, day) } else { Row::Day(day) }),
+            }
+        }
+        rows
+    }
+}
+
+/// "hours and minutes, rounded down, and all its seconds".
+pub fn timed(seconds: u128) -> String {
+    format!("{} h {} min ({seconds} s)", seconds / 3600, seconds / 60 % 60)
 }
 
 pub fn drawn(told: Told) -> Drawn {
@@ -82,28 +108,38 @@ mod tests {
     use crate::burnt::told;
 
     /// Of the sample set-up, on from this second on, and for so long.
-    fn days(from: u32, seconds: u32) -> Vec<Vec<(u64, u64, u64, u64)>> {
+    fn page(from: u32, seconds: u32) -> Drawn {
         let log = format!("T {from}\nO 00000000\nR %1POWR 1\nT {seconds}\n");
-        let days = drawn(told(None, log.as_bytes()).unwrap()).days;
-        let bars =
-            |lamps: &Vec<Vec<Bar>>| lamps[0].iter().map(|bar| (bar.from, bar.to, bar.x(), bar.width())).collect();
-        days.iter().map(bars).collect()
+        drawn(told(None, log.as_bytes()).unwrap())
+    }
+
+    fn days(from: u32, seconds: u32) -> Vec<Vec<(u64, u64)>> {
+        let bars = |lamps: &Vec<Vec<Bar>>| lamps[0].iter().map(|bar| (bar.from, bar.to)).collect();
+        page(from, seconds).days.iter().map(bars).collect()
     }
 
     #[test]
     fn cut_at_midnight() {
         assert_eq!(days(0, 0), [[]]);
-        assert_eq!(days(0, 86_400), [[(0, 86_400, 9000, 96_000)]]);
-        assert_eq!(days(86_399, 1), [[(86_399, 86_400, 104_998, 1)]]);
-        assert_eq!(days(86_400, 1), [vec![], vec![(0, 1, 9000, 1)]]);
+        assert_eq!(days(0, 86_400), [[(0, 86_400)]]);
+        assert_eq!(days(86_399, 1), [[(86_399, 86_400)]]);
+        assert_eq!(days(86_400, 1), [vec![], vec![(0, 1)]]);
         assert_eq!(days(86_400, 0), [[]]);
-        let three = [[(80_000, 86_400, 97_888, 7111)], [(0, 86_400, 9000, 96_000)], [(0, 8, 9000, 8)]];
-        assert_eq!(days(80_000, 6400 + 86_400 + 8), three);
+        assert_eq!(days(80_000, 6400 + 86_400 + 8), [[(80_000, 86_400)], [(0, 86_400)], [(0, 8)]]);
+    }
+
+    #[test]
+    fn idle_days() {
+        assert_eq!(page(0, 0).rows(), [Row::Idle(1, 1)]);
+        assert_eq!(page(86_400, 1).rows(), [Row::Idle(1, 1), Row::Day(2)]);
+        assert_eq!(page(4 * 86_400, 86_401).rows(), [Row::Idle(1, 4), Row::Day(5), Row::Day(6)]);
+        assert_eq!(Row::Idle(2, 4).name(), "days 2 to 4");
     }
 
     #[test]
     fn titles() {
         let bar = Bar { lamp: 1, day: 0, stretch: Stretch { from: 20, to: 80 }, from: 20, to: 80 };
-        assert_eq!((bar.title().as_str(), bar.x(), bar.width()), ("lamp 1 from 20 to 80: 60 seconds", 9022, 66));
+        assert_eq!(bar.title(), "lamp 1 from 20 to 80: 60 seconds");
+        assert_eq!(timed(3_719), "1 h 1 min (3719 s)");
     }
 }

@@ -1,6 +1,6 @@
 //! What a run over pages met, and which mistakes they were given.
 
-use super::drawn::{Bar, DAY};
+use super::drawn::{Bar, DAY, Row};
 use super::mistakes::MISTAKES;
 use super::{Drawn, Expected};
 use crate::burnt::Sum;
@@ -10,7 +10,7 @@ use crate::replay::lines;
 use crate::tally::Tally;
 use std::fmt;
 
-pub const KINDS: [&str; 15] = [
+pub const KINDS: [&str; 17] = [
     "a history",
     "a line that does not belong",
     "a form that does not load",
@@ -21,6 +21,8 @@ pub const KINDS: [&str; 15] = [
     "ten days and more",
     "seconds past 32 bits",
     "a day without a bar",
+    "days without a bar, in one line",
+    "a page without a picture",
     "a bar from midnight on",
     "a bar until midnight",
     "a bar of a whole day",
@@ -70,6 +72,8 @@ impl Met {
             ("ten days and more", drawn.days.len() >= 10),
             ("seconds past 32 bits", any_bar(|bar| bar.stretch.to > u32::MAX.into())),
             ("a day without a bar", drawn.days.iter().any(|lamps| lamps.iter().all(Vec::is_empty))),
+            ("days without a bar, in one line", drawn.rows().iter().any(|row| matches!(row, Row::Idle(a, b) if a < b))),
+            ("a page without a picture", drawn.rows().iter().all(|row| matches!(row, Row::Idle(..)))),
             ("a bar from midnight on", any_bar(|bar| bar.from == 0)),
             ("a bar until midnight", any_bar(|bar| u128::from(bar.to) == DAY)),
             ("a bar of a whole day", any_bar(|bar| u128::from(bar.seconds()) == DAY)),

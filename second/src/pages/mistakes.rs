@@ -1,9 +1,9 @@
 //! The deliberate mistakes: each makes of a page that shows what it has to show one that someone might really print. It
 //! gives none where this page would stay as right as it is.
 
-use super::drawn::{self, DAY, Drawn, LEFT, hundredths, title};
+use super::drawn::{self, DAY, Drawn, Row, timed, title};
 use super::html::Part;
-use super::read::{Band, Bar, Label, Page};
+use super::read::{Band, Bar, Hour, Page, Picture, Shown};
 use crate::burnt::Sum;
 use crate::compare::random::Random;
 use std::ops::Range;
@@ -30,15 +30,15 @@ pub const MISTAKES: &[(&str, Wrong)] = &[
     }),
     ("a bar lies on another lamp's band", |sheet, random| {
         let (bar, drawn) = any(sheet.bars(), random)?;
-        let bands = &sheet.page.rows[drawn.day].bands;
+        let bands = &sheet.picture_of(drawn.day).bands;
         let other = (0..bands.len()).filter(|place| place + 1 != drawn.lamp).collect();
         let other = &bands[any(other, random)?];
         Some(sheet.with([(bar.rect.y.range(), other.lane.y.text.to_string())]))
     }),
     ("a bar lies on another day's band", |sheet, random| {
         let (bar, drawn) = any(sheet.bars(), random)?;
-        let others = (0..sheet.page.rows.len()).filter(|day| *day != drawn.day).collect();
-        let other = &sheet.page.rows[any(others, random)?].bands[drawn.lamp - 1].lane;
+        let others = sheet.days().into_iter().filter(|day| *day != drawn.day).collect();
+        let other = &sheet.picture_of(any(others, random)?).bands[drawn.lamp - 1].lane;
         let moved = [
             &sheet.text[bar.rect.range.start..bar.rect.y.at],
             other.y.text,
@@ -48,7 +48,7 @@ pub const MISTAKES: &[(&str, Wrong)] = &[
     }),
     ("a bar lies under its band", |sheet, random| {
         let (bar, drawn) = any(sheet.bars(), random)?;
-        let (range, lane) = (bar.rect.range.clone(), &sheet.page.rows[drawn.day].bands[drawn.lamp - 1].lane.range);
+        let (range, lane) = (bar.rect.range.clone(), &sheet.picture_of(drawn.day).bands[drawn.lamp - 1].lane.range);
         let moved = sheet.text[range.clone()].to_string();
         Some(sheet.with([(range, String::new()), (lane.start..lane.start, moved)]))
     }),
@@ -62,41 +62,44 @@ pub const MISTAKES: &[(&str, Wrong)] = &[
     }),
     ("a bar has the colour of its band", |sheet, random| {
         let (bar, drawn) = any(sheet.bars(), random)?;
-        let band = &sheet.page.rows[drawn.day].bands[drawn.lamp - 1];
+        let band = &sheet.picture_of(drawn.day).bands[drawn.lamp - 1];
         Some(sheet.with([(bar.rect.colour.range(), band.lane.colour.text.to_string())]))
     }),
     ("bars have a colour that there is not", |sheet, _| {
         let colours: Vec<_> = sheet.bars().iter().map(|(bar, _)| bar.rect.colour.range()).collect();
         (!colours.is_empty()).then(|| sheet.with(colours.into_iter().map(|range| (range, "m".to_string()))))
     }),
-    // "x and width of a bar are in hundredths, rounded down"
-    ("x is the second of the day", |sheet, random| sheet.at_x(random, |bar| LEFT + 100 * bar.from)),
-    ("x begins at the page's edge", |sheet, random| sheet.at_x(random, |bar| hundredths(bar.from))),
-    ("x is rounded up", |sheet, random| sheet.at_x(random, |bar| LEFT + (bar.from * 100).div_ceil(90))),
-    ("x is rounded to the nearest", |sheet, random| sheet.at_x(random, |bar| LEFT + (bar.from * 100 + 45) / 90)),
-    ("x is in whole units", |sheet, random| sheet.at_x(random, |bar| bar.x() / 100 * 100)),
-    ("x is in tenths", |sheet, random| sheet.at_x(random, |bar| bar.x() / 10 * 10)),
-    ("x has hundredths without their zero", |sheet, random| sheet.at_x(random, |bar| without_zero(bar.x()))),
-    ("x has ninths for hundredths", |sheet, random| sheet.at_x(random, |bar| LEFT + with_ninths(bar.from))),
-    ("x is a second late", |sheet, random| sheet.at_x(random, |bar| LEFT + hundredths(bar.from + 1))),
-    ("x is counted from the log's beginning", |sheet, random| {
-        sheet.at_x(random, |bar| LEFT + hundredths(bar.stretch.from as u64))
+    // "a picture is 86,400 wide, a unit a second"
+    ("x is in minutes", |sheet, random| sheet.at_x(random, |bar| bar.from / 60)),
+    ("x is in units of 90 seconds, from 90 on", |sheet, random| sheet.at_x(random, |bar| 90 + bar.from / 90)),
+    ("x is a minute's first second", |sheet, random| sheet.at_x(random, |bar| bar.from / 60 * 60)),
+    ("x is a minute's last second", |sheet, random| sheet.at_x(random, |bar| bar.from / 60 * 60 + 59)),
+    ("x is the next whole minute", |sheet, random| sheet.at_x(random, |bar| bar.from.next_multiple_of(60))),
+    ("x is the nearest whole minute", |sheet, random| sheet.at_x(random, |bar| (bar.from + 30) / 60 * 60)),
+    ("x is a second late", |sheet, random| sheet.at_x(random, |bar| bar.from + 1)),
+    ("x is a second early", |sheet, random| sheet.at_x(random, |bar| bar.from.saturating_sub(1))),
+    ("x is an hour late", |sheet, random| sheet.at_x(random, |bar| bar.from + 3600)),
+    ("x is the bar's end", |sheet, random| sheet.at_x(random, |bar| bar.to)),
+    ("x is counted from the log's beginning", |sheet, random| sheet.at_x(random, |bar| bar.stretch.from as u64)),
+    ("a bar is one second too long", |sheet, random| sheet.in_width(random, |bar| bar.seconds() + 1)),
+    ("a bar is one second too short", |sheet, random| sheet.in_width(random, |bar| bar.seconds() - 1)),
+    ("a bar is as wide as the day is until its end", |sheet, random| sheet.in_width(random, |bar| bar.to)),
+    ("a bar's width is in minutes", |sheet, random| sheet.in_width(random, |bar| bar.seconds() / 60)),
+    ("a bar's width is in units of 90 seconds", |sheet, random| sheet.in_width(random, |bar| bar.seconds() / 90)),
+    ("a bar is whole minutes wide", |sheet, random| {
+        sheet.in_width(random, |bar| bar.seconds().next_multiple_of(60))
     }),
-    ("a bar is one second too long", |sheet, random| sheet.in_width(random, |bar| hundredths(bar.seconds() + 1))),
-    ("a bar is one second too short", |sheet, random| sheet.in_width(random, |bar| hundredths(bar.seconds() - 1))),
-    ("a bar is as wide as the day is until its end", |sheet, random| sheet.in_width(random, |bar| hundredths(bar.to))),
-    ("a bar's width is rounded up", |sheet, random| sheet.in_width(random, |bar| (100 * bar.seconds()).div_ceil(90))),
-    ("a bar's width is from one hundredth to another", |sheet, random| {
-        sheet.in_width(random, |bar| hundredths(bar.to) - hundredths(bar.from))
-    }),
-    ("a bar's width has ninths for hundredths", |sheet, random| {
-        sheet.in_width(random, |bar| with_ninths(bar.seconds()))
-    }),
-    ("a bar's width has hundredths without their zero", |sheet, random| {
-        sheet.in_width(random, |bar| without_zero(bar.width()))
-    }),
+    ("a bar is wide enough to be seen", |sheet, random| sheet.in_width(random, |bar| bar.seconds().max(90))),
     ("a bar is not cut at midnight", |sheet, random| {
-        sheet.in_width(random, |bar| hundredths((bar.stretch.to - bar.stretch.from) as u64))
+        sheet.in_width(random, |bar| (bar.stretch.to - bar.stretch.from) as u64)
+    }),
+    ("a picture is an hour wide", |sheet, random| {
+        let picture = any(sheet.page.pictures().collect(), random)?;
+        Some(sheet.with([(picture.seen[2].range(), "3600".to_string())]))
+    }),
+    ("a picture is not stretched to the hours above it", |sheet, random| {
+        let picture = any(sheet.page.pictures().collect(), random)?;
+        Some(sheet.with([(picture.stretched.range(), "xMidYMid".to_string())]))
     }),
     // "The bar's title tells the whole stretch"
     ("a title tells what lies in the day", |sheet, random| {
@@ -140,33 +143,57 @@ pub const MISTAKES: &[(&str, Wrong)] = &[
         Some(sheet.with([(first, other), (second, one)]))
     }),
     ("the day after the log's last second has a row", |sheet, _| {
-        let (row, last) = (sheet.rows().pop()?, sheet.page.rows.last()?);
-        let day = last.day.text.range();
-        let next = format!("day {}", sheet.page.rows.len() + 1);
-        let bars = last.bands.iter().flat_map(|band| &band.bars).map(|bar| (bar.rect.range.clone(), String::new()));
-        let changes: Vec<_> = bars.chain([(day, next)]).collect();
-        let next = with(sheet.text, row.clone(), changes);
+        let row = sheet.rows().pop()?;
+        let next = format!("<tr><th scope=\"row\">day {}</th><td>no lamp burnt</td></tr>", sheet.drawn.days.len() + 1);
         Some(sheet.with([(row.end..row.end, next)]))
     }),
+    ("days without a burn end a day early", |sheet, random| {
+        sheet.in_name(random, |row| match row {
+            Row::Idle(first, last) if first < last => Row::Idle(*first, *last - 1).name(),
+            other => other.name(),
+        })
+    }),
+    ("days without a burn begin a day late", |sheet, random| {
+        sheet.in_name(random, |row| match row {
+            Row::Idle(first, last) if first < last => Row::Idle(*first + 1, *last).name(),
+            other => other.name(),
+        })
+    }),
+    ("of a day with a burn it is said that no lamp burnt", |sheet, random| {
+        let pictures = sheet.page.rows.iter().filter(|row| matches!(row.shown, Shown::Picture(_)));
+        let row = any(pictures.collect(), random)?;
+        let line = format!("<tr><th scope=\"row\">{}</th><td>no lamp burnt</td></tr>", row.name.text);
+        Some(sheet.with([(row.range.clone(), line)]))
+    }),
+    ("of days without a burn it is said that a lamp burnt", |sheet, random| {
+        let words = sheet.page.rows.iter().filter_map(|row| match row.shown {
+            Shown::Words(words) => Some(words),
+            Shown::Picture(_) => None,
+        });
+        Some(sheet.with([(any(words.collect(), random)?.range(), "a lamp burnt".to_string())]))
+    }),
     ("not all bands of a day are seen", |sheet, random| {
-        let row = any(sheet.page.rows.iter().filter(|row| !row.bands.is_empty()).collect(), random)?;
-        Some(sheet.with([(row.seen[3].range(), "8".to_string())]))
+        let picture = any(sheet.page.pictures().collect(), random)?;
+        Some(sheet.with([(picture.seen[3].range(), "8".to_string())]))
     }),
-    ("the name of a day is not seen", |sheet, random| {
+    ("a day has no name", |sheet, random| {
         let row = any(sheet.page.rows.iter().collect(), random)?;
-        Some(sheet.with([(row.seen[3].range(), "9".to_string())]))
+        Some(sheet.with([(row.name.range(), String::new())]))
     }),
-    ("a day is drawn smaller than another", |sheet, random| {
-        let row = any(sheet.page.rows.iter().collect(), random)?;
-        Some(sheet.with([(row.seen[2].range(), "2200".to_string())]))
+    ("who does not see a picture is told of another day", |sheet, random| {
+        let pictures = sheet.page.pictures().collect::<Vec<_>>();
+        let [one, other] = [any(pictures.clone(), random)?.label, any(pictures, random)?.label];
+        (one.text != other.text).then(|| sheet.with([(one.range(), other.text.to_string())]))
     }),
-    ("days are numbered from 0", |sheet, _| {
-        let days = sheet.page.rows.iter().enumerate();
-        Some(sheet.with(days.map(|(place, row)| (row.day.text.range(), format!("day {place}")))))
+    ("days are numbered from 0", |sheet, random| {
+        sheet.in_name(random, |row| match row {
+            Row::Day(day) => Row::Day(day - 1).name(),
+            Row::Idle(first, last) => Row::Idle(first - 1, last - 1).name(),
+        })
     }),
     ("lamps are numbered from 0", |sheet, random| {
-        let row = any(sheet.page.rows.iter().filter(|row| !row.bands.is_empty()).collect(), random)?;
-        let bands = row.bands.iter().enumerate();
+        let picture = any(sheet.page.pictures().collect(), random)?;
+        let bands = picture.bands.iter().enumerate();
         Some(sheet.with(bands.map(|(place, band)| (band.lamp.text.range(), format!("lamp {place}")))))
     }),
     ("a lamp has no band", |sheet, random| {
@@ -179,8 +206,8 @@ pub const MISTAKES: &[(&str, Wrong)] = &[
     ("an hour is left out", |sheet, random| Some(sheet.without(any(sheet.hours(), random)?.range.clone()))),
     ("an hour stands an hour late", |sheet, random| {
         let hour = any(sheet.hours(), random)?;
-        let at: u64 = hour.x.text.parse().ok()?;
-        Some(sheet.with([(hour.x.range(), (at + 40).to_string())]))
+        let share: f64 = hour.share.text.parse().ok()?;
+        Some(sheet.with([(hour.share.range(), (share + 100.0 / 24.0).to_string())]))
     }),
     // "Below stands a table: each lamp's seconds at the start, burnt, and now"
     ("a lamp has no row in the table", |sheet, random| {
@@ -190,19 +217,28 @@ pub const MISTAKES: &[(&str, Wrong)] = &[
         let range = any(sheet.page.table.totals.iter().collect(), random)?.range.clone();
         Some(sheet.with([(range.end..range.end, sheet.text[range].to_string())]))
     }),
-    ("a table's lamp is numbered from 0", |sheet, random| sheet.in_total(random, 0, |lamp, _| lamp.to_string())),
-    ("a lamp's start is one more", |sheet, random| sheet.in_total(random, 1, |_, sum| (sum.start + 1).to_string())),
+    ("a table's lamp is numbered from 0", |sheet, random| sheet.in_total(random, 0, |lamp, _| format!("lamp {lamp}"))),
+    ("a lamp's start is one more", |sheet, random| sheet.in_total(random, 1, |_, sum| timed(u128::from(sum.start) + 1))),
     ("what a lamp burnt is one less", |sheet, random| {
-        sheet.in_total(random, 2, |_, sum| sum.burnt.saturating_sub(1).to_string())
+        sheet.in_total(random, 2, |_, sum| timed(sum.burnt.saturating_sub(1)))
     }),
     ("what a lamp burnt stops at its limit", |sheet, random| {
-        sheet.in_total(random, 2, |_, sum| (sum.now - sum.start).to_string())
+        sheet.in_total(random, 2, |_, sum| timed((sum.now - sum.start).into()))
     }),
     ("a lamp's seconds now are what it burnt", |sheet, random| {
-        sheet.in_total(random, 3, |_, sum| sum.burnt.to_string())
+        sheet.in_total(random, 3, |_, sum| timed(sum.burnt))
     }),
     ("a lamp's seconds now pass their limit", |sheet, random| {
-        sheet.in_total(random, 3, |_, sum| (u128::from(sum.start) + sum.burnt).to_string())
+        sheet.in_total(random, 3, |_, sum| timed(u128::from(sum.start) + sum.burnt))
+    }),
+    ("a lamp's minutes are rounded up", |sheet, random| {
+        sheet.in_total(random, 2, |_, sum| {
+            let minutes = sum.burnt.div_ceil(60);
+            format!("{} h {} min ({} s)", minutes / 60, minutes % 60, sum.burnt)
+        })
+    }),
+    ("a lamp's hours are told as minutes", |sheet, random| {
+        sheet.in_total(random, 2, |_, sum| format!("0 h {} min ({} s)", sum.burnt / 60, sum.burnt))
     }),
     ("two columns of the table stand in the other order", |sheet, random| {
         let place = random.from_to(1, 2);
@@ -262,24 +298,6 @@ pub const MISTAKES: &[(&str, Wrong)] = &[
     }),
 ];
 
-/// In hundredths.
-fn units(hundredths: u64) -> String {
-    format!("{}.{:02}", hundredths / 100, hundredths % 100)
-}
-
-/// Hundredths read as a number is that was written without the zero after its point.
-fn without_zero(hundredths: u64) -> u64 {
-    match hundredths % 100 {
-        few @ ..10 => hundredths + 9 * few,
-        _ => hundredths,
-    }
-}
-
-/// What is over a unit, told in parts of nine seconds.
-fn with_ninths(seconds: u64) -> u64 {
-    seconds / 90 * 100 + seconds % 90 / 9
-}
-
 fn any<T>(mut all: Vec<T>, random: &mut Random) -> Option<T> {
     if all.is_empty() { None } else { Some(all.swap_remove(random.below(all.len()))) }
 }
@@ -308,7 +326,25 @@ impl<'a> Sheet<'a> {
     }
 
     fn bands(&self) -> Vec<&'a Band<'a>> {
-        self.page.rows.iter().flat_map(|row| &row.bands).collect()
+        self.page.bands().collect()
+    }
+
+    /// The days that have a picture, from 0.
+    fn days(&self) -> Vec<usize> {
+        let rows = self.drawn.rows().into_iter();
+        rows.filter_map(|row| if let Row::Day(day) = row { Some(day - 1) } else { None }).collect()
+    }
+
+    fn picture_of(&self, day: usize) -> &'a Picture<'a> {
+        let place = self.days().into_iter().position(|drawn| drawn == day);
+        self.page.pictures().nth(place.expect("a bar lies in a picture")).expect("each day has its picture")
+    }
+
+    /// One of the rows that mistake names otherwise.
+    fn in_name(&self, random: &mut Random, wrong: impl Fn(&Row) -> String) -> Option<String> {
+        let rows = self.page.rows.iter().zip(self.drawn.rows()).filter(|(_, row)| wrong(row) != row.name());
+        let (shown, row) = any(rows.collect(), random)?;
+        Some(self.with([(shown.name.range(), wrong(&row))]))
     }
 
     /// Each with what has to be drawn there.
@@ -321,17 +357,17 @@ impl<'a> Sheet<'a> {
         self.page.rows.iter().map(|row| row.range.clone()).collect()
     }
 
-    fn hours(&self) -> Vec<&'a Label<'a>> {
+    fn hours(&self) -> Vec<&'a Hour<'a>> {
         self.page.hours.iter().collect()
     }
 
     /// One of the bars whose x that mistake says otherwise.
     fn at_x(&self, random: &mut Random, wrong: impl Fn(&drawn::Bar) -> u64) -> Option<String> {
-        self.said(random, |bar| bar.rect.x, |bar| units(bar.x()), |bar| units(wrong(bar)))
+        self.said(random, |bar| bar.rect.x, |bar| bar.from.to_string(), |bar| wrong(bar).to_string())
     }
 
     fn in_width(&self, random: &mut Random, wrong: impl Fn(&drawn::Bar) -> u64) -> Option<String> {
-        self.said(random, |bar| bar.rect.width, |bar| units(bar.width()), |bar| units(wrong(bar)))
+        self.said(random, |bar| bar.rect.width, |bar| bar.seconds().to_string(), |bar| wrong(bar).to_string())
     }
 
     fn in_title(&self, random: &mut Random, wrong: impl Fn(&drawn::Bar) -> String) -> Option<String> {

@@ -1,15 +1,19 @@
 //! A page read back: its hours, rows, bands, bars and table, each with the bytes that say it.
 //!
 //! What belongs to what is taken as somebody sees it who looks at the page, by where it stands: a bar lies on the band that
-//! it is drawn over, a band is the lamp's that is written beside it. A drawing has the hours, or one day.
+//! it is drawn over, a band is the lamp's that is written beside it: the names beside a picture are 18 high each, and a
+//! picture is as high as it says, however wide it becomes.
 
-use super::drawn::{LEFT, WIDE};
-use super::html::{self, Element, Part};
+use super::drawn::WIDE;
+use super::html::{self, Element, Node, Part};
 use std::ops::Range;
+
+/// The height of a lamp's name beside a picture.
+const NAME: u64 = 18;
 
 #[derive(Debug)]
 pub struct Page<'a> {
-    pub hours: Vec<Label<'a>>,
+    pub hours: Vec<Hour<'a>>,
     pub rows: Vec<Row<'a>>,
     pub table: Table<'a>,
     /// Paragraphs that begin with `! `.
@@ -27,22 +31,44 @@ pub struct Stray<'a> {
     pub text: Part<'a>,
 }
 
-/// A text in a drawing.
+/// An hour above the pictures.
+#[derive(Debug)]
+pub struct Hour<'a> {
+    pub range: Range<usize>,
+    pub text: Part<'a>,
+    /// Where it stands, as a share of their width.
+    pub share: Part<'a>,
+}
+
+/// The name of a lamp beside a picture.
 #[derive(Clone, Debug)]
 pub struct Label<'a> {
     pub range: Range<usize>,
     pub text: Part<'a>,
-    pub x: Part<'a>,
-    /// Of its base line, in hundredths, as all places are here.
-    y: u64,
 }
 
+/// Of a day, or of days in which no lamp burnt.
 #[derive(Debug)]
 pub struct Row<'a> {
     pub range: Range<usize>,
+    pub name: Part<'a>,
+    pub shown: Shown<'a>,
+}
+
+#[derive(Debug)]
+pub enum Shown<'a> {
+    Words(Part<'a>),
+    Picture(Picture<'a>),
+}
+
+#[derive(Debug)]
+pub struct Picture<'a> {
+    /// What somebody is told who does not see it.
+    pub label: Part<'a>,
     /// What can be seen of it: 0, 0, its width and its height.
     pub seen: [Part<'a>; 4],
-    pub day: Label<'a>,
+    /// How it is stretched to the width that there is.
+    pub stretched: Part<'a>,
     pub bands: Vec<Band<'a>>,
 }
 
@@ -101,17 +127,64 @@ pub fn read(text: &str) -> Result<Page<'_>, String> {
     let strays = paragraphs.filter_map(|element| Some((element.range.clone(), element.text().ok()?)));
     let strays = strays.filter(|(_, text)| text.text.starts_with("! "));
     let strays = strays.map(|(range, text)| Stray { range, text }).collect();
-    let mut page = Page { hours: Vec::new(), rows: Vec::new(), table: table(&all)?, strays, styles, closings };
-    let mut width = None;
-    for drawing in all.iter().filter(|element| element.name == "svg") {
-        let seen = seen(drawing)?;
-        let wide = hundredths(seen[2])?;
-        if *width.get_or_insert(wide) != wide || wide < LEFT + WIDE {
-            return Err(at(drawing, "a day is not all seen, or smaller than another"));
-        }
-        page.draw(drawing, seen)?;
+    let tables: Vec<_> = all.iter().filter(|element| element.name == "table").collect();
+    let [days, lamps] = tables[..] else { return Err("it has not just two tables".to_string()) };
+    let (heads, rows) = parts(days)?;
+    let heads = cells(heads)?;
+    let [_, _, hours] = heads[..] else { return Err(at(days, "its head has not three cells")) };
+    let hours = hours.all().into_iter().filter(|element| element.name == "span").map(hour).collect::<Result<_, _>>()?;
+    let rows = rows.into_iter().map(row).collect::<Result<_, _>>()?;
+    let drawings = |element: &Element| element.all().iter().filter(|inside| inside.name == "svg").count();
+    if drawings(&html) != drawings(days) {
+        return Err("a drawing stands outside the table of the days".to_string());
     }
-    Ok(page)
+    Ok(Page { hours, rows, table: table(lamps)?, strays, styles, closings })
+}
+
+/// The row of a table's head, and the rows below it. Each row of a table is in one of the two.
+fn parts<'e, 'a>(table: &'e Element<'a>) -> Result<(&'e Element<'a>, Vec<&'e Element<'a>>), String> {
+    let rows_in = |element: &'e Element<'a>| element.all().into_iter().filter(|inside| inside.name == "tr").collect();
+    let of = |name| table.elements().find(|inside| inside.name == name).map_or(Vec::new(), rows_in);
+    let (heads, rows): (Vec<_>, _) = (of("thead"), of("tbody"));
+    match heads[..] {
+        [head] if 1 + rows.len() == Vec::len(&rows_in(table)) => Ok((head, rows)),
+        _ => Err(at(table, "it has not one head, and its rows below it")),
+    }
+}
+
+fn cells<'e, 'a>(row: &'e Element<'a>) -> Result<Vec<&'e Element<'a>>, String> {
+    let cells: Vec<_> = row.elements().collect();
+    match cells.iter().all(|cell| ["th", "td"].contains(&cell.name)) {
+        true => Ok(cells),
+        false => Err(at(row, "something else than a cell stands in it")),
+    }
+}
+
+fn hour<'a>(element: &Element<'a>) -> Result<Hour<'a>, String> {
+    let style = needed(element, "style")?;
+    let share = style.text.strip_prefix("left:").and_then(|share| share.strip_suffix('%'));
+    let share = share.ok_or_else(|| at(element, "it does not say where it stands"))?;
+    let share = Part { text: share, at: style.at + "left:".len() };
+    Ok(Hour { range: element.range.clone(), text: element.text()?, share })
+}
+
+fn row<'a>(row: &Element<'a>) -> Result<Row<'a>, String> {
+    let cells = cells(row)?;
+    let (name, shown) = match cells[..] {
+        [name, words] => (name, Shown::Words(words.text()?)),
+        [name, lamps, drawing] => {
+            let [Node::Element(drawing)] = &drawing.inside[..] else {
+                return Err(at(drawing, "not just one drawing stands in it"));
+            };
+            (name, Shown::Picture(picture(names(lamps)?, drawing)?))
+        }
+        _ => return Err(at(row, "it has not two cells or three")),
+    };
+    Ok(Row { range: row.range.clone(), name: name.text()?, shown })
+}
+
+fn names<'a>(cell: &Element<'a>) -> Result<Vec<Label<'a>>, String> {
+    cell.elements().map(|name| Ok(Label { range: name.range.clone(), text: name.text()? })).collect()
 }
 
 /// The four numbers of a drawing that say what is seen of it: from 0 and 0 on, so wide and so high.
@@ -132,56 +205,67 @@ fn seen<'a>(drawing: &Element<'a>) -> Result<[Part<'a>; 4], String> {
 /// What may say so.
 const ELSEWHERE: [&str; 5] = ["transform", "style", "display", "visibility", "opacity"];
 
+fn picture<'a>(names: Vec<Label<'a>>, drawing: &Element<'a>) -> Result<Picture<'a>, String> {
+    let seen = seen(drawing)?;
+    let high = number(seen[3])?;
+    if drawing.name != "svg" || number(seen[2])? != WIDE || number(needed(drawing, "height")?)? != high {
+        return Err(at(drawing, "it is no picture of a day, as high as it says"));
+    }
+    let (mut lanes, mut bars) = (Vec::new(), Vec::new());
+    for element in drawing.all() {
+        if let Some((name, _)) = element.attributes().find(|(name, _)| ELSEWHERE.contains(name)) {
+            return Err(at(element, &format!("by its {name} it is drawn elsewhere than it says, or not at all")));
+        }
+        let title = element.elements().find(|inside| inside.name == "title");
+        match (element.name, title) {
+            ("rect", Some(title)) => {
+                bars.push(Bar { rect: rect(element)?, title: title.text()?, titled: title.range.clone() })
+            }
+            ("rect", None) => lanes.push(lane(element)?),
+            ("svg" | "g" | "title" | "path" | "line", _) => (),
+            _ => return Err(at(element, "it is none of what a page is drawn of")),
+        }
+    }
+    if lanes.iter().any(|lane| lane.edges.end > high) {
+        return Err(at(drawing, "not all its bands are seen"));
+    }
+    if names.len() != lanes.len() {
+        return Err(at(drawing, "not each of its bands has a lamp beside it"));
+    }
+    let mut bands: Vec<Band> = Vec::new();
+    for (place, lamp) in names.into_iter().enumerate() {
+        let middle = NAME * place as u64 + NAME / 2;
+        let beside = lanes.iter().position(|lane| lane.edges.contains(&middle));
+        let lane = lanes.remove(beside.ok_or(format!("byte {}: a lamp without a band", lamp.range.start))?);
+        bands.push(Band { lamp, lane, bars: Vec::new() });
+    }
+    for bar in bars {
+        // what comes later is drawn over what came before
+        let is_over =
+            |band: &&mut Band| bar.rect.edges == band.lane.edges && bar.rect.range.start > band.lane.range.end;
+        let on = bands.iter_mut().find(is_over);
+        on.ok_or(format!("byte {}: a bar lies on no band", bar.rect.range.start))?.bars.push(bar);
+    }
+    for band in &mut bands {
+        band.bars.sort_by_key(|bar| number(bar.rect.x));
+    }
+    let stretched = needed(drawing, "preserveAspectRatio")?;
+    if stretched.text != "none" {
+        return Err(at(drawing, "it is not stretched to the hours above it"));
+    }
+    Ok(Picture { label: needed(drawing, "aria-label")?, seen, stretched, bands })
+}
+
 impl<'a> Page<'a> {
-    fn draw(&mut self, drawing: &Element<'a>, seen: [Part<'a>; 4]) -> Result<(), String> {
-        let (mut days, mut lamps, mut lanes, mut bars) = (Vec::new(), Vec::new(), Vec::new(), Vec::new());
-        for element in drawing.all() {
-            if let Some((name, _)) = element.attributes().find(|(name, _)| ELSEWHERE.contains(name)) {
-                return Err(at(element, &format!("by its {name} it is drawn elsewhere than it says, or not at all")));
-            }
-            let title = element.elements().find(|inside| inside.name == "title");
-            match (element.name, title) {
-                ("text", _) => match label(element)? {
-                    label if label.text.text.starts_with("day ") => days.push(label),
-                    label if label.text.text.starts_with("lamp ") => lamps.push(label),
-                    label => self.hours.push(label),
-                },
-                ("rect", Some(title)) => {
-                    bars.push(Bar { rect: rect(element)?, title: title.text()?, titled: title.range.clone() })
-                }
-                ("rect", None) => lanes.push(lane(element)?),
-                ("svg" | "g" | "title" | "path" | "line", _) => (),
-                _ => return Err(at(element, "it is none of what a page is drawn of")),
-            }
-        }
-        let lowest = lanes.iter().map(|lane| lane.edges.end).max();
-        if lowest > Some(hundredths(seen[3])?) {
-            return Err(at(drawing, "not all its bands are seen"));
-        }
-        let mut bands: Vec<Band> = Vec::new();
-        for lane in lanes {
-            bands.push(Band { lamp: beside(&lane, &mut lamps)?, lane, bars: Vec::new() });
-        }
-        for bar in bars {
-            // what comes later is drawn over what came before
-            let is_over =
-                |band: &&mut Band| bar.rect.edges == band.lane.edges && bar.rect.range.start > band.lane.range.end;
-            let on = bands.iter_mut().find(is_over);
-            on.ok_or(format!("byte {}: a bar lies on no band", bar.rect.range.start))?.bars.push(bar);
-        }
-        for band in &mut bands {
-            band.bars.sort_by_key(|bar| hundredths(bar.rect.x));
-        }
-        let range = drawing.range.clone();
-        match <[Label; 1]>::try_from(days) {
-            Ok([day]) if lamps.is_empty() && day.y <= hundredths(seen[3])? => {
-                self.rows.push(Row { range, seen, day, bands })
-            }
-            Ok([_]) if lamps.is_empty() => return Err(at(drawing, "its day's name is not seen")),
-            Err(days) if days.is_empty() && bands.is_empty() && self.rows.is_empty() => (),
-            _ => return Err(at(drawing, "it is neither the hours nor one day")),
-        }
-        Ok(())
+    pub fn pictures(&self) -> impl Iterator<Item = &Picture<'a>> {
+        self.rows.iter().filter_map(|row| match &row.shown {
+            Shown::Picture(picture) => Some(picture),
+            Shown::Words(_) => None,
+        })
+    }
+
+    pub fn bands(&self) -> impl Iterator<Item = &Band<'a>> {
+        self.pictures().flat_map(|picture| &picture.bands)
     }
 
     /// The colour that it is filled with: `#` and six lowercase hex digits.
@@ -211,61 +295,41 @@ fn needed<'a>(element: &Element<'a>, attribute: &str) -> Result<Part<'a>, String
     element.attribute(attribute).ok_or_else(|| at(element, &format!("it says no {attribute}")))
 }
 
-fn label<'a>(element: &Element<'a>) -> Result<Label<'a>, String> {
-    let (x, y) = (needed(element, "x")?, hundredths(needed(element, "y")?)?);
-    Ok(Label { range: element.range.clone(), text: element.text()?, x, y })
-}
-
 fn rect<'a>(element: &Element<'a>) -> Result<Rect<'a>, String> {
     let [x, y, width, height] = ["x", "y", "width", "height"].map(|name| needed(element, name));
-    let (y, top) = (y.clone()?, hundredths(y?)?);
+    let (y, top) = (y.clone()?, number(y?)?);
     let (colour, is_class) = match element.attribute("fill") {
         Some(colour) => (colour, false),
         None => (needed(element, "class")?, true),
     };
-    let edges = top..top + hundredths(height?)?;
+    let edges = top..top + number(height?)?;
     Ok(Rect { range: element.range.clone(), x: x?, y, width: width?, edges, colour, is_class })
 }
 
 /// A whole day, on which bars lie: all that is drawn without a title.
 fn lane<'a>(element: &Element<'a>) -> Result<Rect<'a>, String> {
     let rect = rect(element)?;
-    let is_day = hundredths(rect.x)? == LEFT && hundredths(rect.width)? == WIDE;
+    let is_day = number(rect.x)? == 0 && number(rect.width)? == WIDE;
     if is_day { Ok(rect) } else { Err(at(element, "it is no band, and no bar with a title")) }
 }
 
-/// Takes the label whose base line is as high as that band.
-fn beside<'a>(lane: &Rect, labels: &mut Vec<Label<'a>>) -> Result<Label<'a>, String> {
-    let place = labels.iter().position(|label| lane.edges.contains(&label.y));
-    place.map(|place| labels.remove(place)).ok_or(format!("byte {}: a band without a lamp", lane.range.start))
-}
-
 /// "Below stands a table".
-fn table<'a>(all: &[&Element<'a>]) -> Result<Table<'a>, String> {
-    let place = all.iter().position(|element| element.name == "table").ok_or("there is no table")?;
-    if all[place + 1..].iter().any(|element| ["table", "svg"].contains(&element.name)) {
-        return Err(at(all[place], "something stands below it"));
-    }
-    let rows = all[place].all();
-    let mut rows = rows.iter().filter(|element| element.name == "tr");
-    let heads = cells(rows.next().ok_or("the table has no row")?)?;
-    let total = |row: &&Element<'a>| {
-        let cells = cells(row)?.try_into().map_err(|_| at(row, "it has not four cells"))?;
+fn table<'a>(table: &Element<'a>) -> Result<Table<'a>, String> {
+    let (heads, rows) = parts(table)?;
+    let total = |row: &Element<'a>| {
+        let cells = texts(row)?.try_into().map_err(|_| at(row, "it has not four cells"))?;
         Ok(Total { range: row.range.clone(), cells })
     };
-    Ok(Table { heads, totals: rows.map(total).collect::<Result<_, String>>()? })
+    Ok(Table { heads: texts(heads)?, totals: rows.into_iter().map(total).collect::<Result<_, String>>()? })
 }
 
-fn cells<'a>(row: &Element<'a>) -> Result<Vec<Part<'a>>, String> {
-    row.elements().map(Element::text).collect()
+fn texts<'a>(row: &Element<'a>) -> Result<Vec<Part<'a>>, String> {
+    cells(row)?.into_iter().map(Element::text).collect()
 }
 
-/// A number of at most two places, in hundredths.
-pub fn hundredths(part: Part) -> Result<u64, String> {
-    let (whole, places) = part.text.split_once('.').unwrap_or((part.text, "0"));
-    let digits = |text: &str, most| (1..=most).contains(&text.len()) && text.bytes().all(|byte| byte.is_ascii_digit());
-    if !digits(whole, 12) || !digits(places, 2) {
-        return Err(format!("byte {}: {:?} is no number of hundredths", part.at, part.text));
-    }
-    Ok(format!("{whole}{places:0<2}").parse().expect("they are digits"))
+/// Digits, without a zero before them.
+pub fn number(part: Part) -> Result<u64, String> {
+    let is_number = part.text.bytes().all(|byte| byte.is_ascii_digit()) && (part.text == "0" || !part.text.starts_with('0'));
+    let number = if is_number { part.text.parse().ok() } else { None };
+    number.ok_or_else(|| format!("byte {}: {:?} is no number", part.at, part.text))
 }

@@ -1,26 +1,34 @@
 //! Whether a page shows what it has to show.
 
-use super::drawn::{self, Drawn, LEFT};
+use super::drawn::{self, Drawn, Row, timed};
 use super::html::Part;
-use super::read::{Bar, Page, hundredths};
+use super::read::{Bar, Page, Shown, number};
 
-/// As the page of a week in docs/ has them.
 const HEADS: [&str; 4] = ["lamp", "at the start", "burnt", "now"];
 
-/// Along the top stands every second hour.
+/// Along the top stands every third hour.
 const HOURS: u64 = 24;
 
 pub fn shows(page: &Page, drawn: &Drawn) -> Result<(), String> {
     hours(page)?;
-    alike("days", page.rows.len(), drawn.days.len())?;
-    for (day, (row, lamps)) in page.rows.iter().zip(&drawn.days).enumerate() {
-        says(row.day.text, &format!("day {}", day + 1))?;
-        alike(&format!("bands in day {}", day + 1), row.bands.len(), lamps.len())?;
-        for (place, (band, bars)) in row.bands.iter().zip(lamps).enumerate() {
-            says(band.lamp.text, &format!("lamp {}", place + 1))?;
-            let on = format!("bars on lamp {}'s band in day {}", place + 1, day + 1);
-            alike(&on, band.bars.len(), bars.len())?;
-            band.bars.iter().zip(bars).try_for_each(|(bar, drawn)| is_drawn(bar, drawn))?;
+    let rows = drawn.rows();
+    alike("rows of days", page.rows.len(), rows.len())?;
+    for (shown, row) in page.rows.iter().zip(&rows) {
+        says(shown.name, &row.name())?;
+        match (&shown.shown, row) {
+            (Shown::Words(words), Row::Idle(..)) => says(*words, "no lamp burnt")?,
+            (Shown::Picture(picture), Row::Day(day)) => {
+                says(picture.label, &format!("when each lamp burnt on day {day}"))?;
+                let lamps = &drawn.days[day - 1];
+                alike(&format!("bands in day {day}"), picture.bands.len(), lamps.len())?;
+                for (place, (band, bars)) in picture.bands.iter().zip(lamps).enumerate() {
+                    says(band.lamp.text, &format!("lamp {}", place + 1))?;
+                    let on = format!("bars on lamp {}'s band in day {day}", place + 1);
+                    alike(&on, band.bars.len(), bars.len())?;
+                    band.bars.iter().zip(bars).try_for_each(|(bar, drawn)| is_drawn(bar, drawn))?;
+                }
+            }
+            _ => return Err(format!("byte {}: {} is not shown as it has to be", shown.range.start, row.name())),
         }
     }
     colours(page)?;
@@ -28,26 +36,29 @@ pub fn shows(page: &Page, drawn: &Drawn) -> Result<(), String> {
     totals(page, drawn)
 }
 
-/// "the hours 0 to 24 along the top".
+/// "the hours 0 to 24 along the top", each at its share of a day's width.
 fn hours(page: &Page) -> Result<(), String> {
     let mut next = 0;
     for hour in &page.hours {
-        says(hour.text, &next.to_string())?;
-        is_number(hour.x, LEFT + next * 4000)?;
-        next += 2;
+        says(hour.text, &format!("+{next} h"))?;
+        let share: f64 = hour.share.text.parse().map_err(|_| format!("byte {}: no share", hour.share.at))?;
+        if share * 24.0 != next as f64 * 100.0 {
+            return Err(format!("byte {}: the hour {next} stands at {share} %", hour.share.at));
+        }
+        next += 3;
     }
-    if next == HOURS + 2 { Ok(()) } else { Err(format!("the hours end before {next}")) }
+    if next == HOURS + 3 { Ok(()) } else { Err(format!("the hours end before {next}")) }
 }
 
 fn is_drawn(bar: &Bar, drawn: &drawn::Bar) -> Result<(), String> {
     says(bar.title, &drawn.title())?;
-    is_number(bar.rect.x, drawn.x())?;
-    is_number(bar.rect.width, drawn.width())
+    is_number(bar.rect.x, drawn.from)?;
+    is_number(bar.rect.width, drawn.seconds())
 }
 
 /// "Bars have one colour on light grey".
 fn colours(page: &Page) -> Result<(), String> {
-    let bands = || page.rows.iter().flat_map(|row| &row.bands);
+    let bands = || page.bands();
     for band in bands() {
         let fill = page.fill(&band.lane)?;
         if !is_light_grey(fill) {
@@ -81,8 +92,10 @@ fn totals(page: &Page, drawn: &Drawn) -> Result<(), String> {
     page.table.heads.iter().zip(HEADS).try_for_each(|(head, words)| says(*head, words))?;
     alike("lamps in the table", page.table.totals.len(), drawn.sums.len())?;
     for (place, (total, sum)) in page.table.totals.iter().zip(&drawn.sums).enumerate() {
-        let numbers = [place as u128 + 1, sum.start.into(), sum.burnt, sum.now.into()];
-        total.cells.iter().zip(numbers).try_for_each(|(cell, number)| says(*cell, &number.to_string()))?;
+        let times = [sum.start.into(), sum.burnt, sum.now.into()].map(timed);
+        let [lamp, cells @ ..] = total.cells;
+        says(lamp, &format!("lamp {}", place + 1))?;
+        cells.into_iter().zip(times).try_for_each(|(cell, time)| says(cell, &time))?;
     }
     Ok(())
 }
@@ -95,9 +108,9 @@ fn says(part: Part, words: &str) -> Result<(), String> {
     if part.text == words { Ok(()) } else { Err(format!("byte {}: {:?} for {words:?}", part.at, part.text)) }
 }
 
-fn is_number(part: Part, number: u64) -> Result<(), String> {
-    match hundredths(part)? {
-        shown if shown == number => Ok(()),
-        _ => Err(format!("byte {}: {} for {}.{:02}", part.at, part.text, number / 100, number % 100)),
+fn is_number(part: Part, right: u64) -> Result<(), String> {
+    match number(part)? {
+        shown if shown == right => Ok(()),
+        shown => Err(format!("byte {}: {shown} for {right}", part.at)),
     }
 }

@@ -1,36 +1,46 @@
 //! Pages drawn by hand, as RULES has them, and not as the program writes them.
 
+use super::drawn::{Row, timed};
 use super::*;
 
 /// What has to be seen, in words of its own.
 fn page(drawn: &Drawn) -> String {
-    let units = |hundredths: u64| format!("{}.{}", hundredths / 100, &format!("{:02}", hundredths % 100));
-    let mut page = "<!doctype html><html><body><svg viewBox='0 0 1050 9'>".to_string();
-    for hour in (0..=24).step_by(2) {
-        page += &format!("<text x={} y=9>{hour}</text>", 90 + 40 * hour);
+    let mut page = "<!doctype html><html><body><table><thead><tr><th>day</th><th>lamp</th><th>".to_string();
+    for hour in (0..=24).step_by(3) {
+        page += &format!("<span style='left:{}%'>+{hour} h</span>", f64::from(hour) * 100.0 / 24.0);
     }
-    page += "</svg>";
-    for (day, lamps) in drawn.days.iter().enumerate() {
-        let height = 10 + 10 * lamps.len();
-        page += &format!("<svg viewBox=\"0 0 1050 {height}\"><text x=\"1\" y=\"10\">day {}</text>", day + 1);
+    page += "</th></tr></thead><tbody>";
+    for row in drawn.rows() {
+        let Row::Day(day) = row else {
+            page += &format!("<tr><th>{}</th><td>no lamp burnt</td></tr>", row.name());
+            continue;
+        };
+        let lamps = &drawn.days[day - 1];
+        page += &format!("<tr><th>day {day}</th><td>");
+        for lamp in 1..=lamps.len() {
+            page += &format!("<b>lamp {lamp}</b>");
+        }
+        let height = 1 + 18 * lamps.len();
+        page += &format!("</td><td><svg viewBox=\"0 0 86400 {height}\" height={height} preserveAspectRatio=\"none\"");
+        page += &format!(" aria-label='when each lamp burnt on day {day}'>");
         for (lamp, bars) in lamps.iter().enumerate() {
-            let lane = 10 + 10 * lamp;
-            page += &format!("<g><text x='45.5' y='{}.5'>lamp {}</text>", lane + 5, lamp + 1);
-            page += &format!("<rect height='10' y='{lane}' x='90' width='960' fill='#eeeeee'/></g>");
+            let lane = 3 + 18 * lamp;
+            page += &format!("<g><rect height='10' y='{lane}' x='0' width='86400' fill='#eeeeee'/></g>");
             for bar in bars.iter().rev() {
-                let (x, width, title) = (units(bar.x()), units(bar.width()), bar.title());
+                let (x, width, title) = (bar.from, bar.seconds(), bar.title());
                 page += &format!("<rect y='{lane}' height='10' fill='#000000' x='{x}' width='{width}'>");
                 page += &format!("<title>{title}</title></rect>\n");
             }
         }
-        page += "</svg>";
+        page += "</svg></td></tr>";
     }
-    page += "<table><tr><td>lamp</td><td>at the start</td><td>burnt</td><td>now</td></tr>";
+    page += "</tbody></table><table><thead><tr><td>lamp</td><td>at the start</td><td>burnt</td><td>now</td></tr></thead>";
+    page += "<tbody>";
     for (place, sum) in drawn.sums.iter().enumerate() {
-        page += &format!("<tr><td>{}</td><td>{}</td>", place + 1, sum.start);
-        page += &format!("<td>{}</td><td>{}</td></tr>", sum.burnt, sum.now);
+        let [start, burnt, now] = [sum.start.into(), sum.burnt, sum.now.into()].map(timed);
+        page += &format!("<tr><td>lamp {}</td><td>{start}</td><td>{burnt}</td><td>{now}</td></tr>", place + 1);
     }
-    page += "</table>";
+    page += "</tbody></table>";
     if let Some(words) = &drawn.stray {
         page += &format!("<p>{words}</p>");
     }

@@ -6,7 +6,7 @@ use crate::compare::class_2::{self, records, setups};
 use crate::compare::forms;
 use crate::compare::random::Random;
 use crate::compare::records::set_text;
-use crate::face::{Changed, Command, Device, Lent, Lent2, Name, Reading};
+use crate::face::{Changed, Command, Device, Flag, Lent, Lent2, Name, Reading};
 
 const BLANK: Changed = Changed { number: 3, device: Device::BLANK };
 
@@ -120,7 +120,7 @@ fn lines_of_class_2() {
 #[test]
 fn freeze_and_levels() {
     let mut device = on(of_class_2());
-    assert_eq!((device.own.frozen, device.own.speaker, device.own.microphone), (false, 10, 10));
+    assert_eq!((device.own.frozen.0, device.own.speaker, device.own.microphone), (0, 10, 10));
     for step in 1..=15 {
         assert_eq!(told(&mut device, "%2SVOL 1"), "%2SVOL=OK");
         assert_eq!(told(&mut device, "%2MVOL 0"), "%2MVOL=OK");
@@ -131,12 +131,12 @@ fn freeze_and_levels() {
     for line in ["%1AVMT 31", "%1AVMT 30", "%2INPT 6A", "%1POWR 0", "%1POWR 1"] {
         told(&mut device, line);
         device = pass(&device, 60).device;
-        assert_eq!((device.own.frozen, device.own.speaker, device.own.microphone), (true, 19, 0), "{line}");
+        assert_eq!((device.own.frozen.0, device.own.speaker, device.own.microphone), (1, 19, 0), "{line}");
     }
     device = pass(&device, 60).device;
     assert_eq!(told(&mut device, "%2FREZ ?"), "%2FREZ=1");
     assert_eq!(told(&mut device, "%2FREZ 0"), "%2FREZ=OK");
-    assert!(!device.own.frozen);
+    assert_eq!(device.own.frozen, Flag::NO);
 }
 
 /// "a name for each input, of that specification's lengths and under .. rule on bytes and on ERR1 to ERR4".
@@ -228,7 +228,7 @@ fn records_of_both_classes() {
             assert_eq!(is_legal(&|d| d.own.speaker = number), number <= 20);
             assert_eq!(is_legal(&|d| d.own.microphone = number), number <= 20);
         }
-        assert!(is_legal(&|d| d.own.frozen = true));
+        assert!(is_legal(&|d| d.own.frozen = Flag::YES));
         assert_eq!(is_legal(&|d| set_text(&mut d.settings.serial, b"serial")), class == 2);
         assert_eq!(is_legal(&|d| set_text(&mut d.settings.version, &[b'v'; 32])), class == 2);
         assert!(!is_legal(&|d| set_text(&mut d.settings.version, &[b'v'; 33])));
@@ -356,7 +356,7 @@ fn meant(device: &Device, command: Command) -> Reading {
     let waits = matches!(command.code, 2 | 3 | 14..=17 | 21 | 22);
     match command.code {
         3 | 22 | 20 if listed.is_none() => of(2, 2, 0),
-        _ if waits && own.fault => of(2, 4, 0),
+        _ if waits && own.fault.is_raised() => of(2, 4, 0),
         _ if waits && own.power != 1 => of(2, 3, 0),
         2 | 21 => of(4, input(own.chosen).0, input(own.chosen).1),
         8 | 23 => {
@@ -365,7 +365,7 @@ fn meant(device: &Device, command: Command) -> Reading {
             reading
         }
         13 => of(10, settings.class_number, 0),
-        14 => of(12, u8::from(own.frozen), 0),
+        14 => of(12, own.frozen.0, 0),
         3 | 15..=17 | 22 => of(1, 0, 0),
         18 => text(&settings.serial.bytes[..settings.serial.len]),
         19 => text(&settings.version.bytes[..settings.version.len]),

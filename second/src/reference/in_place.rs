@@ -5,7 +5,7 @@
 
 use super::calls;
 use super::rules::{Mistake, made_now};
-use crate::face::{Act, Answer, Connection, Device, PLACES, Panel, PanelAct};
+use crate::face::{Act, Answer, Connection, Device, Flag, PLACES, Panel, PanelAct};
 
 /// What a mistake makes of a call in place on a record that holds this one, where the call by value gives that. None by
 /// the rules, and where no mistake changes it.
@@ -46,7 +46,10 @@ pub fn mistaken(lent: &Device, act: &Act, by_value: &Answer) -> Option<Answer> {
             let PanelAct::Command { lent, .. } = &call.act else { return None };
             out.clone_from(lent);
         }
-        (Mistake::FaultStaysInPlace, Act::SetFault { .. }, answer) => served(answer)?.own.fault |= lent.own.fault,
+        (Mistake::FaultStaysInPlace, Act::SetFault { .. }, answer) => {
+            let fault = &mut served(answer)?.own.fault;
+            *fault = Flag::from(fault.is_raised() || lent.own.fault.is_raised());
+        }
         (Mistake::WorseDigitsInPlace, Act::SetErrors { .. }, answer) => {
             let errors = &mut served(answer)?.own.errors;
             errors.iter_mut().zip(lent.own.errors).for_each(|(digit, before)| *digit = before.max(*digit));
@@ -55,7 +58,7 @@ pub fn mistaken(lent: &Device, act: &Act, by_value: &Answer) -> Option<Answer> {
             let device = served(answer)?;
             let next = (lamp + 1) % device.settings.lamp_count;
             device.own.enabled = lent.own.enabled;
-            device.own.enabled[next] = *enabled;
+            device.own.enabled[next] = Flag::from(*enabled);
         }
         (Mistake::NoPlaceTestedInPlace, Act::Legal, Answer::Legal(legal)) => {
             *legal = calls::legal(&Device { connections: [Connection::CLOSED; PLACES], ..*lent });

@@ -4,7 +4,7 @@ use super::calls::{legal, open, pass, receive, set_up};
 use super::marks::set_mark;
 use crate::compare::forms;
 use crate::compare::histories::NO_PLACES;
-use crate::face::{Device, Lent};
+use crate::face::{Device, Flag, Lent};
 
 /// Three lamps, open at place 0, off.
 fn three() -> Device {
@@ -24,7 +24,7 @@ fn marks(device: &mut Device, lamp: usize, enabled: bool) -> u32 {
     let changed = set_mark(device, lamp, enabled);
     let mut expected = *device;
     if changed.number == 0 {
-        expected.own.enabled[lamp] = enabled;
+        expected.own.enabled[lamp] = Flag::from(enabled);
     }
     assert_eq!(changed.device, expected);
     *device = changed.device;
@@ -36,10 +36,10 @@ fn marks(device: &mut Device, lamp: usize, enabled: bool) -> u32 {
 fn all_at_first() {
     for lamps in 0..=8 {
         let device = set_up(&Lent { lamps: vec![7; lamps], ..forms::common() }).device;
-        assert_eq!(device.own.enabled, std::array::from_fn(|lamp| lamp < lamps));
+        assert_eq!(device.own.enabled, std::array::from_fn(|lamp| Flag::from(lamp < lamps)));
         for bits in 0..256usize {
             let mut other = device;
-            other.own.enabled = std::array::from_fn(|lamp| bits >> lamp & 1 == 1);
+            other.own.enabled = std::array::from_fn(|lamp| Flag::from(bits >> lamp & 1 == 1));
             assert_eq!(legal(&other), bits >> lamps == 0 && (lamps == 0 || bits > 0));
         }
     }
@@ -59,7 +59,7 @@ fn numbers_in_their_order() {
         }
         assert_eq!(marks(&mut device, 1, true), served, "set already");
         assert_eq!(marks(&mut device, 0, false), served);
-        device.own.enabled = [false, false, true, false, false, false, false, false];
+        device.own.enabled = [false, false, true, false, false, false, false, false].map(Flag::from);
         assert_eq!(marks(&mut device, 0, false), served, "clear already, and not the last one");
         assert_eq!(marks(&mut device, 2, false), 3, "the last one");
         assert_eq!(marks(&mut device, 2, true), served);

@@ -6,7 +6,7 @@ use super::rules::{Mistake, made};
 use super::set_up::{LONGEST_NAME, MOST_INPUTS, MOST_LAMPS, SetUp, are_lamps, inputs_of, is_text};
 use super::text::CR;
 use super::{Connection, Line, Power, Projector};
-use crate::face::{self, PLACES};
+use crate::face::{self, Flag, PLACES};
 
 /// "collected bytes .. are at most 167 while awaiting and 135 while open".
 pub const LONGEST_AWAITED: usize = 167;
@@ -27,20 +27,20 @@ impl Projector {
         if !(are_lamps(&lamps) && chosen_is_listed && errors_are_digits) {
             return None;
         }
-        if own.frozen && set_up.class == Class::One && made(Mistake::FrozenInClass1Refused) {
+        if read_flag(own.frozen)? && set_up.class == Class::One && made(Mistake::FrozenInClass1Refused) {
             return None;
         }
         Some(Projector {
             set_up,
             power,
             chosen: own.chosen,
-            video_muted: own.video_muted,
-            audio_muted: own.audio_muted,
-            fault: own.fault,
+            video_muted: read_flag(own.video_muted)?,
+            audio_muted: read_flag(own.audio_muted)?,
+            fault: read_flag(own.fault)?,
             errors: own.errors,
             lamps,
             enabled,
-            frozen: own.frozen,
+            frozen: read_flag(own.frozen)?,
             speaker: Volume::new(own.speaker)?,
             microphone: Volume::new(own.microphone)?,
             connections: read_connections(connections)?,
@@ -58,13 +58,15 @@ impl Projector {
             Power::WarmUp(left) => (3, left),
         };
         own.chosen = self.chosen;
-        own.video_muted = self.video_muted;
-        own.audio_muted = self.audio_muted;
-        own.fault = self.fault;
+        own.video_muted = Flag::from(self.video_muted);
+        own.audio_muted = Flag::from(self.audio_muted);
+        own.fault = Flag::from(self.fault);
         own.errors = self.errors;
         own.lamps[..self.lamps.len()].copy_from_slice(&self.lamps);
-        own.enabled[..self.enabled.len()].copy_from_slice(&self.enabled);
-        own.frozen = self.frozen;
+        for (room, &mark) in own.enabled.iter_mut().zip(&self.enabled) {
+            *room = Flag::from(mark);
+        }
+        own.frozen = Flag::from(self.frozen);
         own.speaker = self.speaker.level();
         own.microphone = self.microphone.level();
         for (connection, room) in self.connections.iter().zip(&mut record.connections) {
@@ -142,6 +144,15 @@ fn read_class(settings: &face::Settings) -> Option<Class> {
     }
 }
 
+/// "A flag is 0 or 1": what it says; nothing of any other byte.
+pub(super) fn read_flag(flag: Flag) -> Option<bool> {
+    match flag.read() {
+        None if made(Mistake::AnyByteIsAFlag) => Some(flag.is_raised()),
+        None if made(Mistake::LowBitIsTheFlag) => Some(flag.0 & 1 == 1),
+        said => said,
+    }
+}
+
 fn read_name(name: &face::Name) -> Option<Vec<u8>> {
     part_in_use(&name.bytes, name.len, LONGEST_INPUT_NAME)
 }
@@ -153,6 +164,7 @@ fn read_marks(own: &face::Own, lamps: usize) -> Option<Vec<bool>> {
         None if made(Mistake::MarksPastLamps) => own.enabled[..lamps].to_vec(),
         marks => marks?,
     };
+    let marks: Vec<bool> = marks.into_iter().map(read_flag).collect::<Option<_>>()?;
     let needed = lamps > 0 || made(Mistake::NoLampsNeedAMark);
     let missing = needed && !marks.contains(&true) && !made(Mistake::NoMarkIsLegal);
     (!missing).then_some(marks)
@@ -206,7 +218,7 @@ fn read_connection(connection: &face::Connection) -> Option<Connection> {
 
 fn read_line(line: &face::Line, longest: usize) -> Option<Line> {
     let bytes = part_in_use(&line.bytes, line.held, longest)?;
-    match line.overlong {
+    match read_flag(line.overlong)? {
         true => bytes.is_empty().then_some(Line::Overlong),
         false => (!bytes.contains(&CR)).then_some(Line::Collected(bytes)),
     }
@@ -250,7 +262,7 @@ fn write_connection(connection: &Connection, record: &mut face::Connection) {
     };
     if let Connection::Awaiting { line, .. } | Connection::Open { line, .. } = connection {
         match line {
-            Line::Overlong => record.line.overlong = true,
+            Line::Overlong => record.line.overlong = Flag::YES,
             Line::Collected(bytes) => {
                 record.line.held = bytes.len();
                 record.line.bytes[..bytes.len()].copy_from_slice(bytes);

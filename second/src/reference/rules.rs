@@ -154,6 +154,8 @@ mistakes! {
     NoMarkIsLegal: "a record with lamps may have no mark",
     MarksPastLamps: "a record may have marks past its lamps",
     NoLampsNeedAMark: "a record without lamps needs a mark",
+    AnyByteIsAFlag: "a flag of a record may be any byte, and one that is not 0 is raised",
+    LowBitIsTheFlag: "a flag of a record may be any byte, and its lowest bit says it",
     OldRefused: "a stored form of version 1 is 20",
     OldHasMarks: "a stored form of version 1 has a section of marks",
     OldSetsTheFirst: "a stored form of version 1 loads with the first mark alone",

@@ -4,7 +4,7 @@ use super::form::{LONGEST, LONGEST_MARKED, SHORTEST};
 use super::{calls, form, swap};
 use crate::compare::random::Random;
 use crate::compare::{class_2, forms, records};
-use crate::face::{Changed, Device, Lent, Lent2};
+use crate::face::{Changed, Device, Flag, Lent, Lent2};
 
 /// Two lamps, three inputs and a name in Japanese, byte by byte from the rules.
 #[rustfmt::skip]
@@ -188,7 +188,10 @@ fn marks_of_a_form() {
     };
     for (marks, enabled) in [([1, 1], [true, true]), ([1, 0], [true, false]), ([0, 1], [false, true])] {
         let loaded = swap::load(&with(&marks));
-        assert_eq!((loaded.number, &loaded.device.own.enabled[..3]), (0, &[enabled[0], enabled[1], false][..]));
+        assert_eq!(
+            (loaded.number, &loaded.device.own.enabled[..3]),
+            (0, &[enabled[0], enabled[1], false].map(Flag::from)[..])
+        );
         assert_eq!(stored(&loaded.device), with(&marks));
     }
     for marks in [&[0, 0][..], &[2, 1], &[1, 255], &[], &[1], &[1, 1, 0], &[1, 1, 1]] {

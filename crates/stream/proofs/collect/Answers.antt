@@ -13,18 +13,21 @@ returns-then-is_raised c =
 pub returns-then-most-held : goal.returns-then-most-held
 unfolding overlong_line
 returns-then-most-held c =
-    sym (all_past c.args.most c.args.l.now c.args.more.now (sym c.is_raised.ensures ∙ c.if-is_raised.false) (omega arith) (omega arith))
+    let unmarked = sym c.is_raised.ensures ∙ c.if-is_raised.false in
+    sym (all_past c.args.most c.args.l.now c.args.more.now unmarked (omega arith) (omega arith))
 
 pub returns-then-most-held-2 : goal.returns-then-most-held-2
 unfolding overlong_line
 returns-then-most-held-2 c =
-    sym (all_past c.args.most c.args.l.now c.args.more.now (sym c.is_raised.ensures ∙ c.if-is_raised.false) (omega arith) (omega arith))
+    let unmarked = sym c.is_raised.ensures ∙ c.if-is_raised.false in
+    sym (all_past c.args.most c.args.l.now c.args.more.now unmarked (omega arith) (omega arith))
 
 pub returns : goal.returns
 returns c =
+    let unmarked = sym c.is_raised.ensures ∙ c.if-is_raised.false in
     let stored : ◌≡◌ {A = Line} _ _ = λ i. record {
-      overlong = lowered_zero c.args.l.now.overlong (sym c.is_raised.ensures ∙ c.if-is_raised.false) i;
+      overlong = lowered_zero c.args.l.now.overlong unmarked i;
       held = c.args.l.now.held + length c.args.more.now;
       bytes = c.put.ensures i;
     } in
-    stored ∙ sym (all_fit c.args.most c.args.l.now c.args.more.now (sym c.is_raised.ensures ∙ c.if-is_raised.false) (omega arith))
+    stored ∙ sym (all_fit c.args.most c.args.l.now c.args.more.now unmarked (omega arith))

@@ -6,7 +6,7 @@ use super::setups::all_inputs;
 use crate::compare::forms;
 use crate::compare::random::Random;
 use crate::compare::{Case, records};
-use crate::face::{Act, Device, Lent, Lent2};
+use crate::face::{Act, Device, Flag, Lent, Lent2};
 use crate::reference::calls;
 use crate::reference::class_2::BODIES_2;
 use crate::reference::commands::BODIES;
@@ -57,9 +57,9 @@ fn every_body() -> Vec<Case> {
         let mut device = opened(class);
         device.own.power = state / 2;
         device.own.left = u32::from(state >= 4);
-        device.own.fault = state % 2 == 1;
+        device.own.fault = Flag::from(state % 2 == 1);
         device.own.chosen = 1;
-        device.own.frozen = state == 2;
+        device.own.frozen = Flag::from(state == 2);
         let device = Rc::new(device);
         for body in &bodies {
             for parameter in parameters {
@@ -128,8 +128,8 @@ fn every_level() -> Vec<Case> {
     for (speaker, microphone) in (0..=20).flat_map(|level| [(level, 20 - level), (level, 7)]) {
         let mut device = opened(2);
         (device.own.speaker, device.own.microphone) = (speaker, microphone);
-        device.own.frozen = speaker % 2 == 0;
-        (device.own.audio_muted, device.own.video_muted) = (true, true);
+        device.own.frozen = Flag::from(speaker % 2 == 0);
+        (device.own.audio_muted, device.own.video_muted) = (Flag::YES, Flag::YES);
         let device = Rc::new(device);
         for line in ["SVOL 0", "SVOL 1", "MVOL 0", "MVOL 1", "SVOL ?", "MVOL ?", "FREZ 0", "FREZ 1", "FREZ ?"] {
             all.push(Case::one(device.clone(), receive(format!("%2{line}").as_bytes())));

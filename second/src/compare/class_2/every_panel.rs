@@ -2,7 +2,7 @@
 
 use super::replies::head;
 use crate::compare::every_panel::moments;
-use crate::face::{Act, Command, Entry, Panel, PanelAct, PanelCall};
+use crate::face::{Act, Command, Entry, Flag, Panel, PanelAct, PanelCall};
 
 pub fn calls() -> Vec<Act> {
     let mut all = with_every_input();
@@ -14,7 +14,7 @@ pub fn calls() -> Vec<Act> {
 fn with_every_input() -> Vec<PanelCall> {
     let mut all = Vec::new();
     for (input_type, input_number) in (0..=8).flat_map(|kind| (0..=38).map(move |number| (kind, number))) {
-        for input_known in [true, false] {
+        for input_known in [Flag::YES, Flag::NO] {
             let entry = Entry { input_known, input_type, input_number, ..moments()[1] };
             let panel = Panel::of(&[moments()[2], entry]);
             all.push(PanelCall { panel, act: PanelAct::Lost { projector: 0 } });
@@ -34,7 +34,7 @@ fn with_every_command() -> Vec<PanelCall> {
             let panel = Panel::of(&[moments()[2], entry]);
             all.push(PanelCall { panel, act: PanelAct::Command { projector: 1, command, lent: vec![0xA5; 168] } });
         }
-        let entry = Entry { under_way: true, command, ..moments()[1] };
+        let entry = Entry { under_way: Flag::YES, command, ..moments()[1] };
         let panel = Panel::of(&[moments()[2], entry, moments()[5]]);
         let mut line = |line: Vec<u8>| all.push(PanelCall { panel, act: PanelAct::Line { projector: 1, line } });
         let (_, body) = head(usize::from(code).min(23));

@@ -6,7 +6,7 @@ use super::setups::{self, all_inputs};
 use crate::compare::forms::{marked, old};
 use crate::compare::random::Random;
 use crate::compare::{forms, records, setups as setups_1};
-use crate::face::{Act, Device, Lent, Lent2, Text};
+use crate::face::{Act, Device, Flag, Lent, Lent2, Text};
 use crate::reference::calls;
 use crate::reference::class::{Texts, names_of};
 use crate::reference::rules::unmistaken;
@@ -291,7 +291,7 @@ pub fn records(random: &mut Random) -> Vec<(Device, Act)> {
             with(&|d| d.own.speaker = byte);
             with(&|d| d.own.microphone = byte);
         }
-        [false, true].iter().for_each(|&frozen| with(&|d| d.own.frozen = frozen));
+        (0..=255).map(Flag).for_each(|frozen| with(&|d| d.own.frozen = frozen));
         for place in 0..32 {
             for length in [0, 1, 2, 3, 4, 127, 128, 129, 256, 1 << 32, 1 << 63, usize::MAX] {
                 with(&|d| d.settings.names[place].len = length);

@@ -15,11 +15,11 @@ pub const MAKING: Making =
 pub fn legal(random: &mut Random) -> Panel {
     let mut panel = panel_records::legal(random);
     for entry in &mut panel.entries[..panel.count] {
-        if entry.input_known {
+        if entry.input_known.is_raised() {
             (entry.input_type, entry.input_number) = (random.from_to(1, 6) as u8, random.from_to(1, 35) as u8);
         }
         let command = replies::command(random);
-        if entry.under_way && unmistaken(|| Command::read(command)).is_some() {
+        if entry.under_way.is_raised() && unmistaken(|| Command::read(command)).is_some() {
             entry.command = command;
         }
     }

@@ -4,7 +4,7 @@ use super::{lines, setups};
 use crate::compare::random::Random;
 use crate::compare::records::{self, count, set_text, text};
 use crate::compare::setups::text as legal_text;
-use crate::face::{Connection, Device, Name, PLACES};
+use crate::face::{Connection, Device, Flag, Name, PLACES};
 
 /// Legal by the rules, whatever mistake is made.
 pub fn legal(random: &mut Random) -> Device {
@@ -12,7 +12,7 @@ pub fn legal(random: &mut Random) -> Device {
     if !random.one_in(4) {
         into_class_2(random, &mut device);
     }
-    device.own.frozen = random.one_in(2);
+    device.own.frozen = Flag::from(random.one_in(2));
     (device.own.speaker, device.own.microphone) = (level(random), level(random));
     for place in 0..PLACES {
         if device.connections[place].line.held > 0 && random.one_in(2) {

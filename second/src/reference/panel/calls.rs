@@ -136,7 +136,7 @@ const ERRA: u8 = 11;
 
 /// No rule leaves these; a mistake does.
 fn leave_earlier_hours(before: &face::Entry, after: &mut face::Entry) {
-    if after.lamps_known {
+    if after.lamps_known.is_raised() {
         for place in after.lamp_count..before.lamp_count {
             after.hours[place] = before.hours[place];
         }

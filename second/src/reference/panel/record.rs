@@ -3,9 +3,9 @@
 
 use super::known::Known;
 use super::{Entry, Greeted, MOST_STRAYS, Panel, Secured};
-use crate::face;
+use crate::face::{self, Flag};
 use crate::reference::controller::Command;
-use crate::reference::record::{part_in_use, read_text, write_text};
+use crate::reference::record::{part_in_use, read_flag, read_text, write_text};
 use crate::reference::rules::{Mistake, made};
 use crate::reference::set_up::{MOST_LAMPS, is_password};
 use crate::reference::text::Input;
@@ -53,20 +53,21 @@ impl Entry {
         write_text(&self.password, &mut entry.password);
         if let Some(Greeted { secured, under_way }) = self.greeted {
             entry.greeting = if secured.is_some() { 2 } else { 1 };
-            (entry.random, entry.led) = secured.map_or((0, false), |secured| (secured.random, secured.led));
-            entry.under_way = under_way.is_some();
+            (entry.random, entry.led) =
+                secured.map_or((0, Flag::NO), |secured| (secured.random, Flag::from(secured.led)));
+            entry.under_way = Flag::from(under_way.is_some());
             entry.command = under_way.unwrap_or(NO_COMMAND);
         }
         if let Some(digit) = self.known.power {
-            (entry.power_known, entry.power) = (true, digit);
+            (entry.power_known, entry.power) = (Flag::YES, digit);
         }
         if let Some(input) = self.known.input {
-            (entry.input_known, entry.input_type, entry.input_number) = (true, input.kind, input.number);
+            (entry.input_known, entry.input_type, entry.input_number) = (Flag::YES, input.kind, input.number);
         }
         if let Some(lamps) = &self.known.lamps {
-            (entry.lamps_known, entry.lamp_count) = (true, lamps.len());
+            (entry.lamps_known, entry.lamp_count) = (Flag::YES, lamps.len());
             for (place, &(hours, lit)) in lamps.iter().enumerate() {
-                (entry.hours[place], entry.lit[place]) = (hours, lit);
+                (entry.hours[place], entry.lit[place]) = (hours, Flag::from(lit));
             }
         }
         entry
@@ -76,7 +77,8 @@ impl Entry {
 /// The header: `random` "of a greeting that is PJ_AWAITED_SECURED, else 0", `led` "false with any other", `under_way`
 /// "false without a greeting". The outer nothing is an illegal record, the inner one no greeting.
 fn read_greeted(entry: &face::Entry) -> Option<Option<Greeted>> {
-    let face::Entry { greeting, random, led, under_way, command, .. } = *entry;
+    let face::Entry { greeting, random, command, .. } = *entry;
+    let (led, under_way) = (read_flag(entry.led)?, read_flag(entry.under_way)?);
     let kept_by_mistake = greeting == 1 && made(Mistake::RandomOfOpenPassedOver);
     let unsecured = !led && (random == 0 || kept_by_mistake);
     let secured = match greeting {
@@ -94,7 +96,7 @@ fn read_greeted(entry: &face::Entry) -> Option<Option<Greeted>> {
 
 /// "enum pj_power; 0 where it is not known".
 fn read_power(entry: &face::Entry) -> Option<Option<u8>> {
-    match (entry.power_known, entry.power) {
+    match (read_flag(entry.power_known)?, entry.power) {
         (true, digit @ 0..=3) => Some(Some(digit)),
         (false, 0) => Some(None),
         (false, _) if made(Mistake::UnknownPassedOver) => Some(None),
@@ -104,7 +106,7 @@ fn read_power(entry: &face::Entry) -> Option<Option<u8>> {
 
 /// "1 to 6 and 1 to 35; both 0 where the input is not known".
 fn read_input(entry: &face::Entry) -> Option<Option<Input>> {
-    match (entry.input_known, entry.input_type, entry.input_number) {
+    match (read_flag(entry.input_known)?, entry.input_type, entry.input_number) {
         (true, kind, 36) if made(Mistake::PanelTakes36) && (1..=6).contains(&kind) => {
             Some(Some(Input { kind, number: 36 }))
         }
@@ -121,7 +123,9 @@ fn read_input(entry: &face::Entry) -> Option<Option<Input>> {
 fn read_lamps(entry: &face::Entry) -> Option<Option<Vec<(u32, bool)>>> {
     let hours = part_in_use(&entry.hours, entry.lamp_count, MOST_LAMPS)?;
     let lit = part_in_use(&entry.lit, entry.lamp_count, MOST_LAMPS)?;
+    let lit: Vec<bool> = lit.into_iter().map(read_flag).collect::<Option<_>>()?;
+    let known = read_flag(entry.lamps_known)?;
     let most = if made(Mistake::HoursNotBounded) { u32::MAX } else { MOST_HOURS };
-    let legal = hours.iter().all(|&hours| hours <= most) && entry.lamps_known != hours.is_empty();
-    legal.then(|| entry.lamps_known.then(|| hours.into_iter().zip(lit).collect()))
+    let legal = hours.iter().all(|&hours| hours <= most) && known != hours.is_empty();
+    legal.then(|| known.then(|| hours.into_iter().zip(lit).collect()))
 }

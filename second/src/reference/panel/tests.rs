@@ -1,7 +1,7 @@
 //! RULES, Panel, sentence by sentence.
 
 use super::calls::{add, command, line, lost, none};
-use crate::face::{Command, Entry, Panel};
+use crate::face::{Command, Entry, Flag, Panel};
 
 const ERRA: &str = "PJLINK ERRA\r";
 const ASK_POWER: Command = Command { code: 0, first: 0, second: 0 };
@@ -34,7 +34,7 @@ fn sends(panel: &Panel, sent: Command) -> (Panel, String) {
     let mut out = [0; 168];
     let given = command(panel, 1, sent, &mut out);
     assert_eq!(given.number, 0);
-    assert!(given.panel.entries[1].under_way && given.panel.entries[1].command == sent);
+    assert!(given.panel.entries[1].under_way.is_raised() && given.panel.entries[1].command == sent);
     (given.panel, String::from_utf8(out[..given.length].to_vec()).unwrap())
 }
 
@@ -97,15 +97,15 @@ fn accepted_replies() {
         assert_eq!(entry(&reply(&open, sent, said)), greeted);
     }
     let warm = reply(&open, ASK_POWER, "%1POWR=3\r");
-    assert_eq!(entry(&warm), Entry { power_known: true, power: 3, ..greeted });
+    assert_eq!(entry(&warm), Entry { power_known: Flag::YES, power: 3, ..greeted });
     let chosen = reply(&warm, ASK_INPUT, "%1INPT=32\r");
-    assert_eq!(entry(&chosen), Entry { input_known: true, input_type: 3, input_number: 2, ..entry(&warm) });
+    assert_eq!(entry(&chosen), Entry { input_known: Flag::YES, input_type: 3, input_number: 2, ..entry(&warm) });
     let lamps = reply(&chosen, ASK_LAMPS, "%1LAMP=6 1 00412 0 99999 1\r");
     let hours = [6, 412, 99_999, 0, 0, 0, 0, 0];
-    let lit = [true, false, true, false, false, false, false, false];
-    assert_eq!(entry(&lamps), Entry { lamps_known: true, lamp_count: 3, hours, lit, ..entry(&chosen) });
+    let lit = [true, false, true, false, false, false, false, false].map(Flag::from);
+    assert_eq!(entry(&lamps), Entry { lamps_known: Flag::YES, lamp_count: 3, hours, lit, ..entry(&chosen) });
     let fewer = entry(&reply(&lamps, ASK_LAMPS, "%1LAMP=7 0\r"));
-    assert_eq!((fewer.lamp_count, fewer.hours, fewer.lit), (1, [7, 0, 0, 0, 0, 0, 0, 0], [false; 8]));
+    assert_eq!((fewer.lamp_count, fewer.hours, fewer.lit), (1, [7, 0, 0, 0, 0, 0, 0, 0], [Flag::NO; 8]));
     assert_eq!(reply(&lamps, ASK_POWER, "%1POWR=ERR4\r"), lamps);
 }
 
@@ -120,7 +120,7 @@ fn erra_and_lost() {
     let awaited = Entry { greeting: 0, strays: 1, ..two("pw1").entries[1] };
     assert_eq!(entry(&hears(&asked, ERRA)), awaited);
     let gone = lost(&asked, 1);
-    assert_eq!((gone.number, entry(&gone.panel)), (0, Entry { power_known: true, power: 1, ..awaited }));
+    assert_eq!((gone.number, entry(&gone.panel)), (0, Entry { power_known: Flag::YES, power: 1, ..awaited }));
     assert_eq!(lost(&gone.panel, 1).panel, gone.panel);
 }
 

@@ -1,4 +1,4 @@
-use Rattle.std.proofs.Common.{◌∙◌, ap, arith, Bool, if◌then◌else◌, rules, slice_index_or, sym}
+use Rattle.std.proofs.Common.{◌∙◌, ap, Bool, if◌then◌else◌, rules, slice_index_or, sym}
 use Rattle.text.proofs.FlagsTold.{raised_at, raised_many}
 use Rattle.clock.specs.Second.{times, one_more}
 use Rattle.clock.proofs.ChangedWhere.{none_changed, one_changed_there}

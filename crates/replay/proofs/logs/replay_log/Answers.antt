@@ -1,5 +1,5 @@
 -- from the first line on, what is printed is what the log of its kind prints
-use Rattle.std.proofs.Common.{subst}
+use Rattle.std.proofs.Common.{subst, sym, ◌∙◌}
 use Rattle.std.proofs.lemmas.Option.{IfSome_then}
 use Rattle.std.specs.Io.KnownBytes.{Appends}
 use Rattle.textio.specs.Ahead.{left_in}
@@ -9,7 +9,7 @@ use Rattle.textio.proofs.Failures.{comes_of, short_enough}
 use Rattle.textio.proofs.Fronts.{same_error}
 use Rattle.textio.proofs.LinesCounted.{too_long_bytes}
 use Rattle.floorlog.proofs.Observing.{on_failed}
-use Rattle.replay.proofs.LogsPlayed.{begins, all_text, too_long, so_far}
+use Rattle.replay.proofs.LogsPlayed.{begins, all_text, unplayed_found, too_long, so_far}
 use Rattle.replay.proofs.logs.replay_log.Goals as goal
 
 pub returns-in_err-follow-clause-front : goal.returns-in_err-follow-clause-front
@@ -62,3 +62,12 @@ returns-else-is_history-clause-front g c =
     c.new-history.ensures.lines c.new-history.ensures.stray in
     IfSome_then (left_in g.R.ByteSource.remaining c.args.from.now) c.follow.ensures.front
     (λ log f. subst (WritesFront _ _) (all_text b log) f)
+
+pub returns-else-is_history-clause-unplayed : goal.returns-else-is_history-clause-unplayed
+returns-else-is_history-clause-unplayed g c =
+    let b = begins c.new-players.ensures.observers c.new-players.ensures.kind c.new-events.ensures.device
+    c.new-events.ensures.played c.new-events.ensures.unplayed c.new-history.ensures.device c.new-history.ensures.log
+    c.new-history.ensures.lines c.new-history.ensures.stray in
+    IfSome_then (left_in g.R.ByteSource.remaining c.args.from.now) c.in_ok-follow.ensures.left
+    (λ log left. c.unplayed.ensures ∙ unplayed_found b c.follow.new.observer log left
+    (sym c.is_history.ensures ∙ c.if-is_history.false))

@@ -1,27 +1,33 @@
-use Rattle.std.proofs.Common.{◌≡◌, ◌+◌, ◌-◌, arith}
-use Rattle.textio.proofs.Each.{each_more, each_fails}
-use Rattle.textio.proofs.Fronts.{writes_all}
-use Rattle.report.specs.Days.{day_row, rows_opened}
+use Rattle.std.proofs.Common.{[]}
+use Rattle.std.proofs.KnownBytes.{Appends-nil, Appends-trans}
+use Rattle.textio.proofs.Fronts.{writes_then, writes_fails, writes_failed, writes_all}
+use Rattle.report.proofs.Drawn.{opened_none, opened_some}
 use Rattle.report.proofs.days.open_to.Goals as goal
 
-pub loop-before-preserved : goal.loop-before-preserved
-loop-before-preserved g c =
-    let at = c.loop-before.before in
-    record {
-      within = omega arith;
-      written = each_more (day_row c.args.lamps) (c.args.rows + 1) (at - c.args.rows) _ (at + 1) _ _ _ (omega arith)
-          (omega arith) c.loop-before.invariant.written c.in_ok-put_row.ensures.whole;
-    }
+pub returns-then-day-rows-clause-text : goal.returns-then-day-rows-clause-text
+returns-then-day-rows-clause-text g c =
+    rw (opened_none c.args.lamps c.args.rows c.args.day c.if-day-rows.true) (writes_all [] (Appends-nil _))
+
+pub returns-in_err-end_row-clause-text : goal.returns-in_err-end_row-clause-text
+returns-in_err-end_row-clause-text g c =
+    rw (opened_some c.args.lamps c.args.rows c.args.day c.if-day-rows.false)
+    (writes_fails _ c.in_err-end_row.ensures c.from_residual.ensures)
+
+pub returns-in_err-put_idle-clause-text : goal.returns-in_err-put_idle-clause-text
+returns-in_err-put_idle-clause-text g c =
+    rw (opened_some c.args.lamps c.args.rows c.args.day c.if-day-rows.false)
+    (writes_then c.in_ok-end_row.ensures
+    (writes_fails _ c.in_err-put_idle.ensures c.from_residual-in_err-put_idle.ensures))
 
 pub returns-in_err-put_row-clause-text : goal.returns-in_err-put_row-clause-text
-unfolding rows_opened
 returns-in_err-put_row-clause-text g c =
-    let at = c.loop-before.before in
-    each_fails (day_row c.args.lamps) (c.args.rows + 1) (at - c.args.rows) (c.args.last - c.args.rows) (at + 1)
-    (omega arith) (omega arith) c.loop-before.invariant.written c.in_err-put_row.ensures c.from_residual.ensures
+    rw (opened_some c.args.lamps c.args.rows c.args.day c.if-day-rows.false)
+    (writes_then c.in_ok-end_row.ensures
+    (writes_then c.in_ok-put_idle.ensures
+    (writes_failed c.in_err-put_row.ensures c.from_residual-in_err-put_row.ensures)))
 
 pub returns-clause-text : goal.returns-clause-text
-unfolding rows_opened
 returns-clause-text g c =
-    let all : c.loop-before.before - c.args.rows ≡ c.args.last - c.args.rows = omega arith in
-    writes_all _ (rw all at c.loop-before.invariant.written)
+    rw (opened_some c.args.lamps c.args.rows c.args.day c.if-day-rows.false)
+    (writes_all _ (Appends-trans _ _ _ _ _ c.in_ok-end_row.ensures.whole
+    (Appends-trans _ _ _ _ _ c.in_ok-put_idle.ensures.whole c.in_ok-put_row.ensures.whole)))

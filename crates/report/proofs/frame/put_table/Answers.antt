@@ -6,12 +6,12 @@ pub returns-in_err-put : goal.returns-in_err-put
 unfolding table
 returns-in_err-put g c = writes_fails _ c.in_err-put.ensures c.from_residual.ensures
 
-pub returns-in_err-fill_totals : goal.returns-in_err-fill_totals
+pub returns-in_err-put_table_rows : goal.returns-in_err-put_table_rows
 unfolding table
-returns-in_err-fill_totals g c =
+returns-in_err-put_table_rows g c =
     writes_then c.in_ok-put.ensures
-    (writes_fails _ c.in_err-fill_totals.ensures c.from_residual-in_err-fill_totals.ensures)
+    (writes_fails _ c.in_err-put_table_rows.ensures c.from_residual-in_err-put_table_rows.ensures)
 
 pub returns : goal.returns
 unfolding table
-returns g c = writes_then c.in_ok-put.ensures (writes_then c.in_ok-fill_totals.ensures c.put-2.ensures)
+returns g c = writes_then c.in_ok-put.ensures (writes_then c.in_ok-put_table_rows.ensures c.put-2.ensures)

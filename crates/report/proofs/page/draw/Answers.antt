@@ -1,13 +1,18 @@
-use Rattle.std.proofs.Common.{◌≡◌, ◌+◌, ◌-◌, ◌/◌, ◌<◌, arith, ◌∙◌}
+use Rattle.std.proofs.Common.{◌≡◌, ◌+◌, ◌-◌, ◌/◌, ◌<◌, [], arith, sym, ◌∙◌}
 use Rattle.std.proofs.KnownBytes.{Appends-nil}
 use Rattle.textio.proofs.Each.{each_more, each_fails}
 use Rattle.textio.proofs.Fronts.{writes_all}
 use Rattle.report.specs.Days.{days_of, drawn_in}
-use Rattle.report.proofs.Drawn.{drawn_none, drawn_some, rows_before_next, days_of_after}
+use Rattle.report.proofs.Drawn.{drawn_none, drawn_unlit, drawn_some, rows_before_next, days_of_after}
 use Rattle.report.proofs.page.draw.Goals as goal
 
 pub returns-then-s-clause-text : goal.returns-then-s-clause-text
 returns-then-s-clause-text g c = grind (arith, drawn_none, writes_all, Appends-nil)
+
+pub returns-then-not-burns-clause-text : goal.returns-then-not-burns-clause-text
+returns-then-not-burns-clause-text g c =
+    rw (drawn_unlit c.args.rows c.args.lit.now c.args.s.from c.args.s.to
+    (sym c.is_any-burns.ensures ∙ c.if-not-burns.true)) (writes_all [] (Appends-nil _))
 
 pub loop-before-preserved : goal.loop-before-preserved
 loop-before-preserved g c =
@@ -34,7 +39,7 @@ returns-in_err-opened-clause-text g c =
     let inside : before - first < days_of s.to - first
     = omega (arith, begun, c.loop-before-test.true, c.days_until-before-end.ensures) in
     let known = c.loop-before.invariant in
-    rw (drawn_some rows c.args.lit.now s.from s.to c.if-s.false)
+    rw (drawn_some rows c.args.lit.now s.from s.to c.if-s.false (sym c.is_any-burns.ensures ∙ c.if-not-burns.false))
     (each_fails (drawn_in rows c.args.lit.now s.from s.to) (first + 1) (before - first) (days_of s.to - first)
     (before + 1) (omega (arith, begun)) inside known.written (rw known.opened at c.in_err-opened.ensures.text)
     c.from_residual.ensures)
@@ -48,5 +53,6 @@ returns-clause-text g c =
     let last = c.loop-before.auto.before-end (omega (arith, some, until)) in
     let all : c.loop-before.before - first ≡ days_of s.to - first
     = omega (arith, c.loop-before-test.false, last, until) in
-    rw (drawn_some c.args.rows c.args.lit.now s.from s.to c.if-s.false)
+    rw (drawn_some c.args.rows c.args.lit.now s.from s.to c.if-s.false
+    (sym c.is_any-burns.ensures ∙ c.if-not-burns.false))
     (writes_all _ (rw all at c.loop-before.invariant.written))

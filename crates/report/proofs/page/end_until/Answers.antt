@@ -2,37 +2,37 @@ use Rattle.textio.proofs.Fronts.{writes_then, writes_fails}
 use Rattle.report.specs.Frame.{page_ended_until}
 use Rattle.report.proofs.page.end_until.Goals as goal
 
-pub returns-in_err-open_to : goal.returns-in_err-open_to
+pub returns-in_err-end : goal.returns-in_err-end
 unfolding page_ended_until
-returns-in_err-open_to g c =
-    writes_fails _ (rw c.days_until.ensures at c.in_err-open_to.ensures.text) c.from_residual.ensures
+returns-in_err-end g c =
+    writes_fails _ (rw c.days_until.ensures at c.in_err-end.ensures) c.from_residual.ensures
 
-pub returns-in_err-end_row : goal.returns-in_err-end_row
+pub returns-in_err-close_days : goal.returns-in_err-close_days
 unfolding page_ended_until
-returns-in_err-end_row g c =
-    writes_then (rw c.days_until.ensures at c.in_ok-open_to.ensures.text)
-    (writes_fails _ c.in_err-end_row.ensures c.from_residual-in_err-end_row.ensures)
+returns-in_err-close_days g c =
+    writes_then (rw c.days_until.ensures at c.in_ok-end.ensures)
+    (writes_fails _ c.in_err-close_days.ensures c.from_residual-in_err-close_days.ensures)
 
 pub returns-in_err-put_table : goal.returns-in_err-put_table
 unfolding page_ended_until
 returns-in_err-put_table g c =
-    writes_then (rw c.days_until.ensures at c.in_ok-open_to.ensures.text)
-    (writes_then c.in_ok-end_row.ensures
+    writes_then (rw c.days_until.ensures at c.in_ok-end.ensures)
+    (writes_then c.in_ok-close_days.ensures
     (writes_fails _ c.in_err-put_table.ensures c.from_residual-in_err-put_table.ensures))
 
 pub returns-in_err-put_until : goal.returns-in_err-put_until
 unfolding page_ended_until
 returns-in_err-put_until g c =
-    writes_then (rw c.days_until.ensures at c.in_ok-open_to.ensures.text)
-    (writes_then c.in_ok-end_row.ensures
+    writes_then (rw c.days_until.ensures at c.in_ok-end.ensures)
+    (writes_then c.in_ok-close_days.ensures
     (writes_then c.in_ok-put_table.ensures
     (writes_fails _ c.in_err-put_until.ensures c.from_residual-in_err-put_until.ensures)))
 
 pub returns-in_err-put_stray : goal.returns-in_err-put_stray
 unfolding page_ended_until
 returns-in_err-put_stray g c =
-    writes_then (rw c.days_until.ensures at c.in_ok-open_to.ensures.text)
-    (writes_then c.in_ok-end_row.ensures
+    writes_then (rw c.days_until.ensures at c.in_ok-end.ensures)
+    (writes_then c.in_ok-close_days.ensures
     (writes_then c.in_ok-put_table.ensures
     (writes_then c.in_ok-put_until.ensures
     (writes_fails _ c.in_err-put_stray.ensures c.from_residual-in_err-put_stray.ensures))))
@@ -40,7 +40,7 @@ returns-in_err-put_stray g c =
 pub returns : goal.returns
 unfolding page_ended_until
 returns g c =
-    writes_then (rw c.days_until.ensures at c.in_ok-open_to.ensures.text)
-    (writes_then c.in_ok-end_row.ensures
+    writes_then (rw c.days_until.ensures at c.in_ok-end.ensures)
+    (writes_then c.in_ok-close_days.ensures
     (writes_then c.in_ok-put_table.ensures
-    (writes_then c.in_ok-put_until.ensures (writes_then c.in_ok-put_stray.ensures c.put.ensures))))
+    (writes_then c.in_ok-put_until.ensures (writes_then c.in_ok-put_stray.ensures c.close.ensures))))

@@ -1,25 +1,31 @@
 -- the line is played, and what ended with it told
-use Rattle.std.proofs.Common.{map, ◌∙◌, arith, List}
+use Rattle.std.proofs.Common.{map, ◌∙◌, ◌≡◌, ◌+◌, ap, arith, List, inl, inr}
 use Rattle.textio.specs.Lines.{LogLine, texts_of}
 use Rattle.textio.proofs.Failures.{both_mapped}
-use Rattle.floorlog.specs.KeptText.{kept_text}
+use Rattle.floorlog.specs.KeptText.{kept_text, kept_line}
 use Rattle.watch.specs.Marking.{floor_event}
 use Rattle.watch.specs.States.{state_of}
-use Rattle.burnt.proofs.FloorTold.{line_uncounted, line_counted, line_told, line_cut, line_left, line_reported}
+use Rattle.watch.specs.Watching.{Watching}
+use Rattle.burnt.proofs.FloorTold.{line_uncounted, line_told, line_cut, line_left, line_reported}
+use Rattle.burnt.proofs.FloorTold.{line_unplayed, line_over}
 use Rattle.burnt.proofs.telling.TellerObserver.line.Goals as goal
 
 pub returns-in_default-clause-err : goal.returns-in_default-clause-err
-returns-in_default-clause-err g c =
+returns-in_default-clause-err g c = λ ls. inr (omega arith)
+
+pub returns-in_default-2-clause-err : goal.returns-in_default-2-clause-err
+returns-in_default-2-clause-err g c =
     let s = state_of c.args.self.now.watch in
     λ ls. inl (line_uncounted s (floor_event (kept_text c.args.line.now)) (map floor_event (texts_of ls))
-    (c.play.ensures.uncounted c.in_default.is))
+    (c.play.ensures.uncounted c.in_default-2.is))
 
 pub returns-clause-ok : goal.returns-clause-ok
 returns-clause-ok g c =
     let t = c.args.self.now in
     let s = state_of t.watch in
     let e = floor_event (kept_text c.args.line.now) in
-    let watched = c.in-Some.ensures.watched in
+    let watched = c.in-Some-2.ensures.watched in
+    let more : c.in-Some.number ≡ t.lines + 1 = omega arith in
     both_mapped _ _ c.map_err.ensures.variant c.tell_ended.ensures.report c.tell_ended.ensures.text.whole
     (λ reported written. record {
       text = _;
@@ -29,9 +35,10 @@ returns-clause-ok g c =
         h.0,
         line_reported s e (map floor_event (texts_of ls)) watched t.starts t.report reported h.1,
         h.2.0 ∙ line_left s e (map floor_event (texts_of ls)) watched,
-        ?,
+        line_unplayed t c.told-self (kept_line c.args.line.now) ls more (ap (λ (x : Watching). x.device) watched.state)
+        (rw more at c.note.ensures.noted) h.2.1,
       );
-      overflows = λ ls h. ?;
+      overflows = λ ls h. line_over t c.told-self (kept_line c.args.line.now) ls more watched h;
     })
 
 pub returns-clause-front : goal.returns-clause-front
@@ -39,5 +46,5 @@ returns-clause-front g c =
     let t = c.args.self.now in
     let e = floor_event (kept_text c.args.line.now) in
     let cut = λ (ls : List LogLine). line_cut (state_of t.watch) e (map floor_event (texts_of ls))
-    c.in-Some.ensures.watched t.starts t.report c.tell_ended.ensures.text.front in
+    c.in-Some-2.ensures.watched t.starts t.report c.tell_ended.ensures.text.front in
     grind (arith, cut)
