@@ -36,7 +36,7 @@ returns-clause-ok g c =
         line_reported s e (map floor_event (texts_of ls)) watched t.starts t.report reported h.1,
         h.2 ∙ line_left s e (map floor_event (texts_of ls)) watched,
         line_unplayed t (kept_line c.args.line.now) ls more (ap (λ (x : Watching). x.device) watched.state)
-        (rw (more, c.text.ensures, c.in-Some-play.ensures.answer) at c.note.ensures.noted) h.3,
+            (rw (more, c.text.ensures, c.in-Some-play.ensures.answer) at c.note.ensures.noted) h.3,
       );
       overflows = λ ls h. line_over t (kept_line c.args.line.now) ls more watched h;
     })
