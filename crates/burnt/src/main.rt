@@ -10,7 +10,7 @@ pub mod theorems;
 
 use command::asked::Command;
 use formfile::Begun;
-use program::about::About;
+use program::about::{self, About};
 use program::outside::System;
 use program::run;
 use program::telling::{Ending, Telling};
@@ -59,6 +59,7 @@ impl Telling for Burnt {
 fn main(rt: HostRuntime) -> ExitCode {
     let about = About {
         name: "burnt",
+        version: about::VERSION,
         usage: USAGE,
         help: HELP,
         has_page: true,

@@ -10,7 +10,7 @@ pub mod theorems;
 
 use command::asked::Command;
 use formfile::Begun;
-use program::about::About;
+use program::about::{self, About};
 use program::outside::System;
 use program::run;
 use program::telling::{Ending, Telling};
@@ -58,6 +58,7 @@ impl Telling for Replay {
 fn main(rt: HostRuntime) -> ExitCode {
     let about = About {
         name: "replay",
+        version: about::VERSION,
         usage: USAGE,
         help: HELP,
         has_page: false,
