@@ -14,7 +14,7 @@ ghost use Rattle.burnt.specs.LogTold.{told, stray_in, unplayed_in, IsTooMuch};
 
 use command::asked::Command;
 use formfile::Begun;
-use program::about::About;
+use program::about::{self, About};
 use program::outside::System;
 use program::run;
 use program::telling::{Ending, Telling};
@@ -71,6 +71,7 @@ impl Telling for Burnt {
 fn main(rt: HostRuntime) -> ExitCode {
     let about = About {
         name: "burnt",
+        version: about::VERSION,
         usage: USAGE,
         help: HELP,
         has_page: true,

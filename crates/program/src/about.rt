@@ -8,6 +8,8 @@ pub const VERSION: &str = "12 (rattle-kit-13f logic dac8208d650f15bf)\n";
 pub struct About {
     /// Its name.
     pub name: &'static str,
+    /// Its version.
+    pub version: &'static str,
     /// How it is called, in one line.
     pub usage: &'static str,
     /// What `--help` writes after that line.

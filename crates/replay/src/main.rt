@@ -15,7 +15,7 @@ ghost use Rattle.replay.specs.LogText.{any_log_text, log_stray, log_unplayed};
 
 use command::asked::Command;
 use formfile::Begun;
-use program::about::About;
+use program::about::{self, About};
 use program::outside::System;
 use program::run;
 use program::telling::{Ending, Telling};
@@ -71,6 +71,7 @@ impl Telling for Replay {
 fn main(rt: HostRuntime) -> ExitCode {
     let about = About {
         name: "replay",
+        version: about::VERSION,
         usage: USAGE,
         help: HELP,
         has_page: false,
