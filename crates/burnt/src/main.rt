@@ -8,6 +8,7 @@ mod telling;
 mod tests;
 pub mod theorems;
 
+use command::asked::Command;
 use formfile::Begun;
 use program::about::About;
 use program::outside::System;
@@ -19,13 +20,15 @@ use textio::lines::Failure;
 use textio::reader::{ByteSource, Reader};
 use textio::writer::ByteSink;
 
-const USAGE: &str = "usage: burnt [--page] [-o FILE] [--form FORM] [FORM] [LOG..]\n";
+const USAGE: &str = "usage: burnt [--page] [--began TIME] [-o FILE] [--form FORM] [FORM] [LOG..]\n";
 
 const HELP: &str = "
 Tells which lamp burnt when: writes each stretch of a lamp as it ends, in
 seconds since the log began, and at the end each lamp's seconds.
 
       --page             write one HTML document that shows them
+      --began TIME       of a page: when the log began, as 2026-11-23T06:00;
+                         its days and hours are then those of the clock
   FORM                   the stored form that the log begins with; without
                          one it begins with the sample set-up
   LOG..                  the files of the log, in their order; - is standard
@@ -47,12 +50,18 @@ struct Burnt;
 impl Telling for Burnt {
     fn tell<R: ByteSource, W: ByteSink>(
         &self,
-        begun: Begun,
-        page: bool,
+        begun: &Begun,
+        command: &Command<'_>,
         from: &mut Reader<R>,
         to: &mut W,
     ) -> Result<Ending, Failure> {
-        match telling::tell_log(begun.device, begun.sum, Report::new(page), from, to)? {
+        match telling::tell_log(
+            begun.device,
+            begun.sum,
+            Report::new(command.page, command.began),
+            from,
+            to,
+        )? {
             None => Ok(Ending::Whole),
             Some(line) => Ok(Ending::Stray(line)),
         }

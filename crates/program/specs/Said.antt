@@ -21,7 +21,8 @@ use Rattle.formfile.specs.declared.NotBegun.TheVariants.{Unread, Refused}
 use Rattle.reasons.specs.Reasons.{number_text}
 use Rattle.recorded.specs.Following.{FirstStray, stray_text}
 use Rattle.command.specs.declared.asked.Stop.{Stop}
-use Rattle.command.specs.declared.asked.Stop.TheVariants.{Help, Version, Unknown, Alone, Twice, NoForm, NoMemory}
+use Rattle.command.specs.declared.asked.Stop.TheVariants.{Help, Version, Unknown, Alone, Twice, NoForm, NoMoment}
+use Rattle.command.specs.declared.asked.Stop.TheVariants.{NoMemory}
 
 abbrev pub unread_text : List ℕ → List ℕ → List ℕ
 unread_text n cause = n ++ (codes ": cannot be read" ++ (cause ++ codes "\n"))
@@ -51,6 +52,7 @@ stop_text (Unknown w) usage = with_usage w.now (codes ": no such option") usage
 stop_text (Alone w) usage = with_usage w.now (codes ": a file's name is missing after it") usage
 stop_text (Twice w) usage = with_usage w.now (codes ": given twice") usage
 stop_text (NoForm w) usage = with_usage w.now (codes ": a form is a file") usage
+stop_text (NoMoment w) usage = with_usage w.now (codes ": no day and time, as 2026-11-23T06:00") usage
 stop_text NoMemory usage = []
 
 pub record UnreadSaid (fails : Error → Type 0) (old new : Option (List ℕ)) (said : Result (Unit {0}) Error) (n : List ℕ)

@@ -116,14 +116,14 @@ fn ended<E: ByteSink>(ending: Ending, errors: &mut E) -> Status {
 // The log told by the program. A history without its header ends so where no line of it says more.
 fn told_by<P: Telling, R: ByteSource + Drop, W: ByteSink>(
     program: &P,
-    begun: Begun,
-    page: bool,
+    begun: &Begun,
+    command: &Command<'_>,
     source: R,
     to: &mut W,
 ) -> Result<Ending, Failure> {
     let mut from = Reader::new(source);
     let headless = is_headless(&mut from);
-    match program.tell(begun, page, &mut from, to)? {
+    match program.tell(begun, command, &mut from, to)? {
         Ending::Whole if headless => Ok(Ending::Headless),
         ending => Ok(ending),
     }
@@ -132,13 +132,13 @@ fn told_by<P: Telling, R: ByteSource + Drop, W: ByteSink>(
 // The log on standard output. A failure's line stands there too, and in words on standard error.
 fn tell_out<P: Telling, O: Opens, W: ByteSink, E: ByteSink>(
     program: &P,
-    begun: Begun,
-    page: bool,
+    begun: &Begun,
+    command: &Command<'_>,
     mut log: Joined<'_, '_, O>,
     to: &mut W,
     errors: &mut E,
 ) -> Status {
-    let told = told_by(program, begun, page, Stream(&mut log), to);
+    let told = told_by(program, begun, command, Stream(&mut log), to);
     match told {
         Ok(ending) => match cut::end_output(Ok(()), to) {
             Ok(()) => ended(ending, errors),
@@ -155,8 +155,8 @@ fn tell_out<P: Telling, O: Opens, W: ByteSink, E: ByteSink>(
 // The log in a file, which is left as it was where that fails.
 fn tell_saved<P: Telling, O: Outside, E: ByteSink>(
     program: &P,
-    begun: Begun,
-    page: bool,
+    begun: &Begun,
+    command: &Command<'_>,
     mut log: Joined<'_, '_, O>,
     outside: &O,
     name: &str,
@@ -166,7 +166,7 @@ fn tell_saved<P: Telling, O: Outside, E: ByteSink>(
         Ok(sink) => sink,
         Err(error) => return unwritten(name, &error, errors),
     };
-    let told = told_by(program, begun, page, Stream(&mut log), &mut to);
+    let told = told_by(program, begun, command, Stream(&mut log), &mut to);
     match told {
         Ok(ending) => match outside.keep(to) {
             Ok(()) => ended(ending, errors),
@@ -238,8 +238,8 @@ fn tell<P: Telling, O: Outside, W: ByteSink, E: ByteSink>(
     };
     let log = Joined::new(outside, command.logs.as_slice());
     match command.output {
-        None => tell_out(program, begun, command.page, log, to, errors),
-        Some(name) => tell_saved(program, begun, command.page, log, outside, name, errors),
+        None => tell_out(program, &begun, command, log, to, errors),
+        Some(name) => tell_saved(program, &begun, command, log, outside, name, errors),
     }
 }
 

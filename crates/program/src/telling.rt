@@ -1,4 +1,5 @@
 // What a program makes of a log.
+use command::asked::Command;
 use formfile::Begun;
 use recorded::stray::StrayLine;
 use textio::lines::Failure;
@@ -21,8 +22,8 @@ pub trait Telling {
     /// What it tells of the log that a reader has left, which begins with a device, goes to a sink, as it comes.
     fn tell<R: ByteSource, W: ByteSink>(
         &self,
-        begun: Begun,
-        page: bool,
+        begun: &Begun,
+        command: &Command<'_>,
         from: &mut Reader<R>,
         to: &mut W,
     ) -> Result<Ending, Failure>;

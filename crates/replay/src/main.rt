@@ -8,6 +8,7 @@ mod playing;
 mod tests;
 pub mod theorems;
 
+use command::asked::Command;
 use formfile::Begun;
 use program::about::About;
 use program::outside::System;
@@ -45,8 +46,8 @@ struct Replay;
 impl Telling for Replay {
     fn tell<R: ByteSource, W: ByteSink>(
         &self,
-        begun: Begun,
-        _page: bool,
+        begun: &Begun,
+        _command: &Command<'_>,
         from: &mut Reader<R>,
         to: &mut W,
     ) -> Result<Ending, Failure> {
