@@ -184,12 +184,13 @@ fn page(log: &str, form: Option<&[u8]>) -> io::Result<()> {
     let log = fs::read(log)?;
     let mut page = Vec::new();
     io::stdin().lock().read_to_end(&mut page)?;
-    pages::fault(&pages::expected(form, &log), &page).map_err(io::Error::other)
+    pages::fault(&pages::expected(form, &log, None), &page).map_err(io::Error::other)
 }
 
 fn pages(seed: u64, count: usize, words: &[&str]) -> ExitCode {
     println!("seed {seed}");
-    match pages::compare(&program(words), seed, count) {
+    let began = words.iter().find_map(|word| word.strip_prefix("--began=")).map(|text| pages::moment(text).expect("a moment"));
+    match pages::compare(&program(words), seed, count, began) {
         Ok(met) => {
             println!("{met}, seed {seed}");
             verdict(met.missed().is_empty())

@@ -10,6 +10,7 @@ pub mod theorems;
 
 ghost use Rattle.std.specs.Prelude.{◌≡◌, option_map};
 ghost use Rattle.recorded.specs.Following.{stray_seen};
+ghost use Rattle.report.specs.Reports.{report_new};
 ghost use Rattle.burnt.specs.LogTold.{told, stray_in, unplayed_in, IsTooMuch};
 
 use command::asked::Command;
@@ -24,13 +25,15 @@ use textio::lines::Failure;
 use textio::reader::{ByteSource, Reader};
 use textio::writer::ByteSink;
 
-const USAGE: &str = "usage: burnt [--page] [-o FILE] [--form FORM] [FORM] [LOG..]\n";
+const USAGE: &str = "usage: burnt [--page] [--began TIME] [-o FILE] [--form FORM] [FORM] [LOG..]\n";
 
 const HELP: &str = "
 Tells which lamp burnt when: writes each stretch of a lamp as it ends, in
 seconds since the log began, and at the end each lamp's seconds.
 
       --page             write one HTML document that shows them
+      --began TIME       of a page: when the log began, as 2026-11-23T06:00;
+                         its days and hours are then those of the clock
   FORM                   the stored form that the log begins with; without
                          one it begins with the sample set-up
   LOG..                  the files of the log, in their order; - is standard
@@ -50,7 +53,7 @@ the log does not belong to it.
 struct Burnt;
 
 impl Telling for Burnt {
-    ghost told = { λ _ asked begun log. told begun.device begun.sum asked.page log };
+    ghost told = { λ _ asked begun log. told begun.device begun.sum (report_new asked.page asked.began) log };
 
     ghost ends = { λ _ begun log ending.
         (option_map stray_seen ending.stray ≡ stray_in begun.device begun.sum log)
@@ -65,7 +68,13 @@ impl Telling for Burnt {
         from: &mut Reader<R>,
         to: &mut W,
     ) -> Result<Ending, Failure> {
-        telling::tell_log(begun.device, begun.sum, Report::new(command.page), from, to)
+        telling::tell_log(
+            begun.device,
+            begun.sum,
+            Report::new(command.page, command.began),
+            from,
+            to,
+        )
     }
 }
 

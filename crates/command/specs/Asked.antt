@@ -6,7 +6,7 @@
 --   after_word p r w   what the words r and w behind them ask for
 --   read_on p r ws     and the words ws behind them;    begun   before any
 --   ended r            what they ask for where they end
---   AskedFor           that: whether a page, by which form, into which file, of which logs
+--   AskedFor           that: whether a page, of a log that began when, by which form, into which file, of which logs
 --   asked_by p ws      what the words of a command line ask for, the program's name not among them
 --   GoesOn, Asks       the same of what the code has, which may be out of memory too
 -- Assumes nothing.
@@ -21,9 +21,12 @@ use Rattle.words.specs.Bytes.{◌at◌}
 use Rattle.command.specs.declared.asked.Use.{Use}
 use Rattle.command.specs.declared.asked.Use.TheVariants as use_case
 use Rattle.command.specs.declared.asked.Next.{Next}
-use Rattle.command.specs.declared.asked.Next.TheVariants.{Any, FormName, OutputName, Free}
+use Rattle.command.specs.declared.asked.Next.TheVariants.{Any, FormName, OutputName, Moment as MomentNext, Free}
+use Rattle.calendar.specs.declared.Moment.{Moment}
+use Rattle.calendar.specs.Moments.{moment_in}
 use Rattle.command.specs.declared.asked.Stop.{Stop}
-use Rattle.command.specs.declared.asked.Stop.TheVariants.{Help, Version, Unknown, Alone, Twice, NoForm, NoMemory}
+use Rattle.command.specs.declared.asked.Stop.TheVariants.{Help, Version, Unknown, Alone, Twice, NoForm, NoMoment}
+use Rattle.command.specs.declared.asked.Stop.TheVariants.{NoMemory}
 use Rattle.command.specs.declared.asked.Reading.{Reading as ReadingCase}
 use Rattle.command.specs.declared.asked.Command.{Command}
 
@@ -32,6 +35,7 @@ use_of has_page w =
     if bytes_eq w (codes "-h") || bytes_eq w (codes "--help") then use_case.Help
     else if bytes_eq w (codes "-V") || bytes_eq w (codes "--version") then use_case.Version
     else if has_page && bytes_eq w (codes "--page") then use_case.Page
+    else if has_page && bytes_eq w (codes "--began") then use_case.Began
     else if bytes_eq w (codes "--form") then use_case.Form
     else if bytes_eq w (codes "-o") || bytes_eq w (codes "--output") then use_case.Output
     else use_case.Unknown
@@ -48,6 +52,7 @@ is_equals b = b is "="
 pub record Reading : Type 0 where
   pub next : Next
   pub page : Bool
+  pub began : Option Moment
   pub form : Option (List ℕ)
   pub output : Option (List ℕ)
   pub free : List (List ℕ)
@@ -60,9 +65,17 @@ pub data Stopped : Type 0 where
   alone : List ℕ → Stopped
   twice : List ℕ → Stopped
   no_form : List ℕ → Stopped
+  no_moment : List ℕ → Stopped
 
 abbrev pub begun : Reading
-begun = record { next = Any; page = false; form = None; output = None; free = []; has_dash = false }
+begun = record { next = Any; page = false; began = None; form = None; output = None; free = []; has_dash = false }
+
+abbrev pub with_moment : Reading → List ℕ → Option Moment → Result Reading Stopped
+with_moment r w None = Err (no_moment w)
+with_moment r w (Some m) = Ok (record r { next = Any; began = Some m })
+
+abbrev pub with_began : Reading → List ℕ → Result Reading Stopped
+with_began r w = if is_some r.began then Err (twice (codes "--began")) else with_moment r w (moment_in w)
 
 abbrev pub with_form : Reading → List ℕ → Result Reading Stopped
 with_form r name =
@@ -85,6 +98,8 @@ by_use use_case.Version true r w value = Err version
 by_use use_case.Version false r w value = Err (unknown w)
 by_use use_case.Page true r w value = Ok (record r { page = true })
 by_use use_case.Page false r w value = Err (unknown w)
+by_use use_case.Began true r w value = Ok (record r { next = MomentNext })
+by_use use_case.Began false r w value = with_began r value
 by_use use_case.Form true r w value = Ok (record r { next = FormName })
 by_use use_case.Form false r w value = with_form r value
 by_use use_case.Output true r w value = Ok (record r { next = OutputName })
@@ -99,6 +114,7 @@ by_option has_page r w =
 abbrev pub by_next : Next → Bool → Reading → List ℕ → Result Reading Stopped
 by_next FormName has_page r w = with_form r w
 by_next OutputName has_page r w = with_output r w
+by_next MomentNext has_page r w = with_began r w
 by_next Free has_page r w = with_free r w
 by_next Any has_page r w =
     if bytes_eq w (codes "--") then Ok (record r { next = Free })
@@ -118,23 +134,26 @@ read_on has_page r (w ∷ ws) = and_then (after_word has_page r w) (λ s. read_o
 
 pub record AskedFor : Type 0 where
   pub page : Bool
+  pub began : Option Moment
   pub form : Option (List ℕ)
   pub output : Option (List ℕ)
   pub logs : List (List ℕ)
 
 abbrev pub by_first : Reading → List (List ℕ) → Result AskedFor Stopped
-by_first r [] = Ok (record { page = r.page; form = None; output = r.output; logs = [] })
+by_first r [] = Ok (record { page = r.page; began = r.began; form = None; output = r.output; logs = [] })
 by_first r (w ∷ ws) =
     if bytes_eq w dash then Err (no_form w)
-    else Ok (record { page = r.page; form = Some w; output = r.output; logs = ws })
+    else Ok (record { page = r.page; began = r.began; form = Some w; output = r.output; logs = ws })
 
 abbrev pub by_files : Option (List ℕ) → Reading → Result AskedFor Stopped
-by_files (Some name) r = Ok (record { page = r.page; form = Some name; output = r.output; logs = r.free })
+by_files (Some name) r =
+    Ok (record { page = r.page; began = r.began; form = Some name; output = r.output; logs = r.free })
 by_files None r = by_first r r.free
 
 abbrev pub by_end : Next → Reading → Result AskedFor Stopped
 by_end FormName r = Err (alone (codes "--form"))
 by_end OutputName r = Err (alone (codes "--output"))
+by_end MomentNext r = Err (no_moment (codes "--began"))
 by_end Any r = by_files r.form r
 by_end Free r = by_files r.form r
 
@@ -151,6 +170,7 @@ abbrev pub seen_in : ReadingCase → Reading
 seen_in r = record {
   next = r.next;
   page = r.page;
+  began = r.began;
   form = text_seen r.form;
   output = text_seen r.output;
   free = map (λ (b : Bor (List ℕ)). b.now) r.free.items;
@@ -164,6 +184,7 @@ StopsBy (Unknown w) r = r ≡ Err (unknown w.now)
 StopsBy (Alone w) r = r ≡ Err (alone w.now)
 StopsBy (Twice w) r = r ≡ Err (twice w.now)
 StopsBy (NoForm w) r = r ≡ Err (no_form w.now)
+StopsBy (NoMoment w) r = r ≡ Err (no_moment w.now)
 StopsBy NoMemory r = ⊤
 
 abbrev pub GoesOn : Result ReadingCase Stop → Result Reading Stopped → Type 0
@@ -173,6 +194,7 @@ GoesOn (Err why) s = StopsBy why s
 abbrev pub asked_seen : Command → AskedFor
 asked_seen c = record {
   page = c.page;
+  began = c.began;
   form = text_seen c.form;
   output = text_seen c.output;
   logs = map (λ (b : Bor (List ℕ)). b.now) c.logs.items;

@@ -3,6 +3,7 @@ ghost use Rattle.std.specs.Prelude.{◌≡◌, map};
 ghost use Rattle.std.specs.List.{before_first, after_first};
 ghost use Rattle.command.specs.Asked.{use_of, is_equals, is_dashed, asked_by, Asks};
 
+use calendar::Moment;
 use std::alloc::{AllocError, Global};
 use std::convert::AsStr;
 
@@ -21,6 +22,8 @@ pub enum Stop<'a> {
     Twice(&'a str),
     /// It has this word, for standard input, where the form's file is wanted.
     NoForm(&'a str),
+    /// It has this word where a day and a time of day are wanted.
+    NoMoment(&'a str),
     /// There is no memory for the words.
     NoMemory,
 }
@@ -41,6 +44,7 @@ enum Next {
     Any,
     FormName,
     OutputName,
+    Moment,
     // no option comes any more
     Free,
 }
@@ -51,6 +55,7 @@ enum Use {
     Help,
     Version,
     Page,
+    Began,
     Form,
     Output,
     Unknown,
@@ -61,6 +66,8 @@ enum Use {
 pub struct Command<'a> {
     /// Whether for a page.
     pub page: bool,
+    /// When the log began, if that is said.
+    pub began: Option<Moment>,
     /// The file of the stored form that the log begins with; none for the sample set-up.
     pub form: Option<&'a str>,
     /// The file that the output goes into; none for standard output.
@@ -74,6 +81,7 @@ pub struct Command<'a> {
 struct Reading<'a> {
     next: Next,
     page: bool,
+    began: Option<Moment>,
     form: Option<&'a str>,
     output: Option<&'a str>,
     free: Vec<&'a str>,
@@ -92,6 +100,9 @@ fn use_of(has_page: bool, name: &str) -> Use
     }
     if has_page && name == "--page" {
         return Use::Page;
+    }
+    if has_page && name == "--began" {
+        return Use::Began;
     }
     if name == "--form" {
         return Use::Form;
@@ -121,7 +132,8 @@ fn cut(word: &str) -> (&str, &str)
 }
 
 impl<'a> Reading<'a> {
-    ghost use Rattle.command.specs.Asked.{seen_in, GoesOn, with_form, with_output, with_free, by_option, after_word};
+    ghost use Rattle.command.specs.Asked.{seen_in, GoesOn, with_began, with_form, with_output, with_free};
+    ghost use Rattle.command.specs.Asked.{by_option, after_word};
     ghost use Rattle.command.specs.Asked.{begun, ended, read_on};
 
     fn new(alloc: Global) -> Reading<'a>
@@ -130,11 +142,26 @@ impl<'a> Reading<'a> {
         Reading {
             next: Next::Any,
             page: false,
+            began: None,
             form: None,
             output: None,
             free: Vec::new(alloc),
             dash: false,
         }
+    }
+
+    fn with_began(mut self, word: &'a str) -> Result<Reading<'a>, Stop<'a>>
+        ensures { GoesOn result (with_began (seen_in self.entry) word.now) }
+    {
+        if self.began.is_some() {
+            return Err(Stop::Twice("--began"));
+        }
+        let Some(moment) = calendar::moment_in(word.as_bytes()) else {
+            return Err(Stop::NoMoment(word));
+        };
+        self.began = Some(moment);
+        self.next = Next::Any;
+        Ok(self)
     }
 
     fn with_form(mut self, name: &'a str) -> Result<Reading<'a>, Stop<'a>>
@@ -183,6 +210,11 @@ impl<'a> Reading<'a> {
                 self.page = true;
                 Ok(self)
             }
+            (Use::Began, true) => {
+                self.next = Next::Moment;
+                Ok(self)
+            }
+            (Use::Began, false) => self.with_began(value),
             (Use::Form, true) => {
                 self.next = Next::FormName;
                 Ok(self)
@@ -204,6 +236,7 @@ impl<'a> Reading<'a> {
         match self.next {
             Next::FormName => self.with_form(word),
             Next::OutputName => self.with_output(word),
+            Next::Moment => self.with_began(word),
             Next::Free => self.with_free(word),
             Next::Any => {
                 if word == "--" {
@@ -226,9 +259,10 @@ impl<'a> Reading<'a> {
         match self.next {
             Next::FormName => return Err(Stop::Alone("--form")),
             Next::OutputName => return Err(Stop::Alone("--output")),
+            Next::Moment => return Err(Stop::NoMoment("--began")),
             _ => {}
         }
-        let (page, output, mut logs) = (self.page, self.output, self.free);
+        let (page, began, output, mut logs) = (self.page, self.began, self.output, self.free);
         let form = match self.form {
             Some(name) => Some(name),
             None => {
@@ -245,6 +279,7 @@ impl<'a> Reading<'a> {
         };
         Ok(Command {
             page,
+            began,
             form,
             output,
             logs,

@@ -43,7 +43,8 @@ use Rattle.program.specs.declared.telling.Ending.{Ending}
 use Rattle.program.specs.declared.status.Status.{Status}
 use Rattle.program.specs.declared.status.Status.TheVariants.{Done, Strayed}
 use Rattle.command.specs.declared.asked.Stop.{Stop}
-use Rattle.command.specs.declared.asked.Stop.TheVariants.{Help, Version, Unknown, Alone, Twice, NoForm, NoMemory}
+use Rattle.command.specs.declared.asked.Stop.TheVariants.{Help, Version, Unknown, Alone, Twice, NoForm, NoMoment}
+use Rattle.command.specs.declared.asked.Stop.TheVariants.{NoMemory}
 
 abbrev pub cause_words : ErrorKind → List ℕ
 cause_words NotFound = codes ": no such file"
@@ -118,6 +119,7 @@ stop_text (Unknown w) usage = with_usage w.now (codes ": no such option") usage
 stop_text (Alone w) usage = with_usage w.now (codes ": a file's name is missing after it") usage
 stop_text (Twice w) usage = with_usage w.now (codes ": given twice") usage
 stop_text (NoForm w) usage = with_usage w.now (codes ": a form is a file") usage
+stop_text (NoMoment w) usage = with_usage w.now (codes ": no day and time, as 2026-11-23T06:00") usage
 stop_text NoMemory usage = []
 
 abbrev pub UnbegunSaid : (Error → Type 0) → Option (List ℕ) → Option (List ℕ) → Result (Unit {0}) Error → List ℕ

@@ -123,5 +123,12 @@ pub fn say_stop<E: ByteSink>(to: &mut E, stop: &Stop<'_>, usage: &str) -> io::Re
         Stop::Alone(word) => put_four(to, word, ": a file's name is missing after it", "\n", usage),
         Stop::Twice(word) => put_four(to, word, ": given twice", "\n", usage),
         Stop::NoForm(word) => put_four(to, word, ": a form is a file", "\n", usage),
+        Stop::NoMoment(word) => put_four(
+            to,
+            word,
+            ": no day and time, as 2026-11-23T06:00",
+            "\n",
+            usage,
+        ),
     }
 }

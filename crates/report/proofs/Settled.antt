@@ -4,17 +4,22 @@ use Rattle.std.proofs.Common.{◌≡◌, refl, [], ◌∷◌, codes}
 use Rattle.numbers.specs.Computing.{computing as numbers}
 use Rattle.textio.specs.Computing.{computing as textio}
 use Rattle.report.specs.Reports.{ended_text}
-use Rattle.report.specs.Settled.{AreTold, bar_rows, day_rows, line_rows}
-use Rattle.report.specs.declared.Report.TheVariants.{Lines, Page}
+use Rattle.report.specs.Settled.{AreTold, plain_page, clock_page, bar_rows, day_rows, clock_rows, line_rows}
+use Rattle.calendar.specs.Computing.{computing as calendar}
+use Rattle.report.specs.declared.Report.TheVariants.{Lines}
 use Rattle.report.specs.Computing.{computing}
 
-pub bars_told : AreTold (Page 2) bar_rows
+pub bars_told : AreTold (plain_page 2) bar_rows
 unfolding computing numbers textio
 bars_told = (refl, (refl, (refl, (refl, (refl, (refl, (refl, (refl, tt))))))))
 
-pub days_told : AreTold (Page 1) day_rows
+pub days_told : AreTold (plain_page 1) day_rows
 unfolding computing numbers textio
 days_told = (refl, tt)
+
+pub clock_told : AreTold (clock_page 1) clock_rows
+unfolding computing numbers textio calendar
+clock_told = (refl, (refl, tt))
 
 pub lines_told : AreTold Lines line_rows
 unfolding computing numbers textio
@@ -25,4 +30,4 @@ unfolding computing numbers textio
 totals_told = refl
 
 pub ruleset told_stretches =
-    (bars_told, days_told, lines_told, totals_told)
+    (bars_told, days_told, clock_told, lines_told, totals_told)

@@ -1,11 +1,13 @@
 -- What stands around the days of a page (RULES, Floor log): "one HTML document with no script in it".
---   head         the document's head, title and what the page is
---   hours        "the hours 0 to 24 along the top", counted from where a day begins: the head of the table of the days
---   timed n      n seconds as hours, minutes and seconds
+--   head         the document's head and title
+--   clock_text began   what the page is, and when the log began, where that is known
+--   head_of_days       the head of the table of the days, up to the hours
+--   hours began  "the hours along the top": since the log began, or of the clock
+--   hours_minutes n   n seconds as hours, minutes and seconds
 --   table n starts burnt lasts    "each lamp's hours and minutes, and its seconds, at the start, burnt, and now", of n
 --                                 lamps
---   page_begun       what stands above the rows
---   page_ended rows seconds n ..    the rows up to the end of a log of so many seconds, and what stands below them
+--   page_begun began what stands above the rows
+--   page_ended began rows seconds n ..   the rows up to the end of a log of so many seconds, and what stands below them
 --   until_text seconds lines  until when a log of the second kind goes (RULES, History of a board: "that a log's end is
 --                    missing cannot be seen from it"): the seconds that it lets pass, and the lines that belong to it
 --   stray_paragraph s    what is said of the line that does not belong, if there is one
@@ -14,7 +16,8 @@
 use Rattle.std.specs.Prelude.{ℕ, ◌+◌, ◌/◌, ◌%◌, List, [], ◌∷◌, ◌++◌, codes, slice_index_or, Option, Some, None}
 use Rattle.std.specs.List.{flat_map, range_with_len}
 use Rattle.textio.specs.Forms.{form_filled}
-use Rattle.report.specs.Days.{days_of, days_ended}
+use Rattle.calendar.specs.declared.Moment.{Moment}
+use Rattle.report.specs.Days.{dated, at, days_of, days_ended}
 
 unfoldable pub head : List ℕ
 head = codes "<!DOCTYPE html>\n"
@@ -40,6 +43,8 @@ head = codes "<!DOCTYPE html>\n"
     ++ (codes ".b{fill:#eeeeee;stroke:#767676}\n"
     ++ (codes ".h{stroke:#767676}\n"
     ++ (codes ".l{fill:#0b5394;stroke:#0b5394}\n"
+    ++ (codes "@media(min-width:50em){\n"
+    ++ (codes ".d th{white-space:nowrap}}\n"
     ++ (codes "@media(max-width:50em){\n"
     ++ (codes "body{padding:0 .5em}\n"
     ++ (codes "td,th{padding:.2em .3em}\n"
@@ -62,21 +67,49 @@ head = codes "<!DOCTYPE html>\n"
     ++ (codes "tr,svg{break-inside:avoid}\n"
     ++ (codes ".b,.l{-webkit-print-color-adjust:exact;print-color-adjust:exact}}\n"
     ++ (codes "</style></head><body><main>\n"
-    ++ (codes "<h1>Which lamp burnt when</h1>\n"
-    ++ (codes "<p>This page knows no clock: days and hours count from the log's first second. A row is a "
-    ++ (codes "day of 24 hours; in it each lamp has a band, and a bar on the band is a stretch that the "
-    ++ codes "lamp burnt.</p>\n")))))))))))))))))))))))))))))))))))))))))))))))
+    ++ codes "<h1>Which lamp burnt when</h1>\n"))))))))))))))))))))))))))))))))))))))))))))))
 
-unfoldable pub hours : List ℕ
-hours = codes "<table class=\"d\"><caption>The days</caption><thead><tr><th scope=\"col\">day</th><th "
-    ++ (codes "scope=\"col\">lamp</th><th scope=\"col\"><div class=\"o\">\n"
-    ++ (codes "<span class=\"f\" style=\"left:0%\">+0 h</span><span class=\"s\" style=\"left:12.5%\">+3 "
-    ++ (codes "h</span><span style=\"left:25%\">+6 h</span>\n"
-    ++ (codes "<span class=\"s\" style=\"left:37.5%\">+9 h</span><span style=\"left:50%\">+12 h</span><span "
-    ++ (codes "class=\"s\" style=\"left:62.5%\">+15 h</span>\n"
-    ++ (codes "<span style=\"left:75%\">+18 h</span><span class=\"s\" style=\"left:87.5%\">+21 h</span><span "
-    ++ (codes "class=\"t\" style=\"left:100%\">+24 h</span>\n"
-    ++ codes "</div></th></tr></thead><tbody>\n")))))))
+unfoldable pub no_clock : List ℕ
+no_clock = codes "<p>This page knows no clock: days and hours count from the log's first second. A row is a "
+    ++ (codes "day of 24 hours; in it each lamp has a band, and a bar on the band is a stretch that the "
+    ++ codes "lamp burnt.</p>\n")
+
+abbrev pub time_of_day : ℕ → List ℕ
+time_of_day second = form_filled
+    (codes " at #:##:##, and days and hours are that clock's. A row is a day of 24 hours; in it each "
+    ++ codes "lamp has a band, and a bar on the band is a stretch that the lamp burnt.</p>\n")
+    ((second / 3600) ∷ (second / 60 % 60 / 10) ∷ (second / 60 % 10) ∷ (second % 60 / 10) ∷ (second % 10) ∷ [])
+
+unfoldable pub moment_text : Moment → List ℕ
+moment_text m = codes "<p>The log began on " ++ (dated m 0 ++ time_of_day m.second)
+
+abbrev pub clock_text : Option Moment → List ℕ
+clock_text None = no_clock
+clock_text (Some m) = moment_text m
+
+unfoldable pub head_of_days : List ℕ
+head_of_days = codes "<table class=\"d\"><caption>The days</caption><thead><tr><th scope=\"col\">day</th><th "
+    ++ codes "scope=\"col\">lamp</th><th scope=\"col\"><div class=\"o\">\n"
+
+unfoldable pub hours_since : List ℕ
+hours_since = codes "<span class=\"f\" style=\"left:0%\">+0 h</span>\n"
+    ++ (codes "<span class=\"s\" style=\"left:12.5%\">+3 h</span><span style=\"left:25%\">+6 h</span>\n"
+    ++ (codes "<span class=\"s\" style=\"left:37.5%\">+9 h</span><span style=\"left:50%\">+12 h</span>\n"
+    ++ (codes "<span class=\"s\" style=\"left:62.5%\">+15 h</span><span style=\"left:75%\">+18 h</span>\n"
+    ++ (codes "<span class=\"s\" style=\"left:87.5%\">+21 h</span><span class=\"t\" style=\"left:100%\">+24 h</span>\n"
+    ++ codes "</div></th></tr></thead><tbody>\n"))))
+
+unfoldable pub hours_of_day : List ℕ
+hours_of_day = codes "<span class=\"f\" style=\"left:0%\">00:00</span>\n"
+    ++ (codes "<span class=\"s\" style=\"left:12.5%\">03:00</span><span style=\"left:25%\">06:00</span>\n"
+    ++ (codes "<span class=\"s\" style=\"left:37.5%\">09:00</span><span style=\"left:50%\">12:00</span>\n"
+    ++ (codes "<span class=\"s\" style=\"left:62.5%\">15:00</span><span style=\"left:75%\">18:00</span>\n"
+    ++ (codes "<span class=\"s\" style=\"left:87.5%\">21:00</span><span class=\"t\" style=\"left:100%\">24:00</span>\n"
+    ++ codes "</div></th></tr></thead><tbody>\n"))))
+
+abbrev pub hours : Option Moment → List ℕ
+hours None = hours_since
+hours (Some m) = hours_of_day
 
 abbrev pub days_closed : List ℕ
 days_closed = codes "</tbody></table>\n"
@@ -87,16 +120,16 @@ table_begun = codes "<table><caption>Each lamp's burning time</caption><thead><t
     ++ codes "</thead><tbody>\n")
 
 -- hours and minutes, rounded down, and all its seconds
-abbrev pub timed : ℕ → List ℕ
-timed n = (n / 3600) ∷ (n / 60 % 60) ∷ n ∷ []
+abbrev pub hours_minutes : ℕ → List ℕ
+hours_minutes n = (n / 3600) ∷ (n / 60 % 60) ∷ n ∷ []
 
 -- the row of a lamp
 unfoldable pub table_row : List ℕ → List ℕ → List ℕ → ℕ → List ℕ
 table_row starts burnt lasts k = form_filled
     (codes "<tr><th scope=\"row\">lamp #</th><td># h # min (# s)</td><td># h # min (# s)</td>"
     ++ codes "<td># h # min (# s)</td></tr>\n")
-    ((k + 1) ∷ (timed (slice_index_or starts k 0) ++ (timed (slice_index_or burnt k 0)
-    ++ timed (slice_index_or lasts k 0))))
+    ((k + 1) ∷ (hours_minutes (slice_index_or starts k 0) ++ (hours_minutes (slice_index_or burnt k 0)
+    ++ hours_minutes (slice_index_or lasts k 0))))
 
 unfoldable pub table_rows : ℕ → List ℕ → List ℕ → List ℕ → List ℕ
 table_rows lamps starts burnt lasts = flat_map (table_row starts burnt lasts) (range_with_len 0 lamps)
@@ -108,11 +141,11 @@ table lamps starts burnt lasts =
 abbrev pub page_closed : List ℕ
 page_closed = codes "</main></body></html>\n"
 
-unfoldable pub page_begun : List ℕ
-page_begun = head ++ hours
+unfoldable pub page_begun : Option Moment → List ℕ
+page_begun began = head ++ (clock_text began ++ (head_of_days ++ hours began))
 
-unfoldable pub page_ended : ℕ → ℕ → ℕ → List ℕ → List ℕ → List ℕ → List ℕ
-page_ended rows seconds lamps starts burnt lasts = days_ended rows (days_of seconds)
+unfoldable pub page_ended : Option Moment → ℕ → ℕ → ℕ → List ℕ → List ℕ → List ℕ → List ℕ
+page_ended began rows seconds lamps starts burnt lasts = days_ended began rows (days_of (at began seconds))
     ++ (days_closed ++ (table lamps starts burnt lasts ++ page_closed))
 
 abbrev pub until_text : ℕ → ℕ → List ℕ
@@ -124,7 +157,8 @@ abbrev pub stray_paragraph : Option (List ℕ) → List ℕ
 stray_paragraph None = []
 stray_paragraph (Some s) = codes "<p>" ++ (s ++ codes "</p>\n")
 
-unfoldable pub page_ended_until : ℕ → ℕ → ℕ → List ℕ → List ℕ → List ℕ → ℕ → Option (List ℕ) → List ℕ
-page_ended_until rows seconds lamps starts burnt lasts lines stray = days_ended rows (days_of seconds)
+unfoldable pub page_ended_until : Option Moment → ℕ → ℕ → ℕ → List ℕ → List ℕ → List ℕ → ℕ → Option (List ℕ) → List ℕ
+page_ended_until began rows seconds lamps starts burnt lasts lines stray =
+    days_ended began rows (days_of (at began seconds))
     ++ (days_closed ++ (table lamps starts burnt lasts
     ++ (until_text seconds lines ++ (stray_paragraph stray ++ page_closed))))

@@ -1,5 +1,5 @@
 -- What is told of a watched log, as lines or as a page (RULES, Floor log).
---   report_new drawn                  before a log
+--   report_new drawn began            before a log, which began at that moment, if it is known
 --   begun_text r                      what stands before the first stretch
 --   told_text r lit from to           what is told of a stretch of the lamps whose marks of `lit` are set
 --   report_told r lit from to         how the log is told on: a page has the rows of that stretch
@@ -15,28 +15,29 @@ use Rattle.std.specs.Borrow.{Bor}
 use Rattle.report.specs.LampLines.{stretch_lines, total_lines}
 use Rattle.report.specs.Days.{rows_drawn, stretch_drawn}
 use Rattle.report.specs.Frame.{page_begun, page_ended, page_ended_until}
+use Rattle.calendar.specs.declared.Moment.{Moment}
 use Rattle.report.specs.declared.Report.{Report}
 use Rattle.report.specs.declared.Report.TheVariants.{Lines, Page}
 
-abbrev pub report_new : Bool → Report
-report_new false = Lines
-report_new true = Page 0
+abbrev pub report_new : Bool → Option Moment → Report
+report_new false began = Lines
+report_new true began = Page (record { began = began; rows = 0 })
 
 abbrev pub begun_text : Report → List ℕ
 begun_text Lines = []
-begun_text (Page rows) = page_begun
+begun_text (Page p) = page_begun p.began
 
 abbrev pub told_text : Report → List Bool → ℕ → ℕ → List ℕ
 told_text Lines lit from to = stretch_lines 1 lit from to
-told_text (Page rows) lit from to = stretch_drawn rows lit from to
+told_text (Page p) lit from to = stretch_drawn p.began p.rows lit from to
 
 abbrev pub report_told : Report → List Bool → ℕ → ℕ → Report
 report_told Lines lit from to = Lines
-report_told (Page rows) lit from to = Page (rows_drawn rows lit from to)
+report_told (Page p) lit from to = Page (record p { rows = rows_drawn p.began p.rows lit from to })
 
 abbrev pub ended_text : Report → ℕ → ℕ → List ℕ → List ℕ → List ℕ → List ℕ
 ended_text Lines seconds lamps starts burnt lasts = total_lines lamps starts burnt lasts
-ended_text (Page rows) seconds lamps starts burnt lasts = page_ended rows seconds lamps starts burnt lasts
+ended_text (Page p) seconds lamps starts burnt lasts = page_ended p.began p.rows seconds lamps starts burnt lasts
 
 abbrev pub stray_line : Option (List ℕ) → List ℕ
 stray_line None = []
@@ -48,5 +49,5 @@ stray_said s = option_map (λ b. b.now) s
 abbrev pub ended_until : Report → ℕ → ℕ → List ℕ → List ℕ → List ℕ → ℕ → Option (List ℕ) → List ℕ
 ended_until Lines seconds lamps starts burnt lasts lines stray =
     total_lines lamps starts burnt lasts ++ stray_line stray
-ended_until (Page rows) seconds lamps starts burnt lasts lines stray =
-    page_ended_until rows seconds lamps starts burnt lasts lines stray
+ended_until (Page p) seconds lamps starts burnt lasts lines stray =
+    page_ended_until p.began p.rows seconds lamps starts burnt lasts lines stray

@@ -4,13 +4,16 @@
 --   bar_text x width title       a bar of the first lamp
 --   bar_rows                     on a page that has the rows of the first two days
 --   day_rows                     on a page that has the row of the first day
+--   clock_rows                   on such a page of a log that began at a known moment
+--   plain_page n                 a page of a log of which no clock is known, that has the rows of n days
 --   line_rows                    as lines
 --   AreTold r rows               each row holds of a report
 -- Assumes nothing.
 use Prim.Native.String.{String}
-use Rattle.std.specs.Prelude.{ℕ, ◌≡◌, Bool, true, false, List, [], ◌∷◌, ◌++◌, codes}
+use Rattle.std.specs.Prelude.{ℕ, ◌≡◌, Bool, true, false, List, [], ◌∷◌, ◌++◌, codes, Some, None}
 use Rattle.report.specs.Reports.{told_text}
 use Rattle.report.specs.declared.Report.{Report}
+use Rattle.report.specs.declared.Report.TheVariants.{Page}
 
 infix 30 ◌from◌until◌tells◌
 pub record ToldStretch : Type 0 where
@@ -50,7 +53,7 @@ bar_rows =
 abbrev pub day_rows : List ToldStretch
 day_rows =
     (one_lamp from 259200 until 259260 tells
-    codes "</svg></td></tr>\n<tr><th scope=\"row\">days 2 to 3</th><td colspan=\"2\">no lamp burnt</td></tr>\n"
+    codes "</svg></td></tr>\n<tr><th scope=\"row\">day 2 to day 3</th><td colspan=\"2\">no lamp burnt</td></tr>\n"
     ++ codes "<tr><th scope=\"row\">day 4</th><td class=\"n\"><span>lamp 1</span></td><td>"
     ++ codes "<svg viewBox=\"0 0 86400 18\" height=\"18\" preserveAspectRatio=\"none\" role=\"img\" "
     ++ codes "aria-label=\"when each lamp burnt on day 4\">"
@@ -59,12 +62,37 @@ day_rows =
     ++ bar_text "0" "60" "lamp 1 from 259200 to 259260: 60 seconds")
     ∷ []
 
+-- the log began on a Monday at six: its first hour is the clock's seventh, and its last hours are on Wednesday
+abbrev pub clock_rows : List ToldStretch
+clock_rows =
+    (one_lamp from 0 until 3600 tells bar_text "21600" "3600" "lamp 1 from 0 to 3600: 3600 seconds")
+    ∷ (one_lamp from 237600 until 237660 tells
+    codes "</svg></td></tr>\n<tr><th scope=\"row\">Tue 2026-11-24 to Wed 2026-11-25</th>"
+    ++ codes "<td colspan=\"2\">no lamp burnt</td></tr>\n"
+    ++ codes "<tr><th scope=\"row\">Thu 2026-11-26</th><td class=\"n\"><span>lamp 1</span></td><td>"
+    ++ codes "<svg viewBox=\"0 0 86400 18\" height=\"18\" preserveAspectRatio=\"none\" role=\"img\" "
+    ++ codes "aria-label=\"when each lamp burnt on Thu 2026-11-26\">"
+    ++ codes "<rect class=\"b\" x=\"0\" width=\"86400\" height=\"16\" y=\"1\"/>"
+    ++ codes "<path class=\"h\" d=\"M21600 1v16m21600 -16v16m21600 -16v16\"/>"
+    ++ bar_text "0" "60" "lamp 1 from 237600 to 237660: 60 seconds")
+    ∷ []
+
 abbrev pub line_rows : List ToldStretch
 line_rows =
     (one_lamp from 20 until 80 tells codes "lamp 1 from 20 to 80\n")
     ∷ ((true ∷ true ∷ []) from 0 until 1 tells codes "lamp 1 from 0 to 1\nlamp 2 from 0 to 1\n")
     ∷ ((false ∷ true ∷ []) from 0 until 1 tells codes "lamp 2 from 0 to 1\n")
     ∷ []
+
+abbrev pub plain_page : ℕ → Report
+plain_page n = Page (record { began = None; rows = n })
+
+-- of a log that began on 2026-11-23 at six, the day with the number 740,308
+abbrev pub clock_page : ℕ → Report
+clock_page n = Page (record {
+  began = Some (record { date = record { year = 2026; month = 11; day = 23 }; number = 740308; second = 21600 });
+  rows = n;
+})
 
 abbrev pub AreTold : Report → List ToldStretch → Type 0
 AreTold r [] = Unit {0}

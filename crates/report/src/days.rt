@@ -3,9 +3,12 @@
 ghost use Rattle.std.specs.Prelude.{◌≡◌, ◌-◌, ◌*◌, ◌<◌, ◌≤◌, max, ◌++◌, length, IfOk};
 ghost use Rattle.textio.specs.Fronts.{WritesText};
 ghost use Rattle.report.specs.Days.{band_top, band, bands, lamp_name, lamp_names, day_row, idle_days, rows_opened};
-ghost use Rattle.report.specs.Days.{row_ended_if_any, days_ended, bar_if, bars, bars_in};
+ghost use Rattle.calendar.specs.Days.{weekday, weekday_name};
+ghost use Rattle.report.specs.Days.{date_text, dated, day_name, first_name, row_ended_if_any, days_ended, bar_if, bars};
+ghost use Rattle.report.specs.Days.{bars_in};
 
 use crate::page::{DAY, Stretch};
+use calendar::{Date, Moment};
 use std::io;
 use textio::forms::fill;
 use textio::writer::{ByteSink, put};
@@ -72,70 +75,134 @@ fn end_row<W: ByteSink>(out: &mut W, rows: u64) -> io::Result<()>
     put(out, b"</svg></td></tr>\n")
 }
 
+fn put_date<W: ByteSink>(out: &mut W, date: Date) -> io::Result<()>
+    ensures { WritesText W.fails_with (W.contents out.old) (W.contents out.new) result (date_text date) }
+{
+    let Date { year, month, day } = date;
+    fill(
+        out,
+        " ####-##-##",
+        &[
+            year / 1000,
+            year / 100 % 10,
+            year / 10 % 10,
+            year % 10,
+            month / 10,
+            month % 10,
+            day / 10,
+            day % 10,
+        ],
+    )
+}
+
+fn put_word<W: ByteSink>(out: &mut W, word: &str) -> io::Result<()>
+    ensures { WritesText W.fails_with (W.contents out.old) (W.contents out.new) result word.now }
+{
+    put(out, word.as_bytes())
+}
+
+fn put_weekday<W: ByteSink>(out: &mut W, number: u64) -> io::Result<()>
+    ensures { WritesText W.fails_with (W.contents out.old) (W.contents out.new) result
+        (weekday_name (weekday number)) }
+{
+    let name = calendar::weekday_name(number);
+    put_word(out, name)
+}
+
+/// The weekday and the date of the day so many days after that of a moment.
+pub fn put_dated<W: ByteSink>(out: &mut W, m: Moment, days: u64) -> io::Result<()>
+    ensures { WritesText W.fails_with (W.contents out.old) (W.contents out.new) result (dated m days) }
+{
+    let number = m.number.saturating_add(days);
+    put_weekday(out, number)?;
+    let date = m.date.after(days);
+    put_date(out, date)
+}
+
+// A day, counted from 1: its weekday and date, or its number.
+fn put_day<W: ByteSink>(out: &mut W, began: Option<Moment>, day: u64) -> io::Result<()>
+    ensures { WritesText W.fails_with (W.contents out.old) (W.contents out.new) result (day_name began day) }
+{
+    match began {
+        None => fill(out, "day #", &[day]),
+        Some(m) => put_dated(out, m, day.saturating_sub(1)),
+    }
+}
+
+// The first of the days after the day `rows` up to the day `day`, where there are several.
+fn put_first<W: ByteSink>(out: &mut W, began: Option<Moment>, rows: u64, day: u64) -> io::Result<()>
+    requires { rows < day }
+    ensures { WritesText W.fails_with (W.contents out.old) (W.contents out.new) result (first_name began rows day) }
+{
+    if day <= rows + 1 {
+        return Ok(());
+    }
+    put_day(out, began, rows + 1)?;
+    put(out, b" to ")
+}
+
 // Of days in which no lamp burnt, those after the day `rows` up to the day `day`, one line.
-fn put_idle<W: ByteSink>(out: &mut W, rows: u64, day: u64) -> io::Result<()>
-    ensures { WritesText W.fails_with (W.contents out.old) (W.contents out.new) result (idle_days rows day) }
+fn put_idle<W: ByteSink>(out: &mut W, began: Option<Moment>, rows: u64, day: u64) -> io::Result<()>
+    ensures { WritesText W.fails_with (W.contents out.old) (W.contents out.new) result (idle_days began rows day) }
 {
     if day <= rows {
         return Ok(());
     }
-    if rows + 1 < day {
-        return fill(
-            out,
-            "<tr><th scope=\"row\">days # to #</th><td colspan=\"2\">no lamp burnt</td></tr>\n",
-            &[rows + 1, day],
-        );
-    }
-    fill(
-        out,
-        "<tr><th scope=\"row\">day #</th><td colspan=\"2\">no lamp burnt</td></tr>\n",
-        &[day],
-    )
+    put(out, b"<tr><th scope=\"row\">")?;
+    put_first(out, began, rows, day)?;
+    put_day(out, began, day)?;
+    put(out, b"</th><td colspan=\"2\">no lamp burnt</td></tr>\n")
 }
 
 // The row of a day, counted from 1: its name, those of the lamps, and a picture with a band for each.
-fn put_row<W: ByteSink>(out: &mut W, lamps: u64, day: u64) -> io::Result<()>
+fn put_row<W: ByteSink>(out: &mut W, began: Option<Moment>, lamps: u64, day: u64) -> io::Result<()>
     requires { lamps ≤ 8 }
-    ensures { WritesText W.fails_with (W.contents out.old) (W.contents out.new) result (day_row lamps day) }
+    ensures { WritesText W.fails_with (W.contents out.old) (W.contents out.new) result (day_row began lamps day) }
 {
-    fill(
-        out,
-        "<tr><th scope=\"row\">day #</th><td class=\"n\">",
-        &[day],
-    )?;
+    put(out, b"<tr><th scope=\"row\">")?;
+    put_day(out, began, day)?;
+    put(out, b"</th><td class=\"n\">")?;
     put_names(out, lamps)?;
     let height = lamps * BAND;
     fill(
         out,
         "</td><td><svg viewBox=\"0 0 86400 #\" height=\"#\" preserveAspectRatio=\"none\" role=\"img\" \
-        aria-label=\"when each lamp burnt on day #\">",
-        &[height, height, day],
+        aria-label=\"when each lamp burnt on ",
+        &[height, height],
     )?;
+    put_day(out, began, day)?;
+    put(out, b"\">")?;
     put_bands(out, lamps)
 }
 
 /// The rows after that of the day `rows` up to that of the day `day`; the last day that has a row then.
-pub fn open_to<W: ByteSink>(out: &mut W, lamps: u64, rows: u64, day: u64) -> io::Result<u64>
+pub fn open_to<W: ByteSink>(
+    out: &mut W,
+    began: Option<Moment>,
+    lamps: u64,
+    rows: u64,
+    day: u64,
+) -> io::Result<u64>
     requires { lamps ≤ 8 }
     ensures rows { IfOk result (λ n. n ≡ max rows day) }
     ensures text { WritesText W.fails_with (W.contents out.old) (W.contents out.new) result
-        (rows_opened lamps rows day) }
+        (rows_opened began lamps rows day) }
 {
     if day <= rows {
         return Ok(rows);
     }
     end_row(out, rows)?;
-    put_idle(out, rows, day - 1)?;
-    put_row(out, lamps, day)?;
+    put_idle(out, began, rows, day - 1)?;
+    put_row(out, began, lamps, day)?;
     Ok(day)
 }
 
 /// The rows after that of the day `rows` up to that of the day `day`, where no lamp burnt in these.
-pub fn end<W: ByteSink>(out: &mut W, rows: u64, day: u64) -> io::Result<()>
-    ensures { WritesText W.fails_with (W.contents out.old) (W.contents out.new) result (days_ended rows day) }
+pub fn end<W: ByteSink>(out: &mut W, began: Option<Moment>, rows: u64, day: u64) -> io::Result<()>
+    ensures { WritesText W.fails_with (W.contents out.old) (W.contents out.new) result (days_ended began rows day) }
 {
     end_row(out, rows)?;
-    put_idle(out, rows, day)
+    put_idle(out, began, rows, day)
 }
 
 // What of a stretch lies in a day: from the second x of the day on, so many seconds.
@@ -176,17 +243,23 @@ fn put_bars<W: ByteSink>(out: &mut W, lit: &[bool], p: Part) -> io::Result<()>
     Ok(())
 }
 
-// What of the stretch lies in the day, counted from 1.
-fn put_bars_in<W: ByteSink>(out: &mut W, day: u64, lit: &[bool], s: Stretch) -> io::Result<()>
+// What of the stretch lies in the day, counted from 1; it lies at `placed`, counted from the first midnight.
+fn put_bars_in<W: ByteSink>(
+    out: &mut W,
+    day: u64,
+    lit: &[bool],
+    placed: Stretch,
+    s: Stretch,
+) -> io::Result<()>
     requires eight_at_most { length lit.now ≤ 8 }
-    requires begun { (1 ≤ day) × ((day - 1) * 86400 < s.to) }
+    requires begun { (1 ≤ day) × ((day - 1) * 86400 < placed.to) }
     requires in_order { s.from ≤ s.to }
     ensures { WritesText W.fails_with (W.contents out.old) (W.contents out.new) result
-        (bars_in day lit.now s.from s.to) }
+        (bars_in day lit.now placed.from placed.to s.from s.to) }
 {
     let midnight = (day - 1) * DAY;
-    let x = s.from.saturating_sub(midnight);
-    let y = (s.to - midnight).min(DAY);
+    let x = placed.from.saturating_sub(midnight);
+    let y = (placed.to - midnight).min(DAY);
     if y <= x {
         return Ok(());
     }
@@ -201,22 +274,34 @@ fn put_bars_in<W: ByteSink>(out: &mut W, day: u64, lit: &[bool], s: Stretch) -> 
     )
 }
 
+/// A stretch of the lamps whose marks are set, and where it lies, counted from the first midnight.
+#[derive(Clone, Copy)]
+pub struct Placed<'a> {
+    /// The marks, of eight lamps at most.
+    pub lit: &'a [bool],
+    /// The stretch.
+    pub whole: Stretch,
+    /// Where it lies.
+    pub at: Stretch,
+}
+
 /// The rows up to that of the day, and in it what of the stretch lies there; the last day that has a row then.
 pub fn draw_in<W: ByteSink>(
     out: &mut W,
+    began: Option<Moment>,
     rows: u64,
     day: u64,
-    lit: &[bool],
-    s: Stretch,
+    p: Placed<'_>,
 ) -> io::Result<u64>
-    requires eight_at_most { length lit.now ≤ 8 }
-    requires begun { (1 ≤ day) × ((day - 1) * 86400 < s.to) }
-    requires in_order { s.from ≤ s.to }
+    requires eight_at_most { length p.lit.now ≤ 8 }
+    requires begun { (1 ≤ day) × ((day - 1) * 86400 < p.at.to) }
+    requires in_order { p.whole.from ≤ p.whole.to }
     ensures rows { IfOk result (λ n. n ≡ max rows day) }
     ensures text { WritesText W.fails_with (W.contents out.old) (W.contents out.new) result
-        (rows_opened (length lit.now) rows day ++ bars_in day lit.now s.from s.to) }
+        (rows_opened began (length p.entry.lit.now) rows day
+        ++ bars_in day p.entry.lit.now p.entry.at.from p.entry.at.to p.entry.whole.from p.entry.whole.to) }
 {
-    let opened = open_to(out, lit.len() as u64, rows, day)?;
-    put_bars_in(out, day, lit, s)?;
+    let opened = open_to(out, began, p.lit.len() as u64, rows, day)?;
+    put_bars_in(out, day, p.lit, p.at, p.whole)?;
     Ok(opened)
 }

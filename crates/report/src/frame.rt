@@ -1,15 +1,19 @@
 // What stands around the rows of the days: the head and the hours above them, the table of totals below.
 ghost use Rattle.std.specs.Prelude.{◌≤◌, ◌<◌};
 ghost use Rattle.textio.specs.Fronts.{WritesText};
-ghost use Rattle.report.specs.Frame.{head, hours, table_row, table_rows, table, until_text, stray_paragraph};
+ghost use Rattle.report.specs.Frame.{head, no_clock, moment_text, clock_text, head_of_days, hours_since};
+ghost use Rattle.report.specs.Frame.{hours_of_day, hours};
+ghost use Rattle.report.specs.Frame.{table_row, table_rows, table, until_text, stray_paragraph};
 ghost use Rattle.report.specs.Reports.{stray_said};
 
+use crate::days;
 use crate::lamps::Totals;
+use calendar::Moment;
 use std::io;
 use textio::forms::fill;
 use textio::writer::{ByteSink, put};
 
-/// The document's head, its title and what the page is.
+/// The document's head and its title.
 pub fn put_head<W: ByteSink>(out: &mut W) -> io::Result<()>
     ensures { WritesText W.fails_with (W.contents out.old) (W.contents out.new) result head }
 {
@@ -38,6 +42,8 @@ pub fn put_head<W: ByteSink>(out: &mut W) -> io::Result<()>
         .b{fill:#eeeeee;stroke:#767676}\n\
         .h{stroke:#767676}\n\
         .l{fill:#0b5394;stroke:#0b5394}\n\
+        @media(min-width:50em){\n\
+        .d th{white-space:nowrap}}\n\
         @media(max-width:50em){\n\
         body{padding:0 .5em}\n\
         td,th{padding:.2em .3em}\n\
@@ -60,29 +66,98 @@ pub fn put_head<W: ByteSink>(out: &mut W) -> io::Result<()>
         tr,svg{break-inside:avoid}\n\
         .b,.l{-webkit-print-color-adjust:exact;print-color-adjust:exact}}\n\
         </style></head><body><main>\n\
-        <h1>Which lamp burnt when</h1>\n\
-        <p>This page knows no clock: days and hours count from the log's first second. A row is a day \
-        of 24 hours; in it each lamp has a band, and a bar on the band is a stretch that the lamp \
-        burnt.</p>\n",
+        <h1>Which lamp burnt when</h1>\n",
     )
 }
 
-/// The head of the table of the days, with the hours along the top.
-pub fn put_hours<W: ByteSink>(out: &mut W) -> io::Result<()>
-    ensures { WritesText W.fails_with (W.contents out.old) (W.contents out.new) result hours }
+fn put_no_clock<W: ByteSink>(out: &mut W) -> io::Result<()>
+    ensures { WritesText W.fails_with (W.contents out.old) (W.contents out.new) result no_clock }
+{
+    put(
+        out,
+        b"<p>This page knows no clock: days and hours count from the log's first second. A row is a \
+        day of 24 hours; in it each lamp has a band, and a bar on the band is a stretch that the \
+        lamp burnt.</p>\n",
+    )
+}
+
+fn put_moment<W: ByteSink>(out: &mut W, m: Moment) -> io::Result<()>
+    ensures { WritesText W.fails_with (W.contents out.old) (W.contents out.new) result (moment_text m) }
+{
+    put(out, b"<p>The log began on ")?;
+    days::put_dated(out, m, 0)?;
+    let second = m.second;
+    fill(
+        out,
+        " at #:##:##, and days and hours are that clock's. A row is a day of 24 hours; in it each \
+        lamp has a band, and a bar on the band is a stretch that the lamp burnt.</p>\n",
+        &[
+            second / 3600,
+            second / 60 % 60 / 10,
+            second / 60 % 10,
+            second % 60 / 10,
+            second % 10,
+        ],
+    )
+}
+
+/// What the page is, and when the log began, where that is known.
+pub fn put_clock<W: ByteSink>(out: &mut W, began: Option<Moment>) -> io::Result<()>
+    ensures { WritesText W.fails_with (W.contents out.old) (W.contents out.new) result (clock_text began) }
+{
+    match began {
+        None => put_no_clock(out),
+        Some(m) => put_moment(out, m),
+    }
+}
+
+/// The head of the table of the days, up to the hours.
+pub fn put_head_of_days<W: ByteSink>(out: &mut W) -> io::Result<()>
+    ensures { WritesText W.fails_with (W.contents out.old) (W.contents out.new) result head_of_days }
 {
     put(
         out,
         b"<table class=\"d\"><caption>The days</caption><thead><tr><th scope=\"col\">day</th><th \
-        scope=\"col\">lamp</th><th scope=\"col\"><div class=\"o\">\n\
-        <span class=\"f\" style=\"left:0%\">+0 h</span><span class=\"s\" style=\"left:12.5%\">+3 h</span><span \
-        style=\"left:25%\">+6 h</span>\n\
-        <span class=\"s\" style=\"left:37.5%\">+9 h</span><span style=\"left:50%\">+12 h</span><span \
-        class=\"s\" style=\"left:62.5%\">+15 h</span>\n\
-        <span style=\"left:75%\">+18 h</span><span class=\"s\" style=\"left:87.5%\">+21 h</span><span \
-        class=\"t\" style=\"left:100%\">+24 h</span>\n\
+        scope=\"col\">lamp</th><th scope=\"col\"><div class=\"o\">\n",
+    )
+}
+
+fn put_hours_since<W: ByteSink>(out: &mut W) -> io::Result<()>
+    ensures { WritesText W.fails_with (W.contents out.old) (W.contents out.new) result hours_since }
+{
+    put(
+        out,
+        b"<span class=\"f\" style=\"left:0%\">+0 h</span>\n\
+        <span class=\"s\" style=\"left:12.5%\">+3 h</span><span style=\"left:25%\">+6 h</span>\n\
+        <span class=\"s\" style=\"left:37.5%\">+9 h</span><span style=\"left:50%\">+12 h</span>\n\
+        <span class=\"s\" style=\"left:62.5%\">+15 h</span><span style=\"left:75%\">+18 h</span>\n\
+        <span class=\"s\" style=\"left:87.5%\">+21 h</span><span class=\"t\" style=\"left:100%\">+24 h</span>\n\
         </div></th></tr></thead><tbody>\n",
     )
+}
+
+fn put_hours_of_day<W: ByteSink>(out: &mut W) -> io::Result<()>
+    ensures { WritesText W.fails_with (W.contents out.old) (W.contents out.new) result hours_of_day }
+{
+    put(
+        out,
+        b"<span class=\"f\" style=\"left:0%\">00:00</span>\n\
+        <span class=\"s\" style=\"left:12.5%\">03:00</span><span style=\"left:25%\">06:00</span>\n\
+        <span class=\"s\" style=\"left:37.5%\">09:00</span><span style=\"left:50%\">12:00</span>\n\
+        <span class=\"s\" style=\"left:62.5%\">15:00</span><span style=\"left:75%\">18:00</span>\n\
+        <span class=\"s\" style=\"left:87.5%\">21:00</span><span class=\"t\" style=\"left:100%\">24:00</span>\n\
+        </div></th></tr></thead><tbody>\n",
+    )
+}
+
+/// The hours along the top: since the log began, or of the clock.
+pub fn put_hours<W: ByteSink>(out: &mut W, began: Option<Moment>) -> io::Result<()>
+    ensures { WritesText W.fails_with (W.contents out.old) (W.contents out.new) result (hours began) }
+{
+    match began {
+        None => put_hours_since(out),
+        Some(_) => put_hours_of_day(out),
+    }
 }
 
 // The row of the lamp at that place.

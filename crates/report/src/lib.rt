@@ -13,7 +13,8 @@ ghost use Rattle.report.specs.Reports.{report_new, begun_text, report_told, told
 ghost use Rattle.report.specs.Reports.{stray_line, stray_said};
 
 use crate::lamps::Totals;
-use crate::page::Stretch;
+use crate::page::{Sheet, Stretch};
+use calendar::Moment;
 use std::io;
 use textio::writer::{ByteSink, put};
 
@@ -22,8 +23,8 @@ use textio::writer::{ByteSink, put};
 pub enum Report {
     /// A line for each stretch, and one for each lamp at the end.
     Lines,
-    /// An HTML page, on which this is the last day that has a row, counted from 1; 0 where none has.
-    Page(u64),
+    /// An HTML page.
+    Page(Sheet),
 }
 
 /// How far a log of the second kind goes (RULES, History of a board).
@@ -48,12 +49,12 @@ fn put_stray<W: ByteSink>(out: &mut W, stray: Option<&[u8]>) -> io::Result<()>
 }
 
 impl Report {
-    /// Before a log that is drawn on a page, or not.
-    pub fn new(drawn: bool) -> Report
-        ensures { result ≡ report_new drawn }
+    /// Before a log that is drawn on a page, or not, and that began at that moment, if it is known.
+    pub fn new(drawn: bool, began: Option<Moment>) -> Report
+        ensures { result ≡ report_new drawn began }
     {
         if drawn {
-            return Report::Page(0);
+            return Report::Page(Sheet { began, rows: 0 });
         }
         Report::Lines
     }
@@ -64,7 +65,7 @@ impl Report {
     {
         match self {
             Report::Lines => Ok(()),
-            Report::Page(_) => page::begin(out),
+            Report::Page(sheet) => page::begin(out, sheet.began),
         }
     }
 
@@ -78,8 +79,12 @@ impl Report {
     {
         match *self {
             Report::Lines => lamps::put_stretches(out, lit, s.from, s.to),
-            Report::Page(rows) => {
-                *self = Report::Page(page::draw(out, rows, lit, s)?);
+            Report::Page(sheet) => {
+                let rows = page::draw(out, sheet, lit, s)?;
+                *self = Report::Page(Sheet {
+                    began: sheet.began,
+                    rows,
+                });
                 Ok(())
             }
         }
@@ -93,7 +98,7 @@ impl Report {
     {
         match self {
             Report::Lines => lamps::put_totals(out, t),
-            Report::Page(rows) => page::end(out, rows, seconds, t),
+            Report::Page(sheet) => page::end(out, sheet, seconds, t),
         }
     }
 
@@ -115,7 +120,7 @@ impl Report {
                 lamps::put_totals(out, t)?;
                 put_stray(out, until.stray)
             }
-            Report::Page(rows) => page::end_until(out, rows, seconds, t, until),
+            Report::Page(sheet) => page::end_until(out, sheet, seconds, t, until),
         }
     }
 }

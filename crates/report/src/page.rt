@@ -4,12 +4,14 @@
 // by place and name, so that no colour has to be told from another.
 ghost use Rattle.std.specs.Prelude.{◌≡◌, ◌≤◌, length, IfOk};
 ghost use Rattle.textio.specs.Fronts.{WritesText};
-ghost use Rattle.report.specs.Days.{days_of, is_any_lit, rows_drawn, stretch_drawn};
+ghost use Rattle.report.specs.Days.{at, days_of, is_any_lit, rows_drawn, stretch_drawn};
 ghost use Rattle.report.specs.Frame.{days_closed, page_begun, page_closed, page_ended, page_ended_until};
 ghost use Rattle.report.specs.Reports.{stray_said};
 
+use crate::days::Placed;
 use crate::lamps::Totals;
 use crate::{Until, days, frame};
+use calendar::Moment;
 use std::io;
 use textio::writer::{ByteSink, put};
 
@@ -25,12 +27,33 @@ pub struct Stretch {
     pub to: u64,
 }
 
+/// What is known of a page while it is written.
+#[derive(Clone, Copy)]
+pub struct Sheet {
+    /// When the log began, if that is known.
+    pub began: Option<Moment>,
+    /// The last day that has a row, counted from 1; 0 where none has.
+    pub rows: u64,
+}
+
 /// What stands above the rows.
-pub fn begin<W: ByteSink>(out: &mut W) -> io::Result<()>
-    ensures { WritesText W.fails_with (W.contents out.old) (W.contents out.new) result page_begun }
+pub fn begin<W: ByteSink>(out: &mut W, began: Option<Moment>) -> io::Result<()>
+    ensures { WritesText W.fails_with (W.contents out.old) (W.contents out.new) result (page_begun began) }
 {
     frame::put_head(out)?;
-    frame::put_hours(out)
+    frame::put_clock(out, began)?;
+    frame::put_head_of_days(out)?;
+    frame::put_hours(out, began)
+}
+
+// A second of the log, counted from the first midnight on.
+fn at(began: Option<Moment>, second: u64) -> u64
+    ensures { result ≡ at began second }
+{
+    match began {
+        None => second,
+        Some(m) => second.saturating_add(m.second),
+    }
 }
 
 // So many days have one of these seconds. A log of no seconds has its first day all the same.
@@ -49,24 +72,34 @@ fn is_any(lit: &[bool]) -> bool
     lit.iter().any(|is_lit| *is_lit)
 }
 
-/// A stretch of the lamps whose marks are set, where `rows` is the last day that has a row, which is open; the last one
-/// that has then. Of none of them nothing is drawn.
-pub fn draw<W: ByteSink>(out: &mut W, rows: u64, lit: &[bool], s: Stretch) -> io::Result<u64>
+/// A stretch of the lamps whose marks are set; of the last day with a row the picture is open. The last day that has
+/// one then. Of no lamp nothing is drawn.
+pub fn draw<W: ByteSink>(out: &mut W, sheet: Sheet, lit: &[bool], s: Stretch) -> io::Result<u64>
     requires { length lit.now ≤ 8 }
-    ensures rows { IfOk result (λ n. n ≡ rows_drawn rows lit.now s.from s.to) }
+    ensures rows { IfOk result (λ n. n ≡ rows_drawn sheet.began sheet.rows lit.now s.from s.to) }
     ensures text { WritesText W.fails_with (W.contents out.old) (W.contents out.new) result
-        (stretch_drawn rows lit.now s.from s.to) }
+        (stretch_drawn sheet.began sheet.rows lit.now s.from s.to) }
 {
-    if s.to <= s.from {
-        return Ok(rows);
+    let first = at(sheet.began, s.from);
+    let last = at(sheet.began, s.to);
+    if last <= first {
+        return Ok(sheet.rows);
     }
     let burns = is_any(lit);
     if !burns {
-        return Ok(rows);
+        return Ok(sheet.rows);
     }
-    let mut opened = rows;
-    for before in s.from / DAY..days_until(s.to) {
-        opened = days::draw_in(out, opened, before + 1, lit, s)?;
+    let placed = Placed {
+        lit,
+        whole: s,
+        at: Stretch {
+            from: first,
+            to: last,
+        },
+    };
+    let mut opened = sheet.rows;
+    for before in first / DAY..days_until(last) {
+        opened = days::draw_in(out, sheet.began, opened, before + 1, placed)?;
     }
     Ok(opened)
 }
@@ -84,12 +117,13 @@ fn close<W: ByteSink>(out: &mut W) -> io::Result<()>
 }
 
 /// The rows up to the end of a log of so many seconds, and what stands below them.
-pub fn end<W: ByteSink>(out: &mut W, rows: u64, seconds: u64, t: Totals) -> io::Result<()>
+pub fn end<W: ByteSink>(out: &mut W, sheet: Sheet, seconds: u64, t: Totals) -> io::Result<()>
     requires { t.count ≤ 8 }
     ensures { WritesText W.fails_with (W.contents out.old) (W.contents out.new) result
-        (page_ended rows seconds t.count t.starts t.burnt t.lasts) }
+        (page_ended sheet.began sheet.rows seconds t.count t.starts t.burnt t.lasts) }
 {
-    days::end(out, rows, days_until(seconds))?;
+    let last = days_until(at(sheet.began, seconds));
+    days::end(out, sheet.began, sheet.rows, last)?;
     close_days(out)?;
     frame::put_table(out, t)?;
     close(out)
@@ -98,17 +132,18 @@ pub fn end<W: ByteSink>(out: &mut W, rows: u64, seconds: u64, t: Totals) -> io::
 /// The same for a log of the second kind: and until when it goes, and what is said of a line that does not belong.
 pub fn end_until<W: ByteSink>(
     out: &mut W,
-    rows: u64,
+    sheet: Sheet,
     seconds: u64,
     t: Totals,
     until: Until<'_>,
 ) -> io::Result<()>
     requires { t.count ≤ 8 }
     ensures { WritesText W.fails_with (W.contents out.old) (W.contents out.new) result
-        (page_ended_until rows seconds t.count t.starts t.burnt t.lasts until.entry.lines
+        (page_ended_until sheet.began sheet.rows seconds t.count t.starts t.burnt t.lasts until.entry.lines
         (stray_said until.entry.stray)) }
 {
-    days::end(out, rows, days_until(seconds))?;
+    let last = days_until(at(sheet.began, seconds));
+    days::end(out, sheet.began, sheet.rows, last)?;
     close_days(out)?;
     frame::put_table(out, t)?;
     frame::put_until(out, seconds, until.lines)?;

@@ -2,15 +2,17 @@
 // that the theorems stand.
 ghost use Rattle.std.specs.Prelude.{◌≡◌, [], ◌∷◌, codes};
 ghost use Rattle.report.specs.Reports.{ended_text};
-ghost use Rattle.report.specs.Settled.{AreTold, bar_rows, day_rows, line_rows};
-ghost use Rattle.report.specs.declared.Report.TheVariants.{Lines, Page};
+ghost use Rattle.report.specs.Settled.{AreTold, plain_page, clock_page, bar_rows, day_rows, clock_rows};
+ghost use Rattle.report.specs.Settled.{line_rows};
+ghost use Rattle.report.specs.declared.Report.TheVariants.{Lines};
 
 /// Stretches are told of as RULES, Floor log, has it: as bars and rows on the page's scale, and as lines; at the
 /// end a lamp's seconds.
 #[tactic(auto, using(crate::proofs::Settled::told_stretches))]
 pub fn stretches_are_told_so()
-    ensures bars { AreTold (Page 2) bar_rows }
-    ensures days { AreTold (Page 1) day_rows }
+    ensures bars { AreTold (plain_page 2) bar_rows }
+    ensures days { AreTold (plain_page 1) day_rows }
+    ensures clock { AreTold (clock_page 1) clock_rows }
     ensures lines { AreTold Lines line_rows }
     ensures totals { ended_text Lines 80 1 (0 ∷ []) (60 ∷ []) (60 ∷ []) ≡ codes "lamp 1 start 0 burnt 60 now 60\n" }
 {}

@@ -3,6 +3,7 @@
 //! number; on it a bar for each stretch with a second in that day, cut at the day's ends", or, with the days beside it in
 //! which no lamp burnt, one line; and each lamp's sums.
 
+use super::clock::Moment;
 use crate::burnt::{Stretch, Sum, Told};
 
 pub const DAY: u128 = 86_400;
@@ -17,6 +18,8 @@ pub struct Drawn {
     pub sums: Vec<Sum>,
     /// RULES, History of a board: what is said of a line that does not belong.
     pub stray: Option<String>,
+    /// When the log began, where that is known.
+    pub began: Option<Moment>,
 }
 
 /// Of a lamp's stretch what lies in one day.
@@ -49,25 +52,31 @@ pub fn title(lamp: usize, from: u128, to: u128) -> String {
 }
 
 /// A row of the table of the days, counted from 1.
-#[derive(Debug, PartialEq, Eq)]
+#[derive(Clone, Copy, Debug, PartialEq, Eq)]
 pub enum Row {
     Day(usize),
     /// No lamp burnt from the one day to the other.
     Idle(usize, usize),
 }
 
-impl Row {
-    /// "its day", or of the days in which no lamp burnt the first and the last.
-    pub fn name(&self) -> String {
-        match self {
-            Row::Day(day) => format!("day {day}"),
-            Row::Idle(first, last) if first == last => format!("day {first}"),
-            Row::Idle(first, last) => format!("days {first} to {last}"),
+impl Drawn {
+    /// A day, counted from 1.
+    pub fn day(&self, day: usize) -> String {
+        match &self.began {
+            Some(began) => began.day(day),
+            None => format!("day {day}"),
         }
     }
-}
 
-impl Drawn {
+    /// A row's day, or of the days in which no lamp burnt the first and the last.
+    pub fn name(&self, row: &Row) -> String {
+        match row {
+            Row::Day(day) => self.day(*day),
+            Row::Idle(first, last) if first == last => self.day(*first),
+            Row::Idle(first, last) => format!("{} to {}", self.day(*first), self.day(*last)),
+        }
+    }
+
     pub fn rows(&self) -> Vec<Row> {
         let mut rows = Vec::new();
         for (place, lamps) in self.days.iter().enumerate() {
@@ -87,13 +96,15 @@ pub fn timed(seconds: u128) -> String {
     format!("{} h {} min ({seconds} s)", seconds / 3600, seconds / 60 % 60)
 }
 
-pub fn drawn(told: Told) -> Drawn {
-    let days = told.seconds.div_ceil(DAY).max(1);
+pub fn drawn(told: Told, began: Option<Moment>) -> Drawn {
+    let midnight = began.map_or(0, |began| began.second.into());
+    let days = (midnight + told.seconds).div_ceil(DAY).max(1);
     let days = vec![vec![Vec::new(); told.lamps.len()]; days as usize];
-    let mut drawn = Drawn { days, sums: told.lamps, stray: told.stray };
+    let mut drawn = Drawn { days, sums: told.lamps, stray: told.stray, began };
     for (place, stretch) in told.stretches {
-        for day in stretch.from / DAY..stretch.to.div_ceil(DAY) {
-            let second = |of_the_log: u128| (of_the_log.clamp(day * DAY, (day + 1) * DAY) - day * DAY) as u64;
+        for day in (midnight + stretch.from) / DAY..(midnight + stretch.to).div_ceil(DAY) {
+            let second =
+                |of_the_log: u128| ((midnight + of_the_log).clamp(day * DAY, (day + 1) * DAY) - day * DAY) as u64;
             let (from, to) = (second(stretch.from), second(stretch.to));
             let bars = &mut drawn.days[day as usize][place];
             bars.push(Bar { lamp: place + 1, day: day as usize, stretch, from, to });
@@ -110,7 +121,7 @@ mod tests {
     /// Of the sample set-up, on from this second on, and for so long.
     fn page(from: u32, seconds: u32) -> Drawn {
         let log = format!("T {from}\nO 00000000\nR %1POWR 1\nT {seconds}\n");
-        drawn(told(None, log.as_bytes()).unwrap())
+        drawn(told(None, log.as_bytes()).unwrap(), None)
     }
 
     fn days(from: u32, seconds: u32) -> Vec<Vec<(u64, u64)>> {
@@ -133,7 +144,7 @@ mod tests {
         assert_eq!(page(0, 0).rows(), [Row::Idle(1, 1)]);
         assert_eq!(page(86_400, 1).rows(), [Row::Idle(1, 1), Row::Day(2)]);
         assert_eq!(page(4 * 86_400, 86_401).rows(), [Row::Idle(1, 4), Row::Day(5), Row::Day(6)]);
-        assert_eq!(Row::Idle(2, 4).name(), "days 2 to 4");
+        assert_eq!(page(0, 0).name(&Row::Idle(2, 4)), "day 2 to day 4");
     }
 
     #[test]

@@ -142,19 +142,20 @@ pub const MISTAKES: &[(&str, Wrong)] = &[
     }),
     ("the day after the log's last second has a row", |sheet, _| {
         let row = sheet.rows().pop()?;
-        let next = format!("<tr><th scope=\"row\">day {}</th><td>no lamp burnt</td></tr>", sheet.drawn.days.len() + 1);
+        let day = sheet.drawn.day(sheet.drawn.days.len() + 1);
+        let next = format!("<tr><th scope=\"row\">{day}</th><td>no lamp burnt</td></tr>");
         Some(sheet.with([(row.end..row.end, next)]))
     }),
     ("days without a burn end a day early", |sheet, random| {
         sheet.in_name(random, |row| match row {
-            Row::Idle(first, last) if first < last => Row::Idle(*first, *last - 1).name(),
-            other => other.name(),
+            Row::Idle(first, last) if first < last => Row::Idle(*first, last - 1),
+            other => *other,
         })
     }),
     ("days without a burn begin a day late", |sheet, random| {
         sheet.in_name(random, |row| match row {
-            Row::Idle(first, last) if first < last => Row::Idle(*first + 1, *last).name(),
-            other => other.name(),
+            Row::Idle(first, last) if first < last => Row::Idle(first + 1, *last),
+            other => *other,
         })
     }),
     ("of a day with a burn it is said that no lamp burnt", |sheet, random| {
@@ -183,11 +184,46 @@ pub const MISTAKES: &[(&str, Wrong)] = &[
         let [one, other] = [any(pictures.clone(), random)?.label, any(pictures, random)?.label];
         (one.text != other.text).then(|| sheet.with([(one.range(), other.text.to_string())]))
     }),
-    ("days are numbered from 0", |sheet, random| {
+    ("days are numbered from 0, or a day early", |sheet, random| {
         sheet.in_name(random, |row| match row {
-            Row::Day(day) => Row::Day(day - 1).name(),
-            Row::Idle(first, last) => Row::Idle(first - 1, last - 1).name(),
+            Row::Day(day) => Row::Day(day - 1),
+            Row::Idle(first, last) => Row::Idle(first - 1, last - 1),
         })
+    }),
+    ("a day is the next one", |sheet, random| {
+        sheet.in_name(random, |row| match row {
+            Row::Day(day) => Row::Day(day + 1),
+            Row::Idle(first, last) => Row::Idle(first + 1, last + 1),
+        })
+    }),
+    // "with `--began` the days are those of the calendar, the hours those of the clock"
+    ("the page does not say when the log began, or that it knows no clock", |sheet, _| {
+        Some(sheet.with([(sheet.page.first?.range(), "A row is a day.".to_string())]))
+    }),
+    ("the hours are another kind of hours", |sheet, random| {
+        let (place, hour) = any(sheet.page.hours.iter().enumerate().collect(), random)?;
+        let hours = place * 3;
+        let other = if sheet.drawn.began.is_some() { format!("+{hours} h") } else { format!("{hours:02}:00") };
+        Some(sheet.with([(hour.text.range(), other)]))
+    }),
+    ("a day has the weekday before its own", |sheet, random| {
+        let began = sheet.drawn.began?;
+        let rows = sheet.page.rows.iter().zip(sheet.drawn.rows());
+        let rows = rows.filter_map(|(shown, row)| if let Row::Day(day) = row { Some((shown, day)) } else { None });
+        let (shown, day) = any(rows.collect(), random)?;
+        let wrong = began.day(day + 6)[..3].to_string() + &began.day(day)[3..];
+        Some(sheet.with([(shown.name.range(), wrong)]))
+    }),
+    ("a day is counted from the log's beginning", |sheet, random| {
+        sheet.drawn.began?;
+        let rows = sheet.page.rows.iter().zip(sheet.drawn.rows());
+        let rows = rows.filter_map(|(shown, row)| if let Row::Day(day) = row { Some((shown, day)) } else { None });
+        let (shown, day) = any(rows.collect(), random)?;
+        Some(sheet.with([(shown.name.range(), format!("day {day}"))]))
+    }),
+    ("x is counted from the second at which the log began", |sheet, random| {
+        let second = u64::from(sheet.drawn.began?.second);
+        sheet.at_x(random, |bar| (bar.from + DAY as u64 - second) % DAY as u64)
     }),
     ("lamps are numbered from 0", |sheet, random| {
         let picture = any(sheet.page.pictures().collect(), random)?;
@@ -339,10 +375,10 @@ impl<'a> Sheet<'a> {
     }
 
     /// One of the rows that mistake names otherwise.
-    fn in_name(&self, random: &mut Random, wrong: impl Fn(&Row) -> String) -> Option<String> {
-        let rows = self.page.rows.iter().zip(self.drawn.rows()).filter(|(_, row)| wrong(row) != row.name());
+    fn in_name(&self, random: &mut Random, wrong: impl Fn(&Row) -> Row) -> Option<String> {
+        let rows = self.page.rows.iter().zip(self.drawn.rows()).filter(|(_, row)| wrong(row) != *row);
         let (shown, row) = any(rows.collect(), random)?;
-        Some(self.with([(shown.name.range(), wrong(&row))]))
+        Some(self.with([(shown.name.range(), self.drawn.name(&wrong(&row)))]))
     }
 
     /// Each with what has to be drawn there.

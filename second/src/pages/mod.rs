@@ -2,6 +2,7 @@
 //! program prints is read back, and has to show what these rules draw of the log. Each page that does is then given the
 //! deliberate mistakes of `mistakes`, and each of these has to be seen.
 
+mod clock;
 mod drawn;
 mod html;
 mod making;
@@ -11,6 +12,7 @@ mod read;
 mod report;
 mod shows;
 
+pub use clock::{Moment, moment};
 pub use making::nth;
 pub use met::Met;
 pub use report::Difference;
@@ -31,8 +33,8 @@ const LONG: usize = 1 << 20;
 /// What has to be shown of a log, or the number of a form that does not load.
 type Expected = Result<Drawn, u32>;
 
-pub fn expected(form: Option<&[u8]>, log: &[u8]) -> Expected {
-    told(form, log).map(drawn)
+pub fn expected(form: Option<&[u8]>, log: &[u8], began: Option<Moment>) -> Expected {
+    told(form, log).map(|told| drawn(told, began))
 }
 
 /// What is shown otherwise than it has to be.
@@ -70,13 +72,13 @@ fn given(drawn: &Expected, printed: &[u8], random: &mut Random) -> Result<Vec<us
 
 /// The logs of a seed, so many random ones, on all processors: what they met, or the first whose page shows something
 /// else, cut down.
-pub fn compare(program: &Program, seed: u64, count: usize) -> Result<Met, Box<Difference>> {
+pub fn compare(program: &Program, seed: u64, count: usize, began: Option<Moment>) -> Result<Met, Box<Difference>> {
     let started = Started::new(program, Played::Burnt);
     let fault_of =
-        |case: &Case, number| fault(&expected(case.form(), &case.fed.log), &started.printed(case, number)).err();
+        |case: &Case, number| fault(&expected(case.form(), &case.fed.log, began), &started.printed(case, number)).err();
     let met = on_all(FIXED + count, Met::default, |number, met| {
         let case = nth(seed, number);
-        let expected = expected(case.form(), &case.fed.log);
+        let expected = expected(case.form(), &case.fed.log, began);
         let printed = started.printed(&case, number);
         if let Err(words) = fault(&expected, &printed) {
             return Err(Box::new(Difference { number, case, words }));

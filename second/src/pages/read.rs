@@ -13,6 +13,8 @@ const NAME: u64 = 18;
 
 #[derive(Debug)]
 pub struct Page<'a> {
+    /// The first paragraph.
+    pub first: Option<Part<'a>>,
     pub hours: Vec<Hour<'a>>,
     pub rows: Vec<Row<'a>>,
     pub table: Table<'a>,
@@ -124,6 +126,7 @@ pub fn read(text: &str) -> Result<Page<'_>, String> {
     };
     let closings = all.iter().filter_map(|element| element.closing.clone()).collect();
     let paragraphs = all.iter().filter(|element| element.name == "p");
+    let first = all.iter().find(|element| element.name == "p").and_then(|element| element.text().ok());
     let strays = paragraphs.filter_map(|element| Some((element.range.clone(), element.text().ok()?)));
     let strays = strays.filter(|(_, text)| text.text.starts_with("! "));
     let strays = strays.map(|(range, text)| Stray { range, text }).collect();
@@ -138,7 +141,7 @@ pub fn read(text: &str) -> Result<Page<'_>, String> {
     if drawings(&html) != drawings(days) {
         return Err("a drawing stands outside the table of the days".to_string());
     }
-    Ok(Page { hours, rows, table: table(lamps)?, strays, styles, closings })
+    Ok(Page { first, hours, rows, table: table(lamps)?, strays, styles, closings })
 }
 
 /// The row of a table's head, and the rows below it. Each row of a table is in one of the two.

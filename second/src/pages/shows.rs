@@ -10,15 +10,16 @@ const HEADS: [&str; 4] = ["lamp", "at the start", "burnt", "now"];
 const HOURS: u64 = 24;
 
 pub fn shows(page: &Page, drawn: &Drawn) -> Result<(), String> {
-    hours(page)?;
+    hours(page, drawn)?;
+    clock(page, drawn)?;
     let rows = drawn.rows();
     alike("rows of days", page.rows.len(), rows.len())?;
     for (shown, row) in page.rows.iter().zip(&rows) {
-        says(shown.name, &row.name())?;
+        says(shown.name, &drawn.name(row))?;
         match (&shown.shown, row) {
             (Shown::Words(words), Row::Idle(..)) => says(*words, "no lamp burnt")?,
             (Shown::Picture(picture), Row::Day(day)) => {
-                says(picture.label, &format!("when each lamp burnt on day {day}"))?;
+                says(picture.label, &format!("when each lamp burnt on {}", drawn.day(*day)))?;
                 let lamps = &drawn.days[day - 1];
                 alike(&format!("bands in day {day}"), picture.bands.len(), lamps.len())?;
                 for (place, (band, bars)) in picture.bands.iter().zip(lamps).enumerate() {
@@ -28,7 +29,7 @@ pub fn shows(page: &Page, drawn: &Drawn) -> Result<(), String> {
                     band.bars.iter().zip(bars).try_for_each(|(bar, drawn)| is_drawn(bar, drawn))?;
                 }
             }
-            _ => return Err(format!("byte {}: {} is not shown as it has to be", shown.range.start, row.name())),
+            _ => return Err(format!("byte {}: {} is not shown as it has to be", shown.range.start, drawn.name(row))),
         }
     }
     colours(page)?;
@@ -37,10 +38,10 @@ pub fn shows(page: &Page, drawn: &Drawn) -> Result<(), String> {
 }
 
 /// "the hours 0 to 24 along the top", each at its share of a day's width.
-fn hours(page: &Page) -> Result<(), String> {
+fn hours(page: &Page, drawn: &Drawn) -> Result<(), String> {
     let mut next = 0;
     for hour in &page.hours {
-        says(hour.text, &format!("+{next} h"))?;
+        says(hour.text, &hour_name(drawn, next))?;
         let share: f64 = hour.share.text.parse().map_err(|_| format!("byte {}: no share", hour.share.at))?;
         if share * 24.0 != next as f64 * 100.0 {
             return Err(format!("byte {}: the hour {next} stands at {share} %", hour.share.at));
@@ -48,6 +49,21 @@ fn hours(page: &Page) -> Result<(), String> {
         next += 3;
     }
     if next == HOURS + 3 { Ok(()) } else { Err(format!("the hours end before {next}")) }
+}
+
+/// Of the clock, or since the log began.
+pub fn hour_name(drawn: &Drawn, hour: u64) -> String {
+    if drawn.began.is_some() { format!("{hour:02}:00") } else { format!("+{hour} h") }
+}
+
+/// It says when the log began, or that it knows no clock.
+fn clock(page: &Page, drawn: &Drawn) -> Result<(), String> {
+    let words = match &drawn.began {
+        Some(began) => format!("The log began on {} at {}, and", began.day(1), began.time()),
+        None => "This page knows no clock:".to_string(),
+    };
+    let first = page.first.ok_or("it says nothing first")?;
+    if first.text.starts_with(&words) { Ok(()) } else { Err(format!("byte {}: it does not begin with {words:?}", first.at)) }
 }
 
 fn is_drawn(bar: &Bar, drawn: &drawn::Bar) -> Result<(), String> {

@@ -5,24 +5,29 @@ use super::*;
 
 /// What has to be seen, in words of its own.
 fn page(drawn: &Drawn) -> String {
-    let mut page = "<!doctype html><html><body><table><thead><tr><th>day</th><th>lamp</th><th>".to_string();
-    for hour in (0..=24).step_by(3) {
-        page += &format!("<span style='left:{}%'>+{hour} h</span>", f64::from(hour) * 100.0 / 24.0);
+    let first = match &drawn.began {
+        Some(began) => format!("The log began on {} at {}, and on", began.day(1), began.time()),
+        None => "This page knows no clock: none".to_string(),
+    };
+    let mut page = format!("<!doctype html><html><body><p>{first}</p>") + "<table><thead><tr><th>day</th><th>lamp</th><th>";
+    for hour in (0..=24u32).step_by(3) {
+        let name = shows::hour_name(drawn, hour.into());
+        page += &format!("<span style='left:{}%'>{name}</span>", f64::from(hour) * 100.0 / 24.0);
     }
     page += "</th></tr></thead><tbody>";
     for row in drawn.rows() {
         let Row::Day(day) = row else {
-            page += &format!("<tr><th>{}</th><td>no lamp burnt</td></tr>", row.name());
+            page += &format!("<tr><th>{}</th><td>no lamp burnt</td></tr>", drawn.name(&row));
             continue;
         };
         let lamps = &drawn.days[day - 1];
-        page += &format!("<tr><th>day {day}</th><td>");
+        page += &format!("<tr><th>{}</th><td>", drawn.day(day));
         for lamp in 1..=lamps.len() {
             page += &format!("<b>lamp {lamp}</b>");
         }
         let height = 1 + 18 * lamps.len();
         page += &format!("</td><td><svg viewBox=\"0 0 86400 {height}\" height={height} preserveAspectRatio=\"none\"");
-        page += &format!(" aria-label='when each lamp burnt on day {day}'>");
+        page += &format!(" aria-label='when each lamp burnt on {}'>", drawn.day(day));
         for (lamp, bars) in lamps.iter().enumerate() {
             let lane = 3 + 18 * lamp;
             page += &format!("<g><rect height='10' y='{lane}' x='0' width='86400' fill='#eeeeee'/></g>");
@@ -54,7 +59,8 @@ fn pages_show_the_mistakes() {
     let mut met = Met::default();
     for number in (0..FIXED + 300).filter(|number| number + 1 != FIXED) {
         let case = nth(3, number);
-        let expected = expected(case.form(), &case.fed.log);
+        let began = if number % 2 == 0 { moment("2028-02-26T21:05:07") } else { None };
+        let expected = expected(case.form(), &case.fed.log, began);
         let printed = match &expected {
             Ok(drawn) => page(drawn),
             Err(_) => String::new(),
@@ -73,7 +79,7 @@ fn pages_show_the_mistakes() {
 /// The page of one log is none of another.
 #[test]
 fn another_log() {
-    let drawn_on = |log: &str| expected(None, log.as_bytes());
+    let drawn_on = |log: &str| expected(None, log.as_bytes(), None);
     let log = "O 00000000\nR %1POWR 1\nT 100\n";
     let right = drawn_on(log);
     let printed = page(right.as_ref().unwrap());
@@ -86,9 +92,9 @@ fn another_log() {
 /// A form that does not load has no page.
 #[test]
 fn no_page() {
-    let refused = expected(Some(b"\x04"), b"");
+    let refused = expected(Some(b"\x04"), b"", None);
     assert_eq!(fault(&refused, b""), Ok(()));
-    let page = page(expected(None, b"").as_ref().unwrap());
+    let page = page(expected(None, b"", None).as_ref().unwrap());
     for printed in [&b"\n"[..], b"! 20\n", page.as_bytes()] {
         assert!(fault(&refused, printed).is_err());
     }
@@ -98,7 +104,7 @@ fn no_page() {
 #[test]
 fn a_difference_is_cut_down() {
     let cat = Program(vec!["sh".to_string(), "-c".to_string(), "cat".to_string()]);
-    let Err(difference) = compare(&cat, 1, 1) else { panic!("cat draws pages") };
+    let Err(difference) = compare(&cat, 1, 1, None) else { panic!("cat draws pages") };
     assert_eq!(difference.case.form, None);
     assert_eq!(difference.case.fed.log, b"");
 }

@@ -86,7 +86,7 @@ returns-in-Err-clause-short g c =
 
 pub returns-in-Ok-clause-unplayed : goal.returns-in-Ok-clause-unplayed
 returns-in-Ok-clause-unplayed g c =
-    let n = begun_so c.args.begun c.args.sum c.args.drawn c.new-report.ensures c.new.result c.new.ensures.watch
+    let n = begun_so c.args.begun c.args.sum c.args.report c.new.result c.new.ensures.watch
     c.new.ensures.report c.new.ensures.starts c.new.ensures.lines c.new.ensures.unplayed c.new-2.result
     c.new-2.ensures.watch c.new-2.ensures.report
     c.new-2.ensures.starts c.new-2.ensures.log c.new-2.ensures.lines c.new-2.ensures.stray c.new-teller.result

@@ -4,8 +4,25 @@ use Rattle.report.proofs.page.begin.Goals as goal
 
 pub returns-in_err-put_head : goal.returns-in_err-put_head
 unfolding page_begun
-returns-in_err-put_head g c = writes_fails _ c.in_err-put_head.ensures c.from_residual.ensures
+returns-in_err-put_head g c =
+    writes_fails _ c.in_err-put_head.ensures c.from_residual.ensures
+
+pub returns-in_err-put_clock : goal.returns-in_err-put_clock
+unfolding page_begun
+returns-in_err-put_clock g c =
+    writes_then c.in_ok-put_head.ensures
+    (writes_fails _ c.in_err-put_clock.ensures c.from_residual-in_err-put_clock.ensures)
+
+pub returns-in_err-put_head_of_days : goal.returns-in_err-put_head_of_days
+unfolding page_begun
+returns-in_err-put_head_of_days g c =
+    writes_then c.in_ok-put_head.ensures
+    (writes_then c.in_ok-put_clock.ensures
+    (writes_fails _ c.in_err-put_head_of_days.ensures c.from_residual-in_err-put_head_of_days.ensures))
 
 pub returns : goal.returns
 unfolding page_begun
-returns g c = writes_then c.in_ok-put_head.ensures c.put_hours.ensures
+returns g c =
+    writes_then c.in_ok-put_head.ensures
+    (writes_then c.in_ok-put_clock.ensures
+    (writes_then c.in_ok-put_head_of_days.ensures c.put_hours.ensures))

@@ -5,25 +5,25 @@ use Rattle.report.proofs.page.end_until.Goals as goal
 pub returns-in_err-end : goal.returns-in_err-end
 unfolding page_ended_until
 returns-in_err-end g c =
-    writes_fails _ (rw c.days_until.ensures at c.in_err-end.ensures) c.from_residual.ensures
+    writes_fails _ (rw (c.days_until-last.ensures, c.at.ensures) at c.in_err-end.ensures) c.from_residual.ensures
 
 pub returns-in_err-close_days : goal.returns-in_err-close_days
 unfolding page_ended_until
 returns-in_err-close_days g c =
-    writes_then (rw c.days_until.ensures at c.in_ok-end.ensures)
+    writes_then (rw (c.days_until-last.ensures, c.at.ensures) at c.in_ok-end.ensures)
     (writes_fails _ c.in_err-close_days.ensures c.from_residual-in_err-close_days.ensures)
 
 pub returns-in_err-put_table : goal.returns-in_err-put_table
 unfolding page_ended_until
 returns-in_err-put_table g c =
-    writes_then (rw c.days_until.ensures at c.in_ok-end.ensures)
+    writes_then (rw (c.days_until-last.ensures, c.at.ensures) at c.in_ok-end.ensures)
     (writes_then c.in_ok-close_days.ensures
     (writes_fails _ c.in_err-put_table.ensures c.from_residual-in_err-put_table.ensures))
 
 pub returns-in_err-put_until : goal.returns-in_err-put_until
 unfolding page_ended_until
 returns-in_err-put_until g c =
-    writes_then (rw c.days_until.ensures at c.in_ok-end.ensures)
+    writes_then (rw (c.days_until-last.ensures, c.at.ensures) at c.in_ok-end.ensures)
     (writes_then c.in_ok-close_days.ensures
     (writes_then c.in_ok-put_table.ensures
     (writes_fails _ c.in_err-put_until.ensures c.from_residual-in_err-put_until.ensures)))
@@ -31,7 +31,7 @@ returns-in_err-put_until g c =
 pub returns-in_err-put_stray : goal.returns-in_err-put_stray
 unfolding page_ended_until
 returns-in_err-put_stray g c =
-    writes_then (rw c.days_until.ensures at c.in_ok-end.ensures)
+    writes_then (rw (c.days_until-last.ensures, c.at.ensures) at c.in_ok-end.ensures)
     (writes_then c.in_ok-close_days.ensures
     (writes_then c.in_ok-put_table.ensures
     (writes_then c.in_ok-put_until.ensures
@@ -40,7 +40,7 @@ returns-in_err-put_stray g c =
 pub returns : goal.returns
 unfolding page_ended_until
 returns g c =
-    writes_then (rw c.days_until.ensures at c.in_ok-end.ensures)
+    writes_then (rw (c.days_until-last.ensures, c.at.ensures) at c.in_ok-end.ensures)
     (writes_then c.in_ok-close_days.ensures
     (writes_then c.in_ok-put_table.ensures
     (writes_then c.in_ok-put_until.ensures (writes_then c.in_ok-put_stray.ensures c.close.ensures))))

@@ -1,0 +1,4 @@
+pub mod Days
+pub mod Moments
+pub mod Settled
+pub mod Computing
