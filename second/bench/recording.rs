@@ -1,7 +1,8 @@
 //! Recording a board's history (RULES, History of a board): the line of each call, which is held against the call in
-//! place that it is the line of, and one line played.
+//! place that it is the line of, and one line played. Of a receive both are measured here, on the least record: the
+//! recorder does not look at it, and the call takes the fewest instructions.
 
-use crate::work::{By, PLACE, Run, Work};
+use crate::work::{By, PLACE, Run, Work, least, led_by_digest, receiving_in_place};
 use second::face::{Device, Written};
 use std::cell::RefCell;
 use std::hint::black_box;
@@ -56,8 +57,30 @@ pub fn all() -> Vec<Work> {
         recording(|log, out| unsafe { pj_log_opened(log, PLACE, 0x498e_4a67, out.as_mut_ptr(), out.len()) })
     });
     add("pj_log_received, one byte", || receiving(b"%".to_vec()));
+    add("pj_log_received, four bytes of a line", || receiving(b"%1PO".to_vec()));
     add("pj_log_received, whole query %1LAMP ?", || receiving(b"%1LAMP ?\r".to_vec()));
+    add("pj_log_received, %1POWR 1", || receiving(b"%1POWR 1\r".to_vec()));
+    add("pj_log_received, a line of 12 bytes", || receiving(line_of(12)));
+    add("pj_log_received, a line of 28 bytes", || receiving(line_of(28)));
+    add("pj_log_received, a line led by its digest", || receiving(led_by_digest()));
+    add("pj_log_received, a line of 60 bytes", || receiving(line_of(60)));
+    add("pj_log_received, a line of 136 bytes", || receiving(line_of(136)));
+    add("pj_log_received, 9 bytes in hex", || receiving(vec![0; 9]));
+    add("pj_log_received, 137 bytes in hex", || receiving(vec![0; 137]));
     add("pj_log_received, 2,046 bytes", || receiving(vec![0; 2046]));
+    add("pj_receive_in_place, one byte, the least record", || handing(b"%".to_vec()));
+    add("pj_receive_in_place, four bytes of a line, the least record", || handing(b"%1PO".to_vec()));
+    add("pj_receive_in_place, whole query %1LAMP ?, the least record", || handing(b"%1LAMP ?\r".to_vec()));
+    add("pj_receive_in_place, %1POWR 1, the least record", || handing(b"%1POWR 1\r".to_vec()));
+    add("pj_receive_in_place, a line of 12 bytes, the least record", || handing(line_of(12)));
+    add("pj_receive_in_place, a line of 28 bytes, the least record", || handing(line_of(28)));
+    let name = "pj_receive_in_place, a line led by its digest, the least record";
+    add(name, || receiving_in_place(least(b"panel123"), &led_by_digest()));
+    add("pj_receive_in_place, a line of 60 bytes, the least record", || handing(line_of(60)));
+    add("pj_receive_in_place, a line of 136 bytes, the least record", || handing(line_of(136)));
+    add("pj_receive_in_place, 9 bytes of none, the least record", || handing(vec![0; 9]));
+    add("pj_receive_in_place, 137 bytes of none, the least record", || handing(vec![0; 137]));
+    add("pj_receive_in_place, 2,046 bytes of none, the least record", || handing(vec![0; 2046]));
     add("pj_log_passed, n = 1", || recording(|log, out| unsafe { pj_log_passed(log, 1, out.as_mut_ptr(), out.len()) }));
     add("pj_log_passed, n = 4,294,967,295", || {
         recording(|log, out| unsafe { pj_log_passed(log, u32::MAX, out.as_mut_ptr(), out.len()) })
@@ -94,6 +117,18 @@ fn receiving(bytes: Vec<u8>) -> Run {
         let bytes = black_box(&bytes);
         unsafe { pj_log_received(log, PLACE, bytes.as_ptr(), bytes.len(), out.as_mut_ptr(), out.len()) }
     })
+}
+
+fn handing(bytes: Vec<u8>) -> Run {
+    receiving_in_place(least(b""), &bytes)
+}
+
+/// A line of so many bytes, its CR included, that asks for nothing that there is.
+fn line_of(length: usize) -> Vec<u8> {
+    let mut line = b"%1NONE ".to_vec();
+    line.resize(length - 1, b'?');
+    line.push(b'\r');
+    line
 }
 
 fn stating() -> Run {

@@ -125,6 +125,21 @@ fn short() -> Device {
     })
 }
 
+/// The least that is set up and opened: no texts, one input, one lamp. No call takes fewer instructions.
+pub fn least(password: &[u8]) -> Device {
+    made(Lent {
+        name: Vec::new(),
+        maker: Vec::new(),
+        model: Vec::new(),
+        other: Vec::new(),
+        password: password.to_vec(),
+        inputs: b"11".to_vec(),
+        lamps: vec![0],
+        warm: 20,
+        cool: 60,
+    })
+}
+
 /// The same at its limits, with a name of three bytes a character.
 fn japanese() -> Device {
     let mut device = opened(b"");
@@ -217,7 +232,7 @@ fn warming() -> Device {
     device
 }
 
-fn led_by_digest() -> Vec<u8> {
+pub fn led_by_digest() -> Vec<u8> {
     let mut line = second::reference::connection::leading_digest(0x498e_4a67, b"panel123").to_vec();
     line.extend_from_slice(b"%1POWR ?\r");
     line
@@ -297,7 +312,7 @@ fn lent(device: Device, call: impl Fn(By, &mut Device) + 'static) -> Run {
     })
 }
 
-fn receiving_in_place(device: Device, bytes: &[u8]) -> Run {
+pub fn receiving_in_place(device: Device, bytes: &[u8]) -> Run {
     let bytes = bytes.to_vec();
     lent(device, move |by, device| {
         let mut out = [0; 136];

@@ -5,6 +5,7 @@
 --   changed_of r                       of a call that gives a number and the record
 --   panel_changed_of r, panel_sent_of r     of a panel's call, and of its command
 --   panel_sending_of r                 of a command, beside a panel that changes where it lies
+--   heard_flat n h                     the number n, and what is told of a line that was h
 --   panel_heard_of r h                 of hearing a line, which was h
 -- Assumes nothing.
 use Rattle.std.specs.Prelude.{ℕ, length, Option}
@@ -52,5 +53,8 @@ panel_sent_of r = record { number = r.number; length = length r.line; panel = r.
 abbrev pub panel_sending_of : PanelAs → Written
 panel_sending_of r = record { number = r.number; length = length r.line }
 
+abbrev pub heard_flat : ℕ → Option HeardAs → PanelHeard
+heard_flat n h = record { number = n; kind = heard_kind h; reading = heard_reading h }
+
 abbrev pub panel_heard_of : PanelAs → Option HeardAs → PanelHeard
-panel_heard_of r h = record { number = r.number; kind = heard_kind h; reading = heard_reading h }
+panel_heard_of r h = heard_flat r.number h

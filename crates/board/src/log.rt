@@ -74,7 +74,8 @@ fn six_of(digits: &[u8]) -> Errors
     }
 }
 
-// The line of a call.
+// The line of a call. Inlined, so that each export has the line of its own kind alone.
+#[inline(always)]
 fn record(log: &mut Recorder, made: &Call<'_>, out: &mut [u8]) -> Written
     ensures says { result
         ≡ writing_of (told_written (recorded_by log.old (call (call_seen made.now)) (length out.old))) }

@@ -1,17 +1,53 @@
 // The workroom panel's calls (RULES, Panel): on a panel that the host lends, which changes where it lies, and by value,
 // where the panel is given, and the changed one comes back. Those by value are those in place on a copy.
-ghost use Rattle.std.specs.Prelude.{◌≡◌, length};
+ghost use Rattle.std.specs.Prelude.{◌≡◌, ◌≤◌, length, Some, None};
+ghost use Rattle.pjlink.specs.Said.{parameter_most};
 ghost use Rattle.text.specs.Words.{over};
 ghost use Rattle.panel.specs.AnyPanel.{ours_panel};
-ghost use Rattle.board.specs.Results.{panel_changed_of, panel_sending_of, panel_sent_of, panel_heard_of};
+ghost use Rattle.panel.specs.Hearing.{heard_by_code, heard_bytes};
+ghost use Rattle.board.specs.Results.{panel_changed_of, panel_sending_of, panel_sent_of, panel_heard_of, heard_flat};
 
 use crate::results::{PanelChanged, PanelHeard, PanelSent};
 use crate::writer::Written;
 use codes::command::Coded;
 use codes::readings::FlatReading;
+use panel::heard::Heard;
 use panel::types::Panel;
 use text::numbered;
 use text::numbered::Numbered;
+
+// What is told of a line that was heard. What it takes of the stack is not there while the line is read.
+#[inline(never)]
+fn told(heard: &Heard<'_>) -> PanelHeard
+    requires { length (heard_bytes (heard_by_code heard.now)) ≤ parameter_most }
+    ensures { result ≡ heard_flat 0 (Some (heard_by_code heard.now)) }
+{
+    let kind = heard.kind();
+    match heard {
+        Heard::Reply(reading) => PanelHeard {
+            number: 0,
+            kind,
+            reading: FlatReading::of(reading),
+        },
+        Heard::Greeting | Heard::NoGreeting | Heard::Late => PanelHeard {
+            number: 0,
+            kind,
+            reading: FlatReading::meaningless(0),
+        },
+    }
+}
+
+// Nothing is told of a line that was refused, for the reason that the number says.
+#[inline(never)]
+fn untold(number: u32) -> PanelHeard
+    ensures { result ≡ heard_flat number None }
+{
+    PanelHeard {
+        number,
+        kind: 0,
+        reading: FlatReading::meaningless(0),
+    }
+}
 
 /// The panel of no projector, into the host's.
 #[unsafe(no_mangle)]
@@ -72,16 +108,8 @@ pub extern "C" fn pj_panel_hear_in_place(
     ensures panel { panel.new ≡ (ours_panel.hear panel.old projector line.now).panel }
 {
     match panel.hear(projector, line) {
-        Ok(heard) => PanelHeard {
-            number: 0,
-            kind: heard.kind(),
-            reading: heard.reading(),
-        },
-        Err(why) => PanelHeard {
-            number: why.number(),
-            kind: 0,
-            reading: FlatReading::meaningless(0),
-        },
+        Ok(heard) => told(&heard),
+        Err(why) => untold(why.number()),
     }
 }
 

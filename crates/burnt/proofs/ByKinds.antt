@@ -180,7 +180,7 @@ module _ {begun : Device} {sum : ℕ} {way : Report} {o : Both} (n : IsBegun beg
           → (if t then none_unplayed else last.events.unplayed)
           ≡ (if t then none_unplayed else floor_unplayed begun log)
       by true h = refl
-      by false h = h.2.1 ∙ all_unplayed o.events begun n.unplayed n.floor_lines n.watch log
+      by false h = h.3 ∙ all_unplayed o.events begun n.unplayed n.floor_lines n.watch log
 
   -- where a read fails
   pub told_so_far : {after : Both} {log left : List ℕ} {old mid now : Option (List ℕ)}

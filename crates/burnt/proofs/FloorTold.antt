@@ -130,7 +130,7 @@ module _ (begun : Device) (way : Report) (t : Teller) (starts : t.starts ≡ beg
   teller_so_far after ls text all at =
       let events = map floor_event (texts_of ls) in
       text_so_far (totals_text t.starts) t.report (state_of t.watch) (floor_steps t.watch.tested.device events) all
-      (λ i. told_from (totals_text (at.0 i)) (at.1 i) (at.2.0 i) [])
+      (λ i. told_from (totals_text (at.0 i)) (at.1 i) (at.2 i) [])
       ∙ (λ i. tellings_text (report i) (told_within (watch i) (floor_steps (watch i).device events)))
 
 pub teller_itself : (t : Teller) → TellerLeft t [] t
@@ -146,26 +146,26 @@ teller_itself_ok t (Ok v) = teller_itself t
 teller_itself_ok t (Err e) = tt
 
 -- what of a line is not played, and what of those that come after it
-pub line_unplayed : (t after : Teller) (line : LogLine) (ls : List LogLine) {last : Unplayed}
-    → after.lines ≡ t.lines + 1
-    → after.watch.tested.device ≡ done_by t.watch.tested.device (floor_event line.text)
-    → after.unplayed ≡ noted t.unplayed (t.lines + 1) (why_misread line.text)
+pub line_unplayed : (t : Teller) (line : LogLine) (ls : List LogLine) {unplayed last : Unplayed} {lines : ℕ}
+    {device : Device} → lines ≡ t.lines + 1 → device ≡ done_by t.watch.tested.device (floor_event line.text)
+    → unplayed ≡ noted t.unplayed (t.lines + 1) (why_misread line.text)
     (watched_answer t.watch.tested.device (floor_event line.text))
-    → last ≡ unplayed_by watched_answer done_by after.unplayed after.lines after.watch.tested.device
-    (map (said_line floor_event) (texts_of ls))
+    → last ≡ unplayed_by watched_answer done_by unplayed lines device (map (said_line floor_event) (texts_of ls))
     → last ≡ unplayed_by watched_answer done_by t.unplayed t.lines t.watch.tested.device
     (map (said_line floor_event) (texts_of (line ∷ ls)))
-line_unplayed t after line ls more is noted h =
+line_unplayed t line ls more is noted h =
     h ∙ (λ i. unplayed_by watched_answer done_by (noted i) (more i) (is i) (map (said_line floor_event) (texts_of ls)))
     ∙ sym (unplayed_more watched_answer done_by t.unplayed t.lines t.watch.tested.device
     (said_line floor_event line.text) (map (said_line floor_event) (texts_of ls)))
 
-pub line_over : (t after : Teller) (line : LogLine) (ls : List LogLine) {ended : Bool} → after.lines ≡ t.lines + 1
-    → IsWatched (state_of t.watch) (floor_step t.watch.tested.device (floor_event line.text)) (state_of after.watch) ended
-    → TellerOverflows after ls → TellerOverflows t (line ∷ ls)
-line_over t after line ls more watched (inl h) =
+pub line_over : (t : Teller) (line : LogLine) (ls : List LogLine) {after : Watching} {lines : ℕ} {ended : Bool}
+    → lines ≡ t.lines + 1
+    → IsWatched (state_of t.watch) (floor_step t.watch.tested.device (floor_event line.text)) after ended
+    → (2 ^ 64 ≤ after.time + sum_by seconds_by (map floor_event (texts_of ls))) ⊎ (2 ^ 64 ≤ lines + length ls)
+    → TellerOverflows t (line ∷ ls)
+line_over t line ls more watched (inl h) =
     inl (line_counted (state_of t.watch) (floor_event line.text) (map floor_event (texts_of ls)) watched h)
-line_over t after line ls more watched (inr h) = inr (omega (arith, more, h))
+line_over t line ls more watched (inr h) = inr (omega (arith, more, h))
 
 pub all_unplayed : (t : Teller) (begun : Device) → t.unplayed ≡ none_unplayed → t.lines ≡ 0
     → state_of t.watch ≡ watching_from begun → (log : List ℕ)

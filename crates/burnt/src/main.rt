@@ -8,6 +8,10 @@ mod telling;
 mod tests;
 pub mod theorems;
 
+ghost use Rattle.std.specs.Prelude.{◌≡◌, option_map};
+ghost use Rattle.recorded.specs.Following.{stray_seen};
+ghost use Rattle.burnt.specs.LogTold.{told, stray_in, unplayed_in, IsTooMuch};
+
 use command::asked::Command;
 use formfile::Begun;
 use program::about::About;
@@ -46,6 +50,14 @@ the log does not belong to it.
 struct Burnt;
 
 impl Telling for Burnt {
+    ghost told = { λ _ asked begun log. told begun.device begun.sum asked.page log };
+
+    ghost ends = { λ _ begun log ending.
+        (option_map stray_seen ending.stray ≡ stray_in begun.device begun.sum log)
+        × (ending.unplayed ≡ unplayed_in begun.device log) };
+
+    ghost is_too_much = { IsTooMuch };
+
     fn tell<R: ByteSource, W: ByteSink>(
         &self,
         begun: &Begun,

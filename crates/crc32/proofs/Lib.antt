@@ -1,6 +1,6 @@
 pub mod Shifts
 pub mod GoesOn
 mod ByTable
-mod ByFours
+mod ByChunks
 pub mod Changes
 mod Vectors

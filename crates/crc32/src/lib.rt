@@ -16,7 +16,11 @@ pub fn crc32_on(sum: u32, s: &[u8]) -> u32
     ensures { result ≡ crc32_on sum s.now }
 {
     let mut r = ONES ^ sum;
-    let (fours, rest) = s.as_chunks::<4>();
+    let (sixteens, few) = s.as_chunks::<16>();
+    for sixteen in sixteens {
+        r = table::after_sixteen(r, sixteen);
+    }
+    let (fours, rest) = few.as_chunks::<4>();
     for &[a, b, c, d] in fours {
         r = table::after_four(r, a, b, c, d);
     }

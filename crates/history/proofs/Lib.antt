@@ -14,3 +14,4 @@ pub mod Served
 pub mod OnlyLines
 pub mod SecondsSaid
 pub mod HeaderWord
+mod InSixteens

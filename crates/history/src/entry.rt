@@ -63,6 +63,7 @@ impl Entry<'_> {
     /// Whether a line can say it: a header of a file from 1 on, with a start time that it can have; a call that a line
     /// can say ([`Call::is_sayable`]); of what a record shows 1 to 128 characters ` ` to `~`, the last of them no
     /// space.
+    #[inline(always)]
     pub fn is_sayable(&self) -> bool
         ensures { result ≡ is_sayable_entry (entry_seen self.now) }
     {

@@ -5,6 +5,7 @@
 pub mod call;
 pub mod entry;
 mod figures;
+mod plain;
 mod put;
 pub mod read;
 pub mod recorder;

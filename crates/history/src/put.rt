@@ -1,35 +1,25 @@
 // The line of a call, put after what a writer has written.
-ghost use Rattle.std.specs.Prelude.{◌≡◌, codes, ◌+◌, ◌<◌, ◌^◌, ◌≤◌, ◌++◌, true, length};
-ghost use Rattle.std.specs.List.{list_all};
+ghost use Rattle.std.specs.Prelude.{◌≡◌, codes, ◌+◌, ◌*◌, ◌<◌, ◌^◌, ◌≤◌, ◌++◌, true, length};
+ghost use Rattle.std.proofs.lemmas.List.Edits.{sets};
 ghost use Rattle.lent.specs.Puts.{Puts};
 ghost use Rattle.numbers.specs.Decimal.{digits};
 ghost use Rattle.words.specs.ErrorDigits.{errors_text};
 ghost use Rattle.history.specs.Calls.{call_seen, is_sayable, is_place_number, received_most};
-ghost use Rattle.history.specs.Lines.{is_printable, is_plain, is_command_line, hex_text, place_head, bytes_text};
+ghost use Rattle.history.specs.Lines.{is_plain, is_command_line, hex_text, place_head, bytes_text};
 ghost use Rattle.history.specs.Lines.{switch_figure, call_text};
+ghost use Rattle.history.specs.Recording.{log_line_room};
 ghost use Rattle.history.specs.Entries.{summed_text, time_text, time_seen, entry_seen, entry_text, is_sayable_entry};
 
 use crate::call::Call;
 use crate::entry::Entry;
-use crate::figures;
+use crate::{figures, plain};
 use lent::Writer;
 use words::errors::Errors;
 use words::input;
 
-fn is_printable(b: u8) -> bool
-    ensures { result ≡ is_printable b }
-{
-    b' ' <= b && b <= b'~'
-}
-
-fn are_printable(s: &[u8]) -> bool
-    ensures { result ≡ list_all is_printable s.now }
-{
-    s.iter().all(|b| is_printable(*b))
-}
-
 /// Whether a line can end with these bytes: printable, at least one, and the last of them no space.
 #[tactic(auto, unfolding(crate::specs::Lines::is_plain))]
+#[inline(always)]
 pub fn is_plain(s: &[u8]) -> bool
     ensures { result ≡ is_plain s.now }
 {
@@ -37,11 +27,12 @@ pub fn is_plain(s: &[u8]) -> bool
     if n < 1 || s[n - 1] == b' ' {
         return false;
     }
-    are_printable(s)
+    plain::are_printable(s)
 }
 
 /// Whether the bytes are one line of a controller, which is said as text.
 #[tactic(auto, unfolding(crate::specs::Lines::is_command_line))]
+#[inline(always)]
 pub fn is_command_line(bytes: &[u8]) -> bool
     ensures { result ≡ is_command_line bytes.now }
 {
@@ -52,19 +43,28 @@ pub fn is_command_line(bytes: &[u8]) -> bool
     is_plain(&bytes[..n - 1])
 }
 
-// Two digits a byte.
-fn hex(w: &mut Writer<'_>, s: &[u8])
-    requires few { length s.now ≤ received_most }
-    requires short { w.old.at ≤ 4 }
-    ensures { Puts w.old w.new (hex_text s.now) }
+// Two digits a byte, with one test of the room for all.
+#[inline(always)]
+fn put_hex(out: &mut [u8], at: usize, s: &[u8])
+    requires { at + 2 * length s.now ≤ length out.old }
+    ensures { out.new ≡ sets out.old at (hex_text s.now) }
 {
-    for &b in s {
-        let digits = digest::hex8(b as u32);
-        w.byte(digits[6]);
-        w.byte(digits[7]);
+    for i in 0..s.len() {
+        let digits = digest::hex8(s[i] as u32);
+        text::put(out, at + 2 * i, &[digits[6], digits[7]]);
     }
 }
 
+#[inline(always)]
+fn hex(w: &mut Writer<'_>, s: &[u8])
+    requires { w.old.at + 2 * length s.now ≤ length w.old.out.now }
+    ensures { Puts w.old w.new (hex_text s.now) }
+{
+    put_hex(w.out, w.at, s);
+    w.at += 2 * s.len();
+}
+
+#[inline(always)]
 fn errors(w: &mut Writer<'_>, digits: &Errors)
     requires short { w.old.at ≤ 4 }
     ensures { Puts w.old w.new (errors_text digits.now) }
@@ -117,33 +117,39 @@ fn switch_figure(mark: bool) -> u8
 }
 
 // A letter and the number of a place or a lamp.
+#[inline(always)]
 fn head(w: &mut Writer<'_>, letter: u8, place: u8)
     requires first { w.old.at ≡ 0 }
+    requires room { log_line_room ≤ length w.old.out.now }
     requires few { place ≤ 9 }
     ensures { Puts w.old w.new (place_head letter place) }
 {
-    w.bytes(&[letter, b' ', b'0' + place]);
+    w.fitting(&[letter, b' ', b'0' + place]);
 }
 
 // The same, and something behind it.
+#[inline(always)]
 fn placed(w: &mut Writer<'_>, letter: u8, place: u8)
     requires first { w.old.at ≡ 0 }
+    requires room { log_line_room ≤ length w.old.out.now }
     requires few { place ≤ 9 }
     ensures { Puts w.old w.new (place_head letter place ++ codes " ") }
 {
-    w.bytes(&[letter, b' ', b'0' + place, b' ']);
+    w.fitting(&[letter, b' ', b'0' + place, b' ']);
 }
 
 #[tactic(auto, unfolding(crate::specs::Lines::bytes_text), using(crate::proofs::Writing::steps))]
+#[inline(always)]
 fn bytes(w: &mut Writer<'_>, place: u8, bytes: &[u8])
     requires first { w.old.at ≡ 0 }
     requires there { is_place_number place ≡ true }
     requires fits { length bytes.now ≤ received_most }
+    requires room { log_line_room ≤ length w.old.out.now }
     ensures { Puts w.old w.new (bytes_text place bytes.now) }
 {
     if is_command_line(bytes) {
         placed(w, b'R', place);
-        w.bytes(&bytes[..bytes.len() - 1]);
+        w.fitting(&bytes[..bytes.len() - 1]);
         return;
     }
     if bytes.is_empty() {
@@ -156,9 +162,11 @@ fn bytes(w: &mut Writer<'_>, place: u8, bytes: &[u8])
 
 /// Puts the line of a call, without its LF.
 #[tactic(auto, unfolding(crate::specs::Lines::call_text), using(crate::proofs::Writing::steps))]
+#[inline(always)]
 pub fn call(w: &mut Writer<'_>, call: &Call<'_>)
     requires first { w.old.at ≡ 0 }
     requires sayable { is_sayable (call_seen call.now) ≡ true }
+    requires room { log_line_room ≤ length w.old.out.now }
     ensures { Puts w.old w.new (call_text (call_seen call.now)) }
 {
     match call {
@@ -217,9 +225,11 @@ fn time(w: &mut Writer<'_>, time: Option<&[u8]>)
 
 /// Puts what a line says, without its LF.
 #[tactic(auto, unfolding(crate::specs::Entries::entry_text), using(crate::proofs::Writing::steps))]
+#[inline(always)]
 pub fn entry(w: &mut Writer<'_>, entry: &Entry<'_>)
     requires first { w.old.at ≡ 0 }
     requires sayable { is_sayable_entry (entry_seen entry.now) ≡ true }
+    requires room { log_line_room ≤ length w.old.out.now }
     ensures { Puts w.old w.new (entry_text (entry_seen entry.now)) }
 {
     match entry {

@@ -39,6 +39,7 @@ pub struct Recorder {
 
 // The line of an entry that can be said, and its length.
 #[tactic(auto, using(crate::proofs::Fits::entry_fits))]
+#[inline(always)]
 fn put_line(entry: &Entry<'_>, out: &mut [u8]) -> usize
     requires sayable { is_sayable_entry (entry_seen entry.now) ≡ true }
     requires fits { log_line_room ≤ length out.old }
@@ -53,6 +54,7 @@ fn put_line(entry: &Entry<'_>, out: &mut [u8]) -> usize
 
 impl Recorder {
     // Whether no such line can stand there: there is no file yet, or no line more can be counted.
+    #[inline(always)]
     fn cannot_follow(&self, entry: &Entry<'_>) -> bool
         ensures { result ≡ cannot_follow self.now (entry_seen entry.now) }
     {
@@ -63,6 +65,7 @@ impl Recorder {
     }
 
     // What is kept after a line, where all up to its LF has this sum.
+    #[inline(always)]
     fn count(&mut self, entry: &Entry<'_>, sum: u32)
         requires room { cannot_follow self.old (entry_seen entry.now) ≡ false }
         ensures { self.new ≡ counted self.old (entry_seen entry.now) sum }
@@ -102,6 +105,7 @@ impl Recorder {
 
     // The line of an entry that can be said, while lines can be counted.
     #[tactic(auto, unfolding(crate::specs::Recording::recorded_by, crate::specs::Recording::recorder_after))]
+    #[inline(always)]
     fn record(&mut self, entry: &Entry<'_>, out: &mut [u8]) -> Result<usize, Refusal>
         ensures told { written_told refusal_number result
             ≡ told_written (recorded_by self.old (entry_seen entry.now) (length out.old)) }
@@ -154,6 +158,7 @@ impl Recorder {
     /// this order, with which the recorder and all of the memory stay: `NoRoom` under 4,097 bytes of memory;
     /// `OutOfRange` for a call that no line can say ([`Call::is_sayable`]), before the first file, and past
     /// 4,294,967,295 lines of a file.
+    #[inline(always)]
     pub fn call(&mut self, made: &Call<'_>, out: &mut [u8]) -> Result<usize, Refusal>
         ensures told { written_told refusal_number result
             ≡ told_written (recorded_by self.old (call (call_seen made.now)) (length out.old)) }

@@ -1,1 +1,2 @@
+pub mod InChunks
 pub mod Writing

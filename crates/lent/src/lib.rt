@@ -1,7 +1,9 @@
 //! Memory that a caller lends, written from its start on: one thing after the other.
 #![tactic(auto)]
 
-ghost use Rattle.std.specs.Prelude.{◌≡◌, ◌∷◌, [], ◌+◌, ◌^◌, ◌<◌, length};
+mod chunks;
+
+ghost use Rattle.std.specs.Prelude.{◌≡◌, ◌∷◌, [], ◌+◌, ◌^◌, ◌<◌, ◌≤◌, length};
 ghost use Rattle.lent.specs.Puts.{Puts};
 
 /// Writes to lent memory, each thing after what stands there. What is past the end of the memory is counted and not
@@ -39,8 +41,18 @@ impl<'a> Writer<'a> {
     {
         if self.at < self.out.len() {
             let n = s.len().min(self.out.len() - self.at);
-            text::put(self.out, self.at, &s[..n]);
+            chunks::put(self.out, self.at, &s[..n]);
         }
+        self.at += s.len();
+    }
+
+    /// Puts these bytes, for which there is room.
+    #[inline(always)]
+    pub fn fitting(&mut self, s: &[u8])
+        requires { self.old.at + length s.now ≤ length self.old.out.now }
+        ensures { Puts self.old self.new s.now }
+    {
+        chunks::put(self.out, self.at, s);
         self.at += s.len();
     }
 

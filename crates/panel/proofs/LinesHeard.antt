@@ -1,6 +1,7 @@
 -- What a line was, by where the talk stands (RULES, Panel): its greeting, late, or what the reader takes from it.
 -- Assumes nothing.
 use Rattle.std.proofs.Common.{ℕ, ◌≡◌, ap, ◌∙◌, true, false, not, List, arith, eq-eqb, ne_eqb}
+use Rattle.text.specs.Flags.{is_raised}
 use Rattle.text.proofs.Choices.{if_yes, if_no}
 use Rattle.pjlink.specs.declared.command.Command.{Command}
 use Rattle.pjlink.specs.declared.greeting.Greeting.{Greeting}
@@ -29,7 +30,7 @@ module _ (e : Entry) (l : List ℕ) where
   pub no_greeting_told : e.greeting ≡ ungreeted → is_greeting (read_greeting l) ≡ false → line_heard e l ≡ no_greeting
   no_greeting_told u g = awaited_heard u ∙ other_heard (read_greeting l) g
 
-  pub late_told : (e.greeting ≡ ungreeted → ⊥) → e.under_way ≡ false → line_heard e l ≡ too_late
+  pub late_told : (e.greeting ≡ ungreeted → ⊥) → is_raised e.under_way ≡ false → line_heard e l ≡ too_late
   unfolding line_heard
   late_told g w = if_no _ _ (ne_eqb e.greeting ungreeted g) ∙ if_yes _ _ (ap not w)
 

@@ -11,6 +11,7 @@
 --                      reader takes from it, where it was read as a reply
 -- Assumes nothing.
 use Rattle.std.specs.Prelude.{not, List, [], if◌then◌else◌, Option, Some, None, Result, Ok, Err, ℕ, ◌==◌}
+use Rattle.text.specs.Flags.{is_raised}
 use Rattle.pjlink.specs.Greetings.{read_greeting}
 use Rattle.pjlink.specs.declared.greeting.Greeting.{Greeting}
 use Rattle.pjlink.specs.declared.greeting.Greeting.TheVariants.{Open, Secured}
@@ -46,7 +47,7 @@ reply_heard None l = too_late
 unfoldable pub line_heard : Entry → List ℕ → HeardAs
 line_heard e l =
     if e.greeting == ungreeted then greeting_heard (read_greeting l)
-    else if not e.under_way then too_late
+    else if not (is_raised e.under_way) then too_late
     else reply_heard (coded_command e.command) l
 
 abbrev pub heard_by_code : Heard → HeardAs

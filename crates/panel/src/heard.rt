@@ -1,9 +1,7 @@
 // What a line from a projector was (RULES, Panel).
-ghost use Rattle.std.specs.Prelude.{◌≡◌, ◌≤◌, Some, length};
-ghost use Rattle.pjlink.specs.Said.{parameter_most};
-ghost use Rattle.panel.specs.Hearing.{heard_by_code, heard_bytes, heard_kind, heard_reading};
+ghost use Rattle.std.specs.Prelude.{◌≡◌, Some};
+ghost use Rattle.panel.specs.Hearing.{heard_by_code, heard_kind};
 
-use codes::readings::FlatReading;
 use controller::reading::{Misread, Reading};
 
 /// What a line from a projector was.
@@ -33,17 +31,6 @@ impl Heard<'_> {
             Heard::Late => 4,
             Heard::Reply(Err(Misread::OtherCommand)) => 5,
             Heard::Reply(Err(Misread::NotALine | Misread::NotAllowed)) | Heard::NoGreeting => 6,
-        }
-    }
-
-    /// What it says, as the reader of replies tells it; nothing, all zero, where it was not read as a reply.
-    pub fn reading(&self) -> FlatReading
-        requires { length (heard_bytes (heard_by_code self.now)) ≤ parameter_most }
-        ensures { result ≡ heard_reading (Some (heard_by_code self.now)) }
-    {
-        match self {
-            Heard::Reply(reading) => FlatReading::of(reading),
-            Heard::Greeting | Heard::NoGreeting | Heard::Late => FlatReading::meaningless(0),
         }
     }
 }

@@ -1,2 +1,3 @@
 pub mod SaidSo
 pub mod JoinedReads
+pub mod Doing

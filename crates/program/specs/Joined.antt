@@ -2,6 +2,7 @@
 --   join_known a b       the bytes a, and then the bytes b, where both are known
 --   joined_bytes f ns    the bytes of the files with the names ns, one behind the other, where f knows those of each
 --   files_asked a        the files of the log that a command line asks for: standard input where it names none
+--   joined_left f g s ns  what is left of joined files: of the one that is open, and those with the names ns
 --   source_left f s      what is left of the file that is open; nothing where none is
 -- Assumes nothing.
 use Rattle.std.specs.Prelude.{ℕ, List, [], ◌∷◌, map, Some, None, codes}
@@ -31,3 +32,7 @@ files_named (n ∷ ns) = n ∷ ns
 
 abbrev pub files_asked : AskedFor → List (List ℕ)
 files_asked a = files_named a.logs
+
+abbrev pub joined_left : {S : Type 0} → (S → Option (List ℕ)) → (List ℕ → Option (List ℕ)) → Option S
+    → List (Bor (List ℕ)) → Option (List ℕ)
+joined_left f g s ns = join_known (source_left f s) (joined_bytes g (names_in ns))

@@ -1,3 +1,5 @@
 pub mod Status
+pub mod About
 pub mod Said
 pub mod Joined
+pub mod Running

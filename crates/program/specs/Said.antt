@@ -12,6 +12,7 @@
 --   stray_warning s      which line of a log does not belong to it, and why
 --   UnbegunSaid ..       what is said of a form in the file n that begins nothing: that it cannot be read, and why, or
 --                        with which number it does not load
+--   unbegun_text n why   what is said of a form in the file n that begins nothing
 --   stop_text s usage    why a command line asks for nothing, and how the program is called
 -- Assumes nothing.
 use Rattle.std.specs.Prelude.{ℕ, Bool, ◌&&◌, ◌==◌, List, [], ◌∷◌, ◌++◌, codes, if◌then◌else◌, Some, None}
@@ -123,3 +124,7 @@ abbrev pub UnbegunSaid : (Error → Type 0) → Option (List ℕ) → Option (Li
     → NotBegun → Type 0
 UnbegunSaid fails old new said n (Unread e) = WritesText fails old new said (unread_text n (cause_of e))
 UnbegunSaid fails old new said n (Refused e) = WritesText fails old new said (refused_text n (load_error_number e))
+
+abbrev pub unbegun_text : List ℕ → NotBegun → List ℕ
+unbegun_text n (Unread e) = unread_text n (cause_of e)
+unbegun_text n (Refused e) = refused_text n (load_error_number e)

@@ -1,5 +1,5 @@
 // The files that a program reads and writes.
-ghost use Rattle.std.specs.Prelude.{[], None, ⊤};
+ghost use Rattle.std.specs.Prelude.{◌≡◌, [], None, ⊤, ℕ, List, Option, OnOk, IfOk, IfSome};
 
 use crate::joined::Opens;
 use crate::progress::{Progress, Shown};
@@ -16,14 +16,26 @@ pub trait Outside: Opens {
     /// What is written of an output's file.
     type Sink: ByteSink;
 
-    /// Opens the file of a form.
-    fn open_form(&self, name: &str) -> io::Result<Self::Form>;
+    /// The bytes of the form in the file with that name, where they are known.
+    ghost form_bytes: { Self → List ℕ → Option (List ℕ) };
+
+    /// What an output's file has where it is begun, where that is known.
+    ghost fresh: { Self → Option (List ℕ) };
+
+    /// The file with that name has these bytes.
+    ghost stands: { Self → List ℕ → List ℕ → Type 0 };
+
+    /// Opens the file of a form, at its start.
+    fn open_form(&self, name: &str) -> io::Result<Self::Form>
+        ensures { IfOk result (λ form. Self.Form.remaining form ≡ form_bytes self.now name.now) };
 
     /// Begins an output's file beside the file with that name, which stays as it is.
-    fn create(&self, name: &str) -> io::Result<Self::Sink>;
+    fn create(&self, name: &str) -> io::Result<Self::Sink>
+        ensures { IfOk result (λ sink. Self.Sink.contents sink ≡ fresh self.now) };
 
-    /// Puts what was written in the place of the file that it belongs to.
-    fn keep(&self, sink: Self::Sink) -> io::Result<()>;
+    /// Puts what was written in the place of the file with that name, beside which it was begun.
+    fn keep(&self, name: &str, sink: Self::Sink) -> io::Result<()>
+        ensures { OnOk result (IfSome (Self.Sink.contents sink) (λ text. stands self.now name.now text)) };
 
     /// Takes away what was written.
     fn discard(&self, sink: Self::Sink);
@@ -192,6 +204,12 @@ impl Outside for System<'_> {
 
     type Sink = Saved;
 
+    ghost form_bytes = { λ _ _. None };
+
+    ghost fresh = { λ _. None };
+
+    ghost stands = { λ _ _ _. ⊤ };
+
     fn open_form(&self, name: &str) -> io::Result<File> {
         File::open(self.rt, name)
     }
@@ -207,7 +225,7 @@ impl Outside for System<'_> {
         })
     }
 
-    fn keep(&self, mut sink: Saved) -> io::Result<()> {
+    fn keep(&self, _name: &str, mut sink: Saved) -> io::Result<()> {
         let flushed = sink.to.flush();
         let Some(place) = &sink.place else {
             return flushed;

@@ -1,9 +1,12 @@
 // A command line answered.
-ghost use Rattle.std.specs.Prelude.{◌≡◌};
+ghost use Rattle.std.specs.Prelude.{◌≡◌, ◌++◌, map, codes, IfOk, IfErr};
 ghost use Rattle.program.specs.Said.{UnbegunSaid, unread_text, unwritten_text, cause_of, failed_text, shown_name};
 ghost use Rattle.program.specs.Said.{IsSaid, ending_status, ending_text};
-ghost use Rattle.program.specs.Joined.{names_in, files_asked};
-ghost use Rattle.command.specs.Asked.{asked_seen};
+ghost use Rattle.program.specs.Joined.{names_in, files_asked, joined_left};
+ghost use Rattle.program.specs.Running.{TellsOut, TellsSaved, BeginsBy, is_lined, LeavesLine, AboutEnds, StopsSo, Does, Runs, SaysAlone};
+ghost use Rattle.program.specs.About.{help_text, version_text};
+ghost use Rattle.textio.specs.Fronts.{WritesText};
+ghost use Rattle.command.specs.Asked.{asked_seen, text_seen};
 ghost use Rattle.program.specs.declared.status.Status.TheVariants as Status;
 
 use crate::about::About;
@@ -16,7 +19,7 @@ use command::asked;
 use command::asked::{Command, Stop};
 use floorlog::cut;
 use formfile::{Begun, NotBegun};
-use reasons::about::version_text;
+use reasons::about::version_line;
 use std::alloc::Global;
 use std::convert::AsStr;
 use std::io::Error;
@@ -32,32 +35,66 @@ const STANDARD_OUTPUT: &str = "standard output";
 // The files of a log where none is named.
 const STANDARD_INPUT: &[&str] = &["-"];
 
-// What is written in the place of an output: help, or the version.
-fn put_about<W: ByteSink>(about: &About, stop: &Stop<'_>, to: &mut W) -> io::Result<()> {
-    if let Stop::Help = stop {
-        put(to, about.usage.as_bytes())?;
-        put(to, about.help.as_bytes())?;
-        return to.flush();
-    }
+fn put_two<W: ByteSink>(to: &mut W, first: &str, last: &str) -> io::Result<()>
+    ensures { WritesText W.fails_with (W.contents to.old) (W.contents to.new) result (first.now ++ last.now) }
+{
+    put(to, first.as_bytes())?;
+    put(to, last.as_bytes())
+}
+
+fn put_version<W: ByteSink>(about: &About, to: &mut W) -> io::Result<()>
+    ensures { WritesText W.fails_with (W.contents to.old) (W.contents to.new) result (version_text about.now) }
+{
     put(to, about.name.as_bytes())?;
-    put(to, b" ")?;
-    put(to, version_text().as_bytes())?;
-    put(to, b"\n")?;
+    put_two(to, " ", version_line())
+}
+
+// What is written in the place of an output: help.
+fn tell_help<W: ByteSink>(about: &About, to: &mut W) -> io::Result<()>
+    ensures { WritesText W.fails_with (W.contents to.old) (W.contents to.new) result (help_text about.now) }
+{
+    put_two(to, about.usage, about.help)?;
     to.flush()
 }
 
+// Or the version.
+fn tell_version<W: ByteSink>(about: &About, to: &mut W) -> io::Result<()>
+    ensures { WritesText W.fails_with (W.contents to.old) (W.contents to.new) result (version_text about.now) }
+{
+    put_version(about, to)?;
+    to.flush()
+}
+
+// How that ends.
+#[tactic(auto, using(crate::proofs::SaidSo::said_so))]
+fn told_about<E: ByteSink>(told: io::Result<()>, errors: &mut E) -> Status
+    ensures { AboutEnds E.fails_with told (E.contents errors.old) (E.contents errors.new) result }
+{
+    match told {
+        Ok(()) => Status::Done,
+        Err(error) => unwritten(STANDARD_OUTPUT, &error, errors),
+    }
+}
+
 // A command line that asks for no log.
+#[tactic(auto, using(crate::proofs::SaidSo::said_so))]
 fn stopped<W: ByteSink, E: ByteSink>(
     about: &About,
     stop: Stop<'_>,
     to: &mut W,
     errors: &mut E,
-) -> Status {
+) -> Status
+    ensures { StopsSo W.fails_with E.fails_with stop.entry about.now
+        (record {
+          out = W.contents to.old;
+          out_then = W.contents to.new;
+          errors = E.contents errors.old;
+          errors_then = E.contents errors.new;
+        }) result }
+{
     match stop {
-        Stop::Help | Stop::Version => match put_about(about, &stop, to) {
-            Ok(()) => Status::Done,
-            Err(error) => unwritten(STANDARD_OUTPUT, &error, errors),
-        },
+        Stop::Help => told_about(tell_help(about, to), errors),
+        Stop::Version => told_about(tell_version(about, to), errors),
         Stop::NoMemory => {
             let _said = said::say_unread(errors, "the command line", ": out of memory").is_ok();
             Status::Failed
@@ -141,7 +178,16 @@ fn tell_out<P: Telling, O: Opens, W: ByteSink, E: ByteSink>(
     mut log: Joined<'_, '_, O>,
     to: &mut W,
     errors: &mut E,
-) -> Status {
+) -> Status
+    ensures { TellsOut W.fails_with E.fails_with (joined_left O.Source.remaining (O.log_bytes log.entry.opens.now) log.entry.source
+        log.entry.later.now) (P.told program.now (asked_seen command.now) begun.now) (P.ends program.now begun.now)
+        (record {
+          out = W.contents to.old;
+          out_then = W.contents to.new;
+          errors = E.contents errors.old;
+          errors_then = E.contents errors.new;
+        }) result }
+{
     let told = program.tell(begun, command, &mut Reader::new(Stream(&mut log)), to);
     match told {
         Ok(ending) => match cut::end_output(Ok(()), to) {
@@ -165,14 +211,19 @@ fn tell_saved<P: Telling, O: Outside, E: ByteSink>(
     outside: &O,
     name: &str,
     errors: &mut E,
-) -> Status {
+) -> Status
+    ensures { TellsSaved E.fails_with (joined_left O.Source.remaining (O.log_bytes log.entry.opens.now)
+        log.entry.source log.entry.later.now) (O.fresh outside.now)
+        (P.told program.now (asked_seen command.now) begun.now) (P.ends program.now begun.now)
+        (O.stands outside.now) name.now (E.contents errors.old) (E.contents errors.new) result }
+{
     let mut to = match outside.create(name) {
         Ok(sink) => sink,
         Err(error) => return unwritten(name, &error, errors),
     };
     let told = program.tell(begun, command, &mut Reader::new(Stream(&mut log)), &mut to);
     match told {
-        Ok(ending) => match outside.keep(to) {
+        Ok(ending) => match outside.keep(name, to) {
             Ok(()) => ended(&ending, errors),
             Err(error) => unwritten(name, &error, errors),
         },
@@ -185,6 +236,7 @@ fn tell_saved<P: Telling, O: Outside, E: ByteSink>(
 
 // What is told of a form that begins nothing: its words on standard error, and how that went; and, if it is asked for,
 // its line in the place of an output.
+#[tactic(auto, using(crate::proofs::SaidSo::said_so))]
 fn unbegun<W: ByteSink, E: ByteSink>(
     why: NotBegun,
     name: &str,
@@ -194,6 +246,7 @@ fn unbegun<W: ByteSink, E: ByteSink>(
 ) -> (Status, io::Result<()>)
     ensures status { result.0 ≡ Status.Failed }
     ensures said { UnbegunSaid E.fails_with (E.contents errors.old) (E.contents errors.new) result.1 name.now why }
+    ensures line { LeavesLine W.fails_with lined (W.contents to.old) (W.contents to.new) why }
 {
     match why {
         NotBegun::Unread(error) => {
@@ -214,11 +267,20 @@ fn unbegun<W: ByteSink, E: ByteSink>(
     }
 }
 
-fn begin_by<O: Outside>(outside: &O, alloc: Global, form: Option<&str>) -> Result<Begun, NotBegun> {
+fn begin_by<O: Outside>(outside: &O, alloc: Global, form: Option<&str>) -> Result<Begun, NotBegun>
+    ensures { BeginsBy (O.form_bytes outside.now) (text_seen form.entry) result }
+{
     match form {
         None => Ok(formfile::sample()),
         Some(name) => formfile::read_from(outside.open_form(name)?, alloc),
     }
+}
+
+// Whether a form that begins nothing leaves its line: no page stands for it, and no file.
+fn is_lined(command: &Command<'_>) -> bool
+    ensures { result ≡ is_lined (asked_seen command.now) }
+{
+    !command.page && command.output.is_none()
 }
 
 // The files of the log; standard input where none is named.
@@ -238,12 +300,20 @@ fn tell<P: Telling, O: Outside, W: ByteSink, E: ByteSink>(
     outside: &O,
     to: &mut W,
     errors: &mut E,
-) -> Status {
+) -> Status
+    ensures { Does W.fails_with E.fails_with (O.log_bytes outside.now) (O.form_bytes outside.now) (O.fresh outside.now)
+        (O.stands outside.now) (P.told program.now) (P.ends program.now) (asked_seen command.now)
+        (record {
+          out = W.contents to.old;
+          out_then = W.contents to.new;
+          errors = E.contents errors.old;
+          errors_then = E.contents errors.new;
+        }) result }
+{
     let begun = match begin_by(outside, alloc, command.form) {
         Ok(begun) => begun,
         Err(why) => {
-            // no page stands for a form that begins nothing, and no file
-            let lined = !command.page && command.output.is_none();
+            let lined = is_lined(command);
             let name = command.form.unwrap_or("-");
             let (status, said) = unbegun(why, name, lined, to, errors);
             let _said = said.is_ok();
@@ -257,8 +327,8 @@ fn tell<P: Telling, O: Outside, W: ByteSink, E: ByteSink>(
     }
 }
 
-/// Answers the words of a command line, the program's name not among them.
-pub fn run<P: Telling, S: AsStr, O: Outside, W: ByteSink, E: ByteSink>(
+// Answers the words of a command line.
+fn answer<P: Telling, S: AsStr, O: Outside, W: ByteSink, E: ByteSink>(
     program: &P,
     about: &About,
     alloc: Global,
@@ -266,37 +336,69 @@ pub fn run<P: Telling, S: AsStr, O: Outside, W: ByteSink, E: ByteSink>(
     outside: &O,
     to: &mut W,
     errors: &mut E,
-) -> Status {
+) -> Status
+    ensures { Runs W.fails_with E.fails_with (O.log_bytes outside.now) (O.form_bytes outside.now) (O.fresh outside.now)
+        (O.stands outside.now) (P.told program.now) (P.ends program.now) (map S.text words.now) about.now
+        (record {
+          out = W.contents to.old;
+          out_then = W.contents to.new;
+          errors = E.contents errors.old;
+          errors_then = E.contents errors.new;
+        }) result }
+{
     match asked::command_of(alloc, words, about.has_page) {
         Ok(command) => tell(program, alloc, &command, outside, to, errors),
         Err(stop) => stopped(about, stop, to, errors),
     }
 }
 
+/// Answers a command line, of which these are the words, the program's name not among them, or the error that came in
+/// their place: what is told goes to `to` or into a file, what is said to `errors`.
+pub fn run<P: Telling, S: AsStr, O: Outside, W: ByteSink, E: ByteSink>(
+    program: &P,
+    about: &About,
+    alloc: Global,
+    words: Result<&[S], &Error>,
+    outside: &O,
+    to: &mut W,
+    errors: &mut E,
+) -> Status
+    ensures answers { IfOk words.entry (λ words. Runs W.fails_with E.fails_with (O.log_bytes outside.now)
+        (O.form_bytes outside.now) (O.fresh outside.now) (O.stands outside.now) (P.told program.now)
+        (P.ends program.now) (map S.text words.now) about.now
+        (record {
+          out = W.contents to.old;
+          out_then = W.contents to.new;
+          errors = E.contents errors.old;
+          errors_then = E.contents errors.new;
+        }) result) }
+    ensures unread { IfErr words.entry (λ error. SaysAlone E.fails_with
+        (unread_text (codes "the command line") (cause_of error.now)) Status.Failed
+        (record {
+          out = W.contents to.old;
+          out_then = W.contents to.new;
+          errors = E.contents errors.old;
+          errors_then = E.contents errors.new;
+        }) result) }
+{
+    match words {
+        Ok(words) => answer(program, about, alloc, words, outside, to, errors),
+        Err(error) => unread("the command line", error, errors),
+    }
+}
+
 /// Answers the process's own command line, with its files and streams.
 pub fn on_system<P: Telling>(rt: &HostRuntime, program: &P, about: &About) -> Status {
-    let mut errors = Stream(rt.stderr());
-    let words: Vec<String> = match env::args(rt).and_then(|all| Ok(
+    let words: io::Result<Vec<String>> = env::args(rt).and_then(|all| Ok(
         all.skip(1).collect(rt.alloc())?,
-    )) {
-        Ok(words) => words,
-        Err(error) => {
-            let _said = said::say_unread(
-                &mut errors,
-                "the command line",
-                said::cause(&error),
-            ).is_ok();
-            return Status::Failed;
-        }
-    };
-    let mut to = Writer::new(Stream(rt.stdout()));
+    ));
     run(
         program,
         about,
         rt.alloc(),
-        words.as_slice(),
+        words.as_ref().map(|words| words.as_slice()),
         &System::of(rt),
-        &mut to,
-        &mut errors,
+        &mut Writer::new(Stream(rt.stdout())),
+        &mut Stream(rt.stderr()),
     )
 }

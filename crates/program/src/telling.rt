@@ -1,4 +1,13 @@
 // What a program makes of a log.
+ghost use Rattle.std.specs.Prelude.{◌≡◌, [], ℕ, List, OnOk, IfOk, IfErr, IfSome};
+ghost use Rattle.std.specs.Io.KnownBytes.{Appends};
+ghost use Rattle.textio.specs.Fronts.{WritesFront};
+ghost use Rattle.textio.specs.Ahead.{left_in};
+ghost use Rattle.textio.specs.NextLine.{FailureComesOf};
+ghost use Rattle.command.specs.Asked.{AskedFor, asked_seen};
+ghost use Rattle.formfile.specs.declared.Begun.{Begun};
+ghost use Rattle.program.specs.declared.telling.Ending.{Ending};
+
 use command::asked::Command;
 use floorlog::unplayed::Unplayed;
 use formfile::Begun;
@@ -18,12 +27,30 @@ pub struct Ending {
 
 /// A program over logs.
 pub trait Telling {
-    /// What it tells of the log that a reader has left, which begins with a device, goes to a sink, as it comes.
+    /// What it tells of a log that begins with a record, for what a command line asks for.
+    ghost told: { Self → AskedFor → Begun → List ℕ → List ℕ };
+
+    /// How such a log ends.
+    ghost ends: { Self → Begun → List ℕ → Ending → Type 0 };
+
+    /// Such a log is too long, or lets more seconds pass than can be counted.
+    ghost is_too_much: { List ℕ → Type 0 };
+
+    /// What it tells of the log that a reader has left goes to a sink, as it comes.
     fn tell<R: ByteSource, W: ByteSink>(
         &self,
         begun: &Begun,
         command: &Command<'_>,
         from: &mut Reader<R>,
         to: &mut W,
-    ) -> Result<Ending, Failure>;
+    ) -> Result<Ending, Failure>
+        ensures whole { OnOk result (IfSome (left_in R.remaining from.old) (λ log. Appends (W.contents to.old)
+            (W.contents to.new) (told self.now (asked_seen command.now) begun.now log))) }
+        ensures ending { IfOk result (λ ending. IfSome (left_in R.remaining from.old) (λ log.
+            ends self.now begun.now log ending)) }
+        ensures front { IfSome (left_in R.remaining from.old) (λ log. WritesFront (W.contents to.old)
+            (W.contents to.new) (told self.now (asked_seen command.now) begun.now log)) }
+        ensures none_waits { OnOk result (W.waiting to.new ≡ []) }
+        ensures err { IfErr result
+            (FailureComesOf R.fails_with W.fails_with is_too_much (left_in R.remaining from.old)) };
 }

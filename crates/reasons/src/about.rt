@@ -1,7 +1,7 @@
 // Of which version and kit archive and programs are.
 ghost use Rattle.std.specs.Prelude.{◌≡◌};
 ghost use Rattle.reasons.specs.Reasons.{in_c};
-ghost use Rattle.reasons.specs.About.{face_number, about_text, version_text};
+ghost use Rattle.reasons.specs.About.{face_number, about_text, version_line};
 
 /// The version of the C face (`CEILING_FACE` of include/ceiling.h).
 pub fn face_number() -> u32
@@ -17,9 +17,9 @@ pub fn about_text_in_c() -> &'static str
     "ceiling 13 of 2026-11-27 (rattle-kit-13f logic dac8208d650f15bf)\0"
 }
 
-/// The version of the face and the kit, which the programs say after their names.
-pub fn version_text() -> &'static str
-    ensures { result.now ≡ version_text }
+/// The version of the face and the kit with LF, which the programs write after their names.
+pub fn version_line() -> &'static str
+    ensures { result.now ≡ version_line }
 {
-    "13 of 2026-11-27 (rattle-kit-13f logic dac8208d650f15bf)"
+    "13 of 2026-11-27 (rattle-kit-13f logic dac8208d650f15bf)\n"
 }

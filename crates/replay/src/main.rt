@@ -8,6 +8,11 @@ mod playing;
 mod tests;
 pub mod theorems;
 
+ghost use Rattle.std.specs.Prelude.{◌≡◌, option_map};
+ghost use Rattle.textio.specs.Lines.{IsTooLong};
+ghost use Rattle.recorded.specs.Following.{stray_seen};
+ghost use Rattle.replay.specs.LogText.{any_log_text, log_stray, log_unplayed};
+
 use command::asked::Command;
 use formfile::Begun;
 use program::about::About;
@@ -44,6 +49,14 @@ the log does not belong to it.
 struct Replay;
 
 impl Telling for Replay {
+    ghost told = { λ _ _ begun log. any_log_text begun.device begun.sum log };
+
+    ghost ends = { λ _ begun log ending.
+        (option_map stray_seen ending.stray ≡ log_stray begun.device begun.sum log)
+        × (ending.unplayed ≡ log_unplayed begun.device log) };
+
+    ghost is_too_much = { IsTooLong };
+
     fn tell<R: ByteSource, W: ByteSink>(
         &self,
         begun: &Begun,

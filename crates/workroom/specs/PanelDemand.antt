@@ -14,6 +14,7 @@
 --                      it was the ERRA line and f shows nothing
 -- Assumes nothing.
 use Rattle.std.specs.Prelude.{ℕ, ◌+◌, ◌<◌, min, ◌≡◌, true, false, List, Some}
+use Rattle.text.specs.Flags.{is_raised}
 use Rattle.pjlink.specs.Forms.{erra_line}
 use Rattle.pjlink.specs.declared.command.Command.{Command}
 use Rattle.pjlink.specs.Said.{Said}
@@ -99,7 +100,7 @@ module _ (P : AnyPanel) where
         → is_greeting (read_greeting l) ≡ false → P.tell p i l ≡ Some no_greeting
     -- "late"
     pub late_told : (p : Panel) (i : ℕ) (l : List ℕ) → IsServed p i → ((entry_at p i).greeting ≡ ungreeted → ⊥)
-        → (entry_at p i).under_way ≡ false → P.tell p i l ≡ Some too_late
+        → is_raised (entry_at p i).under_way ≡ false → P.tell p i l ≡ Some too_late
     -- "or what the reader takes from it": accepted, ERRA, foreign or malformed
     pub replies_told : (p : Panel) (i : ℕ) (l : List ℕ) (c : Command) → IsServed p i → IsUnderWay (entry_at p i) c
         → P.tell p i l ≡ Some (replies (read_reply c l))

@@ -161,7 +161,7 @@ fn put_answer(answer: &Answer, out: &mut Vec<u8>) {
             plan.put(out);
             rigs.put(out);
         }
-        Answer::Begun(..) | Answer::Recorded(..) | Answer::Played(..) | Answer::Kept(..) => {
+        Answer::Begun(..) | Answer::Recorded(..) | Answer::Played(..) | Answer::Kept(..) | Answer::PanelHeard(..) => {
             unreachable!("no such call")
         }
         Answer::Touched(_) => unreachable!("not of the second program"),

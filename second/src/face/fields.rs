@@ -2,8 +2,8 @@
 
 use super::wire::Wire;
 use super::{
-    Answer, Changed, Command, Compared, Connection, Device, Digest, Entry, Flag, Greeting, Heard, Line, Log, Name, Opened,
-    Own, PLACES, Panel, PanelChanged, PanelSent, Plan, Reading, Received, Settings, Text, Verdict, Written,
+    Answer, Changed, Command, Compared, Connection, Device, Digest, Entry, Flag, Greeting, Heard, Line, Log, Name,
+    Opened, Own, PLACES, Panel, PanelChanged, PanelSent, Plan, Reading, Received, Settings, Text, Verdict, Written,
 };
 
 /// A value's fields, as (path, value) in their order.

@@ -1,7 +1,7 @@
 //! The calls on a record that is lent, linked: `linked` has those by value, and what makes each call safe.
 
-use super::{setting_up, workroom};
 use super::{Act, Answer, Changed, Device, Opened, Opening, Passing, Received, Receiving, Written};
+use super::{setting_up, workroom};
 
 unsafe extern "C" {
     fn pj_load_in_place(device: *mut Device, bytes: *const u8, length: usize) -> u32;

@@ -48,9 +48,7 @@ pub fn answer_in_place(call: &PanelCall) -> Answer {
             panel = Panel::of(&[Entry { strays: 7, ..Entry::NONE }; 8]);
             unsafe { pj_panel_none_in_place(&mut panel) }
         }
-        PanelAct::Add { password } => unsafe {
-            pj_panel_add_in_place(&mut panel, password.as_ptr(), password.len())
-        },
+        PanelAct::Add { password } => unsafe { pj_panel_add_in_place(&mut panel, password.as_ptr(), password.len()) },
         PanelAct::Command { projector, command, lent } => {
             let mut out = lent.clone();
             let (out_at, out_length) = (out.as_mut_ptr(), out.len());

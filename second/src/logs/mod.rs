@@ -184,7 +184,8 @@ mod tests {
     fn reads_have_their_sizes() {
         let copy = |count: &str| {
             let words = ["dd", "bs=1000", "status=none", count];
-            let out = Program(words.map(str::to_string).to_vec()).printed(b"abcdefghij", &[1, 3], &Due::ended(String::new()));
+            let out =
+                Program(words.map(str::to_string).to_vec()).printed(b"abcdefghij", &[1, 3], &Due::ended(String::new()));
             out.into_iter().take_while(|&byte| byte != b'(').collect::<Vec<u8>>()
         };
         assert_eq!(copy("count=1"), b"a");

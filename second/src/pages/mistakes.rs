@@ -86,9 +86,7 @@ pub const MISTAKES: &[(&str, Wrong)] = &[
     ("a bar is as wide as the day is until its end", |sheet, random| sheet.in_width(random, |bar| bar.to)),
     ("a bar's width is in minutes", |sheet, random| sheet.in_width(random, |bar| bar.seconds() / 60)),
     ("a bar's width is in units of 90 seconds", |sheet, random| sheet.in_width(random, |bar| bar.seconds() / 90)),
-    ("a bar is whole minutes wide", |sheet, random| {
-        sheet.in_width(random, |bar| bar.seconds().next_multiple_of(60))
-    }),
+    ("a bar is whole minutes wide", |sheet, random| sheet.in_width(random, |bar| bar.seconds().next_multiple_of(60))),
     ("a bar is wide enough to be seen", |sheet, random| sheet.in_width(random, |bar| bar.seconds().max(90))),
     ("a bar is not cut at midnight", |sheet, random| {
         sheet.in_width(random, |bar| (bar.stretch.to - bar.stretch.from) as u64)
@@ -218,16 +216,16 @@ pub const MISTAKES: &[(&str, Wrong)] = &[
         Some(sheet.with([(range.end..range.end, sheet.text[range].to_string())]))
     }),
     ("a table's lamp is numbered from 0", |sheet, random| sheet.in_total(random, 0, |lamp, _| format!("lamp {lamp}"))),
-    ("a lamp's start is one more", |sheet, random| sheet.in_total(random, 1, |_, sum| timed(u128::from(sum.start) + 1))),
+    ("a lamp's start is one more", |sheet, random| {
+        sheet.in_total(random, 1, |_, sum| timed(u128::from(sum.start) + 1))
+    }),
     ("what a lamp burnt is one less", |sheet, random| {
         sheet.in_total(random, 2, |_, sum| timed(sum.burnt.saturating_sub(1)))
     }),
     ("what a lamp burnt stops at its limit", |sheet, random| {
         sheet.in_total(random, 2, |_, sum| timed((sum.now - sum.start).into()))
     }),
-    ("a lamp's seconds now are what it burnt", |sheet, random| {
-        sheet.in_total(random, 3, |_, sum| timed(sum.burnt))
-    }),
+    ("a lamp's seconds now are what it burnt", |sheet, random| sheet.in_total(random, 3, |_, sum| timed(sum.burnt))),
     ("a lamp's seconds now pass their limit", |sheet, random| {
         sheet.in_total(random, 3, |_, sum| timed(u128::from(sum.start) + sum.burnt))
     }),

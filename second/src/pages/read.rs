@@ -329,7 +329,8 @@ fn texts<'a>(row: &Element<'a>) -> Result<Vec<Part<'a>>, String> {
 
 /// Digits, without a zero before them.
 pub fn number(part: Part) -> Result<u64, String> {
-    let is_number = part.text.bytes().all(|byte| byte.is_ascii_digit()) && (part.text == "0" || !part.text.starts_with('0'));
+    let is_number =
+        part.text.bytes().all(|byte| byte.is_ascii_digit()) && (part.text == "0" || !part.text.starts_with('0'));
     let number = if is_number { part.text.parse().ok() } else { None };
     number.ok_or_else(|| format!("byte {}: {:?} is no number", part.at, part.text))
 }

@@ -34,7 +34,8 @@ fn page(drawn: &Drawn) -> String {
         }
         page += "</svg></td></tr>";
     }
-    page += "</tbody></table><table><thead><tr><td>lamp</td><td>at the start</td><td>burnt</td><td>now</td></tr></thead>";
+    page +=
+        "</tbody></table><table><thead><tr><td>lamp</td><td>at the start</td><td>burnt</td><td>now</td></tr></thead>";
     page += "<tbody>";
     for (place, sum) in drawn.sums.iter().enumerate() {
         let [start, burnt, now] = [sum.start.into(), sum.burnt, sum.now.into()].map(timed);

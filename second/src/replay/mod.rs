@@ -12,8 +12,8 @@ use crate::reference::Projector;
 use crate::reference::places::NOT_CLOSED;
 use crate::reference::text::{CR, LF, hex_number};
 use history::History;
-use unplayed::Note;
 use std::io::{self, BufRead, Cursor, Read, Write};
+use unplayed::Note;
 
 /// RULES, Places: ".. log drives place 0 only, and a second `O` there still prints `! 5`, by the program's own test."
 pub const PLACE: usize = 0;

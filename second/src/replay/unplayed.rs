@@ -36,7 +36,8 @@ pub fn words(says: &Says, notes: Vec<Note>) -> String {
         words += "the log has lines of a history, and no header: it is read as a log of the other kind\n";
     }
     if let Some(first) = misread.first() {
-        words += &format!("lines not understood: {}; line {}{}\n", misread.len(), first.number, (says.why)(&first.line));
+        words +=
+            &format!("lines not understood: {}; line {}{}\n", misread.len(), first.number, (says.why)(&first.line));
     }
     if let Some((first, number)) = refused.first().and_then(|first| first.refused.map(|number| (first, number))) {
         let reason = reason(number);
@@ -58,7 +59,8 @@ fn reason(number: u32) -> &'static str {
 
 /// "a line that begins as a header, an opening or a stated line of a history".
 pub fn is_of_history(line: &[u8]) -> bool {
-    let is_opening = |line: &[u8]| line.len() > 3 && line.starts_with(b"O ") && line[3] == b' ' && line[2].wrapping_sub(b'0') < 4;
+    let is_opening =
+        |line: &[u8]| line.len() > 3 && line.starts_with(b"O ") && line[3] == b' ' && line[2].wrapping_sub(b'0') < 4;
     let is_stated = line.strip_prefix(b"S ").and_then(<[u8]>::first).is_some_and(u8::is_ascii_digit);
     line.starts_with(b"LOG ") || is_opening(line) || is_stated
 }
@@ -85,55 +87,61 @@ pub fn why(line: &[u8]) -> &'static str {
 
 /// Programs that say something else, each with what it gets wrong.
 pub const MISTAKES: &[(&str, Says)] = &[
-    ("an empty line is passed over in silence", Says {
-        counts: |notes| notes.into_iter().filter(|note| note.refused.is_some() || !note.line.is_empty()).collect(),
-        ..RIGHT
-    }),
-    ("the last line that is not understood is named, and not the first", Says {
-        counts: |notes| notes.into_iter().rev().collect(),
-        ..RIGHT
-    }),
-    ("a refused call counts as a line that is not understood", Says {
-        counts: |notes| notes.into_iter().map(|note| Note { refused: None, ..note }).collect(),
-        ..RIGHT
-    }),
-    ("a refused call is passed over in silence", Says {
-        counts: |notes| notes.into_iter().filter(|note| note.refused.is_none()).collect(),
-        ..RIGHT
-    }),
-    ("a second opening is no refused call", Says {
-        counts: |notes| notes.into_iter().filter(|note| note.refused != Some(5)).collect(),
-        ..RIGHT
-    }),
-    ("the lines that were not played are numbered, and not those of the log", Says {
-        counts: |notes| (1..).zip(notes).map(|(number, note)| Note { number, ..note }).collect(),
-        ..RIGHT
-    }),
-    ("a line's number has 16 bits in what is said", Says {
-        counts: |notes| notes.into_iter().map(|note| Note { number: note.number & 0xFFFF, ..note }).collect(),
-        ..RIGHT
-    }),
+    (
+        "an empty line is passed over in silence",
+        Says {
+            counts: |notes| notes.into_iter().filter(|note| note.refused.is_some() || !note.line.is_empty()).collect(),
+            ..RIGHT
+        },
+    ),
+    (
+        "the last line that is not understood is named, and not the first",
+        Says { counts: |notes| notes.into_iter().rev().collect(), ..RIGHT },
+    ),
+    (
+        "a refused call counts as a line that is not understood",
+        Says { counts: |notes| notes.into_iter().map(|note| Note { refused: None, ..note }).collect(), ..RIGHT },
+    ),
+    (
+        "a refused call is passed over in silence",
+        Says { counts: |notes| notes.into_iter().filter(|note| note.refused.is_none()).collect(), ..RIGHT },
+    ),
+    (
+        "a second opening is no refused call",
+        Says { counts: |notes| notes.into_iter().filter(|note| note.refused != Some(5)).collect(), ..RIGHT },
+    ),
+    (
+        "the lines that were not played are numbered, and not those of the log",
+        Says { counts: |notes| (1..).zip(notes).map(|(number, note)| Note { number, ..note }).collect(), ..RIGHT },
+    ),
+    (
+        "a line's number has 16 bits in what is said",
+        Says {
+            counts: |notes| notes.into_iter().map(|note| Note { number: note.number & 0xFFFF, ..note }).collect(),
+            ..RIGHT
+        },
+    ),
     ("CRLF is taken for any CR", Says { why: |line| unless(line, " ends with CR", ": a CR in it"), ..RIGHT }),
-    ("a byte order mark is taken for a letter", Says {
-        why: |line| unless(line, ": a byte order", " begins with none of O, R, T and X"),
-        ..RIGHT
-    }),
-    ("a time stamp is not asked for", Says {
-        why: |line| unless(line, " begins with a digit", " begins with none of O, R, T and X"),
-        ..RIGHT
-    }),
-    ("a long line is told by its letter", Says {
-        why: |line| if line.len() > LONGEST { why(&line[..LONGEST]) } else { why(line) },
-        ..RIGHT
-    }),
-    ("NULs are taken for a letter", Says {
-        why: |line| unless(line, " begins with a NUL", " begins with none of O, R, T and X"),
-        ..RIGHT
-    }),
-    ("a header that is lost is seen by a header alone", Says {
-        is_of_history: |line| line.starts_with(b"LOG "),
-        ..RIGHT
-    }),
+    (
+        "a byte order mark is taken for a letter",
+        Says { why: |line| unless(line, ": a byte order", " begins with none of O, R, T and X"), ..RIGHT },
+    ),
+    (
+        "a time stamp is not asked for",
+        Says { why: |line| unless(line, " begins with a digit", " begins with none of O, R, T and X"), ..RIGHT },
+    ),
+    (
+        "a long line is told by its letter",
+        Says { why: |line| if line.len() > LONGEST { why(&line[..LONGEST]) } else { why(line) }, ..RIGHT },
+    ),
+    (
+        "NULs are taken for a letter",
+        Says { why: |line| unless(line, " begins with a NUL", " begins with none of O, R, T and X"), ..RIGHT },
+    ),
+    (
+        "a header that is lost is seen by a header alone",
+        Says { is_of_history: |line| line.starts_with(b"LOG "), ..RIGHT },
+    ),
 ];
 
 /// The words for a line, but others where they begin so.

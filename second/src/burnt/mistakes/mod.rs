@@ -8,10 +8,10 @@ pub use list::{BURNT, REPLAY};
 pub use saying::SAYING;
 
 use super::{Steps, burnt_on, due_by, in_memory};
-use crate::replay::unplayed::{self, Says};
 use crate::reference::Projector;
 use crate::reference::rules::{Mistake, make};
 use crate::replay::device;
+use crate::replay::unplayed::{self, Says};
 
 pub enum Wrong {
     /// A step is answered so.

@@ -109,7 +109,7 @@ pub fn heard(record: &face::Panel, projector: usize, line: &[u8], number: u32) -
             _ => told(MALFORMED, nothing),
         };
     }
-    if !entry.under_way {
+    if !entry.under_way.is_raised() {
         return told(LATE, nothing);
     }
     let reading = calls::read_reply(entry.command, line);

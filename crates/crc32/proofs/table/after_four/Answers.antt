@@ -8,5 +8,4 @@ unfolding word_in
 returns c =
     by_tables c.args.r c.from_le_bytes.result c.args.a c.args.b c.args.c c.args.d
     (bytes_four c.args.a c.args.b c.args.c c.args.d (omega arith) (omega arith) (omega arith) (omega arith))
-    (omega arith) (omega arith) (omega (arith, c.from_le_bytes.ensures)) c.of_8.ensures c.of_16.ensures c.of_24.ensures
-    c.of_32.ensures
+    (omega arith) (omega arith) (omega (arith, c.from_le_bytes.ensures)) c.tables-t.ensures

@@ -13,18 +13,18 @@ use Rattle.burnt.proofs.telling.TellerObserver.line.Goals as goal
 pub returns-in_default-clause-err : goal.returns-in_default-clause-err
 returns-in_default-clause-err g c = λ ls. inr (omega arith)
 
-pub returns-in_default-2-clause-err : goal.returns-in_default-2-clause-err
-returns-in_default-2-clause-err g c =
+pub returns-in_default-play-clause-err : goal.returns-in_default-play-clause-err
+returns-in_default-play-clause-err g c =
     let s = state_of c.args.self.now.watch in
     λ ls. inl (line_uncounted s (floor_event (kept_text c.args.line.now)) (map floor_event (texts_of ls))
-    (c.play.ensures.uncounted c.in_default-2.is))
+    (c.play.ensures.uncounted c.in_default-play.is))
 
 pub returns-clause-ok : goal.returns-clause-ok
 returns-clause-ok g c =
     let t = c.args.self.now in
     let s = state_of t.watch in
     let e = floor_event (kept_text c.args.line.now) in
-    let watched = c.in-Some-2.ensures.watched in
+    let watched = c.in-Some-play.ensures.watched in
     let more : c.in-Some.number ≡ t.lines + 1 = omega arith in
     both_mapped _ _ c.map_err.ensures.variant c.tell_ended.ensures.report c.tell_ended.ensures.text.whole
     (λ reported written. record {
@@ -34,11 +34,11 @@ returns-clause-ok g c =
       leaves = λ ls last h. (
         h.0,
         line_reported s e (map floor_event (texts_of ls)) watched t.starts t.report reported h.1,
-        h.2.0 ∙ line_left s e (map floor_event (texts_of ls)) watched,
-        line_unplayed t c.told-self (kept_line c.args.line.now) ls more (ap (λ (x : Watching). x.device) watched.state)
-        (rw more at c.note.ensures.noted) h.2.1,
+        h.2 ∙ line_left s e (map floor_event (texts_of ls)) watched,
+        line_unplayed t (kept_line c.args.line.now) ls more (ap (λ (x : Watching). x.device) watched.state)
+            (rw (more, c.text.ensures, c.in-Some-play.ensures.answer) at c.note.ensures.noted) h.3,
       );
-      overflows = λ ls h. line_over t c.told-self (kept_line c.args.line.now) ls more watched h;
+      overflows = λ ls h. line_over t (kept_line c.args.line.now) ls more watched h;
     })
 
 pub returns-clause-front : goal.returns-clause-front
@@ -46,5 +46,5 @@ returns-clause-front g c =
     let t = c.args.self.now in
     let e = floor_event (kept_text c.args.line.now) in
     let cut = λ (ls : List LogLine). line_cut (state_of t.watch) e (map floor_event (texts_of ls))
-    c.in-Some-2.ensures.watched t.starts t.report c.tell_ended.ensures.text.front in
+    c.in-Some-play.ensures.watched t.starts t.report c.tell_ended.ensures.text.front in
     grind (arith, cut)

@@ -1,0 +1,174 @@
+-- What a program does with a command line (RULES, The programs): which record a log begins with, what goes to standard
+-- output, which words to standard error, and the status.
+--   Outs                what the two outputs had, and have then
+--   IsTold ..           all of the log was read and told: it goes to standard output, how it ended to standard error
+--   IsCutOff ..         a read, a write or a count failed: a front of what is told, and perhaps the line of the failure,
+--                       go to standard output, the file that failed and why to standard error; the status is 1
+--   TellsOut ..         the one or the other;   TellsSaved ..   the same of an output's file: nothing goes to standard
+--                       output
+--   StopsSo ..          what a command line is answered that asks for no log
+--   IsUnbegun ..        a form begins nothing: which, and why, goes to standard error, and its line to standard output
+--                       where neither a page nor a file is asked for; the status is 1
+--   Runs ..             all of it: what a command line asks for, or which word is wrong, and what is done for it
+-- Assumes nothing.
+use Rattle.std.specs.Prelude.{ℕ, ◌≡◌, ◌⊎◌, [], Bool, true, false, not, ◌&&◌, List, ◌++◌, codes, is_none, unwrap_or}
+use Rattle.std.specs.Prelude.{Some, None, Ok, Err, IfSome}
+use Rattle.std.specs.declared.option.Option.{Option}
+use Rattle.std.specs.declared.result.Result.{Result}
+use Rattle.std.specs.declared.io.Error.{Error}
+use Rattle.std.specs.Io.KnownBytes.{Appends}
+use Rattle.textio.specs.Fronts.{WritesFront, WritesText}
+use Rattle.textio.specs.declared.lines.Failure.{Failure}
+use Rattle.textio.specs.declared.lines.Failure.TheVariants.{Read, Write, TooLong}
+use Rattle.stored.specs.Form.{stored_form}
+use Rattle.stored.specs.Told.{load_error_number}
+use Rattle.crc32.specs.Crc.{crc32_of}
+use Rattle.floorlog.specs.Cuts.{failure_line, number_line}
+use Rattle.command.specs.Asked.{AskedFor, Asks, asked_by, asked_seen}
+use Rattle.command.specs.declared.asked.Command.{Command}
+use Rattle.command.specs.declared.asked.Stop.{Stop}
+use Rattle.command.specs.declared.asked.Stop.TheVariants.{Help, Version, Unknown, Alone, Twice, NoForm, NoMemory}
+use Rattle.formfile.specs.Begun.{IsBegun, IsReadBy}
+use Rattle.formfile.specs.declared.Begun.{Begun}
+use Rattle.formfile.specs.declared.NotBegun.{NotBegun}
+use Rattle.formfile.specs.declared.NotBegun.TheVariants.{Unread, Refused}
+use Rattle.floorlog.specs.Playing.{sample_device}
+use Rattle.program.specs.Said.{IsSaid, ending_text, ending_status, failed_text, shown_name, unread_text, unwritten_text}
+use Rattle.program.specs.Said.{cause_of, stop_text, unbegun_text}
+use Rattle.program.specs.Joined.{joined_bytes, files_asked}
+use Rattle.program.specs.About.{help_text, version_text}
+use Rattle.program.specs.declared.about.About.{About}
+use Rattle.program.specs.declared.telling.Ending.{Ending}
+use Rattle.program.specs.declared.status.Status.{Status}
+use Rattle.program.specs.declared.status.Status.TheVariants.{Done, Failed, Usage}
+
+pub record Outs : Type 0 where
+  pub out : Option (List ℕ)
+  pub out_then : Option (List ℕ)
+  pub errors : Option (List ℕ)
+  pub errors_then : Option (List ℕ)
+
+-- the line of a failure; after a failed write nothing more is written
+abbrev pub LastSaid : (Error → Type 0) → Option (List ℕ) → Option (List ℕ) → Failure → Type 0
+LastSaid writes mid then (Read e) = IsSaid writes mid then (failure_line (Read e))
+LastSaid writes mid then (Write e) = WritesFront mid then []
+LastSaid writes mid then TooLong = IsSaid writes mid then (failure_line TooLong)
+
+module _ (writes fails : Error → Type 0) (known : Option (List ℕ)) (told : List ℕ → List ℕ)
+    (Ends : List ℕ → Ending → Type 0) where
+  pub record IsTold (o : Outs) (status : Status) : Type 0 where
+    pub ending : Ending
+    pub written : IfSome known (λ log. Appends o.out o.out_then (told log))
+    pub ends : IfSome known (λ log. Ends log ending)
+    pub said : IsSaid fails o.errors o.errors_then (ending_text ending)
+    pub status_is : status ≡ ending_status ending
+
+  pub record IsCutOff (sink : List ℕ) (o : Outs) (status : Status) : Type 0 where
+    pub failure : Failure
+    pub source : List ℕ
+    pub mid : Option (List ℕ)
+    pub front : IfSome known (λ log. WritesFront o.out mid (told log))
+    pub last : LastSaid writes mid o.out_then failure
+    pub said : IsSaid fails o.errors o.errors_then (failed_text failure (shown_name source) sink)
+    pub status_is : status ≡ Failed
+
+  abbrev pub TellsOut : Outs → Status → Type 0
+  TellsOut o status = IsTold o status ⊎ IsCutOff (codes "standard output") o status
+
+-- the same, in an output's file with that name; fresh is what such a file has where it is begun
+module _ (fails : Error → Type 0) (known fresh : Option (List ℕ)) (told : List ℕ → List ℕ)
+    (Ends : List ℕ → Ending → Type 0) (Stands : List ℕ → List ℕ → Type 0) (name : List ℕ) where
+  pub record IsSaved (errors errors_then : Option (List ℕ)) (status : Status) : Type 0 where
+    pub ending : Ending
+    pub stands : IfSome fresh (λ f. IfSome known (λ log. Stands name (f ++ told log)))
+    pub ends : IfSome known (λ log. Ends log ending)
+    pub said : IsSaid fails errors errors_then (ending_text ending)
+    pub status_is : status ≡ ending_status ending
+
+  pub record IsUnsaved (errors errors_then : Option (List ℕ)) (status : Status) : Type 0 where
+    pub failure : Failure
+    pub source : List ℕ
+    pub said : IsSaid fails errors errors_then (failed_text failure (shown_name source) name)
+    pub status_is : status ≡ Failed
+
+  abbrev pub TellsSaved : Option (List ℕ) → Option (List ℕ) → Status → Type 0
+  TellsSaved errors errors_then status = IsSaved errors errors_then status ⊎ IsUnsaved errors errors_then status
+
+abbrev pub IsSample : Result Begun NotBegun → Type 0
+IsSample (Ok b) = (b.device ≡ sample_device) × (b.sum ≡ crc32_of (stored_form sample_device))
+IsSample (Err why) = ⊥
+
+abbrev pub BeginsBy : (List ℕ → Option (List ℕ)) → Option (List ℕ) → Result Begun NotBegun → Type 0
+BeginsBy bytes None r = IsSample r
+BeginsBy bytes (Some name) r = IsBegun r × IfSome (bytes name) (λ form. IsReadBy form r)
+
+abbrev pub unbegun_line : NotBegun → List ℕ
+unbegun_line (Unread e) = failure_line (Read e)
+unbegun_line (Refused e) = number_line (load_error_number e)
+
+abbrev pub is_lined : AskedFor → Bool
+is_lined a = not a.page && is_none a.output
+
+abbrev pub LeavesLine : (Error → Type 0) → Bool → Option (List ℕ) → Option (List ℕ) → NotBegun → Type 0
+LeavesLine writes true old new why = IsSaid writes old new (unbegun_line why)
+LeavesLine writes false old new why = new ≡ old
+
+abbrev pub AboutEnds : (Error → Type 0) → Result (Unit {0}) Error → Option (List ℕ) → Option (List ℕ) → Status → Type 0
+AboutEnds fails (Ok u) errors errors_then status = (status ≡ Done) × (errors_then ≡ errors)
+AboutEnds fails (Err e) errors errors_then status =
+    (status ≡ Failed) × IsSaid fails errors errors_then (unwritten_text (codes "standard output") (cause_of e))
+
+pub record IsAbout (writes fails : Error → Type 0) (text : List ℕ) (o : Outs) (status : Status) : Type 0 where
+  pub told : Result (Unit {0}) Error
+  pub written : WritesText writes o.out o.out_then told text
+  pub ends : AboutEnds fails told o.errors o.errors_then status
+
+pub record SaysAlone (fails : Error → Type 0) (text : List ℕ) (is : Status) (o : Outs) (status : Status) : Type 0 where
+  pub said : IsSaid fails o.errors o.errors_then text
+  pub nothing : o.out_then ≡ o.out
+  pub status_is : status ≡ is
+
+abbrev pub StopsSo : (Error → Type 0) → (Error → Type 0) → Stop → About → Outs → Status → Type 0
+StopsSo writes fails Help a = IsAbout writes fails (help_text a)
+StopsSo writes fails Version a = IsAbout writes fails (version_text a)
+StopsSo writes fails (Unknown w) a = SaysAlone fails (stop_text (Unknown w) a.usage.now) Usage
+StopsSo writes fails (Alone w) a = SaysAlone fails (stop_text (Alone w) a.usage.now) Usage
+StopsSo writes fails (Twice w) a = SaysAlone fails (stop_text (Twice w) a.usage.now) Usage
+StopsSo writes fails (NoForm w) a = SaysAlone fails (stop_text (NoForm w) a.usage.now) Usage
+StopsSo writes fails NoMemory a =
+    SaysAlone fails (unread_text (codes "the command line") (codes ": out of memory")) Failed
+
+module _ (writes fails : Error → Type 0) (log_bytes form_bytes : List ℕ → Option (List ℕ)) (fresh : Option (List ℕ))
+    (Stands : List ℕ → List ℕ → Type 0) (told : AskedFor → Begun → List ℕ → List ℕ)
+    (Ends : Begun → List ℕ → Ending → Type 0) where
+  abbrev pub TellsTo : Option (List ℕ) → AskedFor → Begun → Outs → Status → Type 0
+  TellsTo None a b o status = TellsOut writes fails (joined_bytes log_bytes (files_asked a)) (told a b) (Ends b) o status
+  TellsTo (Some name) a b o status =
+      TellsSaved fails (joined_bytes log_bytes (files_asked a)) fresh (told a b) (Ends b) Stands name o.errors
+      o.errors_then status
+      × (o.out_then ≡ o.out)
+
+  pub record IsUnbegun (a : AskedFor) (o : Outs) (status : Status) : Type 0 where
+    pub why : NotBegun
+    pub begins : BeginsBy form_bytes a.form (Err why)
+    pub said : IsSaid fails o.errors o.errors_then (unbegun_text (unwrap_or a.form (codes "-")) why)
+    pub line : LeavesLine writes (is_lined a) o.out o.out_then why
+    pub status_is : status ≡ Failed
+
+  pub record IsBegunBy (a : AskedFor) (o : Outs) (status : Status) : Type 0 where
+    pub begun : Begun
+    pub begins : BeginsBy form_bytes a.form (Ok begun)
+    pub tells : TellsTo a.output a begun o status
+
+  abbrev pub Does : AskedFor → Outs → Status → Type 0
+  Does a o status = IsUnbegun a o status ⊎ IsBegunBy a o status
+
+  abbrev pub AnswersSo : Result Command Stop → About → Outs → Status → Type 0
+  AnswersSo (Ok c) a = Does (asked_seen c)
+  AnswersSo (Err stop) a = StopsSo writes fails stop a
+
+  -- what the words of a command line ask for, by `Asked`, or that there is no memory for them, and what is done for it
+  pub record Runs (words : List (List ℕ)) (a : About) (o : Outs) (status : Status) : Type 0 where
+    pub parsed : Result Command Stop
+    pub asks : Asks parsed (asked_by a.has_page words)
+    pub answers : AnswersSo parsed a o status
