@@ -1,13 +1,13 @@
 -- A log of either kind, as the observer of its kind tells it.
 -- Assumes nothing.
-use Rattle.std.proofs.Common.{ℕ, ◌+◌, ◌^◌, ◌≤◌, ◌≡◌, refl, sym, subst, ap, ◌∙◌, Bool, true, false, List, [], ◌++◌}
-use Rattle.std.proofs.Common.{length, ◌⊎◌, inl, inr, map, if◌then◌else◌, sum_by, MatchBool}
+use Rattle.std.proofs.Common.{ℕ, ◌^◌, ◌≤◌, ◌≡◌, refl, sym, subst, ap, ◌∙◌, Bool, true, false, List, [], ◌++◌}
+use Rattle.std.proofs.Common.{length, ◌⊎◌, inl, inr, if◌then◌else◌, MatchBool}
 use Rattle.std.proofs.Common.{Option, None}
 use Rattle.std.specs.Io.KnownBytes.{Appends}
 use Rattle.std.proofs.KnownBytes.{Appends-trans}
 use Rattle.text.proofs.Choices.{if_yes, if_no}
 use Rattle.record.specs.declared.types.Device.{Device}
-use Rattle.textio.specs.Lines.{LogLine, texts_of, IsTooLong}
+use Rattle.textio.specs.Lines.{LogLine, IsTooLong}
 use Rattle.floorlog.specs.Kept.{kept_lines}
 use Rattle.floorlog.specs.Kinds.{is_history, is_history_from}
 use Rattle.floorlog.specs.Observing.{BreaksOff}
@@ -16,7 +16,6 @@ use Rattle.floorlog.specs.declared.kinds.Kind.TheVariants.{Unbegun}
 use Rattle.floorlog.specs.Unplayed.{none_unplayed}
 use Rattle.recorded.specs.Following.{chain_begun}
 use Rattle.watch.specs.Telling.{floor_unplayed}
-use Rattle.watch.specs.Marking.{floor_event, seconds_by}
 use Rattle.watch.specs.Watching.{Watching, watching_from}
 use Rattle.watch.specs.States.{state_of}
 use Rattle.report.specs.Reports.{begun_text}

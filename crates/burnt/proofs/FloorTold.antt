@@ -14,7 +14,7 @@ use Rattle.textio.proofs.Fronts.{front_more}
 use Rattle.floorlog.specs.Kept.{kept, kept_lines}
 use Rattle.watch.specs.Marking.{FloorEvent, floor_event, floor_step, floor_steps, done_by, seconds_by}
 use Rattle.watch.specs.Marking.{watched_answer}
-use Rattle.floorlog.specs.Unplayed.{none_unplayed, why_misread, noted, said_line, unplayed_by}
+use Rattle.floorlog.specs.Unplayed.{none_unplayed, why_misread, line_noted, said_line, unplayed_by}
 use Rattle.floorlog.specs.declared.unplayed.Unplayed.{Unplayed}
 use Rattle.floorlog.proofs.UnplayedBy.{unplayed_none, unplayed_more, said_kept}
 use Rattle.watch.specs.Watching.{Step, Watching, watching_from}
@@ -148,7 +148,7 @@ teller_itself_ok t (Err e) = tt
 -- what of a line is not played, and what of those that come after it
 pub line_unplayed : (t : Teller) (line : LogLine) (ls : List LogLine) {unplayed last : Unplayed} {lines : ℕ}
     {device : Device} → lines ≡ t.lines + 1 → device ≡ done_by t.watch.tested.device (floor_event line.text)
-    → unplayed ≡ noted t.unplayed (t.lines + 1) (why_misread line.text)
+    → unplayed ≡ line_noted t.unplayed (t.lines + 1) (why_misread line.text)
     (watched_answer t.watch.tested.device (floor_event line.text))
     → last ≡ unplayed_by watched_answer done_by unplayed lines device (map (said_line floor_event) (texts_of ls))
     → last ≡ unplayed_by watched_answer done_by t.unplayed t.lines t.watch.tested.device

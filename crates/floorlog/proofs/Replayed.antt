@@ -16,7 +16,7 @@ use Rattle.floorlog.specs.Playing.{state_after, lines_printed, replay_text}
 use Rattle.floorlog.specs.Replaying.{IsReplayed, IsPlayedSoFar}
 use Rattle.floorlog.specs.Observing.{Observes, BreaksOff}
 use Rattle.floorlog.specs.declared.playing.Player.{Player}
-use Rattle.floorlog.specs.Unplayed.{answer, left_by_event, why_misread, noted, said_line}
+use Rattle.floorlog.specs.Unplayed.{answer, left_by_event, why_misread, line_noted, said_line}
 use Rattle.floorlog.specs.Unplayed.{unplayed_by}
 use Rattle.floorlog.proofs.UnplayedBy.{unplayed_none, unplayed_more}
 use Rattle.floorlog.proofs.KeptText.{events_kept}
@@ -82,7 +82,7 @@ left_by_none p (Err e) = tt
 
 module _ {p after : Player} {line : LogLine} (more : after.played ≡ p.played + 1)
     (is : after.tested.device ≡ left_by_event p.tested.device (event line.text))
-    (unplayed : after.unplayed ≡ noted p.unplayed (p.played + 1) (why_misread line.text)
+    (unplayed : after.unplayed ≡ line_noted p.unplayed (p.played + 1) (why_misread line.text)
     (answer p.tested.device (event line.text))) where
   -- a line that is played, and what comes after it
   pub line_observed : {old new : Option (List ℕ)}
@@ -97,7 +97,8 @@ module _ {p after : Player} {line : LogLine} (more : after.played ≡ p.played +
         ++ printed_from (sym more i) after.tested.device (map event (texts_of ls)));
     leaves = λ ls last left. (
       left.0 ∙ state_more p.tested.device (event line.text) is (map event (texts_of ls)),
-      left.1 ∙ (λ i. unplayed_by answer left_by_event (unplayed i) (more i) (is i) (map (said_line event) (texts_of ls)))
+      left.1
+          ∙ (λ i. unplayed_by answer left_by_event (unplayed i) (more i) (is i) (map (said_line event) (texts_of ls)))
           ∙ sym (unplayed_more answer left_by_event p.unplayed p.played p.tested.device (said_line event line.text)
           (map (said_line event) (texts_of ls))),
     );

@@ -1,15 +1,16 @@
 -- What is not played of a log, by what comes: no line any more, or a line and the rest; and what is kept of lines tells
 -- it of the lines.
 -- Assumes nothing.
-use Rattle.std.proofs.Common.{take_all, ℕ, ◌+◌, ◌<◌, ◌≤◌, ◌≡◌, refl, sym, ap, ◌∙◌, Bool, List, [], ◌∷◌, ⊎_elim, map, arith}
+use Rattle.std.proofs.Common.{take_all, ℕ, ◌+◌, ◌<◌, ◌≤◌, ◌≡◌, refl, sym, ap, ◌∙◌, Bool, List, [], ◌∷◌, ⊎_elim, map}
+use Rattle.std.proofs.Common.{arith}
 use Rattle.std.proofs.Common.{Option, length, take, length-take-le, if◌then◌else◌}
 use Rattle.text.proofs.Orders.{le_or_lt}
 use Rattle.record.specs.declared.types.Device.{Device}
-use Rattle.textio.specs.Lines.{LogLine, texts_of, lines_in, lines_of}
-use Rattle.floorlog.specs.Kept.{kept_most, kept, kept_lines}
+use Rattle.textio.specs.Lines.{texts_of, lines_in, lines_of}
+use Rattle.floorlog.specs.Kept.{kept_most, kept_lines}
 use Rattle.floorlog.specs.Kinds.{begins_history}
 use Rattle.floorlog.specs.Events.{event}
-use Rattle.floorlog.specs.Unplayed.{begins_as_history, why_misread, noted, SaidLine, said_line, unplayed_by}
+use Rattle.floorlog.specs.Unplayed.{begins_as_history, why_misread, line_noted, SaidLine, said_line, unplayed_by}
 use Rattle.floorlog.specs.Unplayed.{answer, left_by_event, none_unplayed, unplayed_of}
 use Rattle.floorlog.specs.declared.unplayed.Misread.{Misread}
 use Rattle.floorlog.specs.declared.unplayed.Misread.TheVariants as why
@@ -23,7 +24,7 @@ module _ {E : Type 0} (answers : Device → E → Option ℕ) (next : Device →
     unplayed_none = refl
 
     pub unplayed_more : (l : SaidLine E) (ls : List (SaidLine E)) → unplayed_by answers next u n d (l ∷ ls)
-        ≡ unplayed_by answers next (noted u (n + 1) l.why (answers d l.event)) (n + 1) (next d l.event) ls
+        ≡ unplayed_by answers next (line_noted u (n + 1) l.why (answers d l.event)) (n + 1) (next d l.event) ls
     unfolding unplayed_by
     unplayed_more l ls = refl
 

@@ -3,7 +3,7 @@
 --   begins_as_history l   the line begins as a header, an opening or a stated line of a history
 --   why_misread l         why the line l, which has no form, has none: the first of these that holds of it
 --   misread_words w       what is said of that, behind the number of the line
---   noted u n w c         u after line n, of which the call gave c, or which has no form, for the reason w
+--   line_noted u n w c         u after line n, of which the call gave c, or which has no form, for the reason w
 --   SaidLine, said_line   a line by what it says, and why it would say nothing
 --   unplayed_by .. u n d ls   u after these lines, the first being line n + 1, from the device d on: of each the call
 --                         gives `answer`, and leaves `next`
@@ -86,25 +86,25 @@ misread_words why.NoLetter = codes " begins with none of O, R, T and X"
 abbrev pub none_unplayed : Unplayed
 none_unplayed = record { misread = 0; first_misread = None; refused = 0; first_refused = None; has_history = false }
 
-abbrev pub first_of : {A : Type 0} → Option A → A → Option A
-first_of (Some a) b = Some a
-first_of None b = Some b
+abbrev pub first_noted : {A : Type 0} → Option A → A → Option A
+first_noted (Some a) b = Some a
+first_noted None b = Some b
 
 abbrev pub is_of_history : Misread → Bool
 is_of_history why.OfHistory = true
 is_of_history w = false
 
-abbrev pub noted : Unplayed → ℕ → Misread → Option ℕ → Unplayed
-noted u n w None = record u {
+abbrev pub line_noted : Unplayed → ℕ → Misread → Option ℕ → Unplayed
+line_noted u n w None = record u {
   misread = u.misread + 1;
-  first_misread = first_of u.first_misread (record { line = n; why = w });
+  first_misread = first_noted u.first_misread (record { line = n; why = w });
   has_history = u.has_history || is_of_history w;
 }
-noted u n w (Some c) =
+line_noted u n w (Some c) =
     if c == 0 then u
     else record u {
       refused = u.refused + 1;
-      first_refused = first_of u.first_refused (record { line = n; number = c });
+      first_refused = first_noted u.first_refused (record { line = n; number = c });
     }
 
 pub record SaidLine (E : Type 0) : Type 0 where
@@ -118,7 +118,7 @@ unfoldable pub unplayed_by : {E : Type 0} → (Device → E → Option ℕ) → 
     → List (SaidLine E) → Unplayed
 unplayed_by answers next u n d [] = u
 unplayed_by answers next u n d (l ∷ ls) =
-    unplayed_by answers next (noted u (n + 1) l.why (answers d l.event)) (n + 1) (next d l.event) ls
+    unplayed_by answers next (line_noted u (n + 1) l.why (answers d l.event)) (n + 1) (next d l.event) ls
 
 abbrev pub answer : Device → LogEvent → Option ℕ
 answer d e = event_answer e (event_result d e)

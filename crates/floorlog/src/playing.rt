@@ -7,7 +7,7 @@ ghost use Rattle.floorlog.specs.LastLine.{last_device_line};
 ghost use Rattle.floorlog.specs.Events.{event};
 ghost use Rattle.floorlog.specs.Doing.{event_result, printed_line};
 ghost use Rattle.floorlog.specs.Playing.{state_after, lines_printed};
-ghost use Rattle.floorlog.specs.Unplayed.{answer, left_by_event, why_misread, noted, said_line, none_unplayed};
+ghost use Rattle.floorlog.specs.Unplayed.{answer, left_by_event, why_misread, line_noted, said_line, none_unplayed};
 ghost use Rattle.floorlog.specs.Unplayed.{unplayed_by};
 
 use crate::kept::KeptLine;
@@ -52,7 +52,7 @@ impl Player {
         requires { number ≡ self.old.played + 1 }
         ensures played { self.new.played ≡ number }
         ensures device { self.new.tested.device ≡ left_by_event self.old.tested.device (event (kept_text line.now)) }
-        ensures unplayed { self.new.unplayed ≡ noted self.old.unplayed number (why_misread (kept_text line.now))
+        ensures unplayed { self.new.unplayed ≡ line_noted self.old.unplayed number (why_misread (kept_text line.now))
             (answer self.old.tested.device (event (kept_text line.now))) }
         ensures text { WritesText W.fails_with (W.contents to.old) (W.contents to.new) result
             (printed_line number (event (kept_text line.now))

@@ -3,10 +3,9 @@
 ghost use Rattle.std.specs.Prelude.{◌≡◌, ◌+◌, ◌<◌, ◌≤◌, ◌++◌, [], length};
 ghost use Rattle.std.specs.Prelude.{IsTrue, ◌↔◌};
 ghost use Rattle.arrayvec.specs.ArrayVec.{array_vec_len};
-ghost use Rattle.floorlog.specs.KeptText.{kept_text};
 ghost use Rattle.floorlog.specs.Unplayed.{begins_opening, begins_stated, begins_as_history, has_mark, ends_with_cr};
 ghost use Rattle.floorlog.specs.Unplayed.{why_of_letter, why_misread};
-ghost use Rattle.floorlog.specs.Unplayed.{misread_words, none_unplayed, is_of_history, first_of, noted};
+ghost use Rattle.floorlog.specs.Unplayed.{misread_words, none_unplayed, is_of_history, line_noted};
 ghost use Rattle.floorlog.specs.Unplayed.{misread_text, refused_words, refused_calls_text, headless_text};
 ghost use Rattle.floorlog.specs.Unplayed.{unplayed_text};
 
@@ -248,7 +247,7 @@ impl Unplayed {
     /// has no form.
     pub fn note(&mut self, number: u64, line: &[u8], answer: Option<u32>)
         requires { self.old.misread + self.old.refused < number }
-        ensures noted { self.new ≡ noted self.old number (why_misread line.now) answer }
+        ensures noted { self.new ≡ line_noted self.old number (why_misread line.now) answer }
         ensures counted { self.new.misread + self.new.refused ≤ number }
     {
         match answer {

@@ -1,9 +1,9 @@
 -- What is read of joined files, by what is read of the one that is open.
 -- Assumes nothing.
-use Rattle.std.proofs.Common.{ℕ, ◌<◌, ◌≡◌, refl, sym, ap, ◌∙◌, List, [], ◌++◌, append_assoc, length, take}
-use Rattle.std.proofs.Common.{None, Some, Ok, Err, Result}
+use Rattle.std.proofs.Common.{ℕ, sym, ap, ◌∙◌, List, [], ◌++◌, append_assoc}
+use Rattle.std.proofs.Common.{None, Some}
 use Rattle.std.specs.declared.option.Option.{Option}
-use Rattle.std.specs.Io.KnownBytes.{Keeps, Consumes, IsAtEnd, ReadConsumes}
+use Rattle.std.specs.Io.KnownBytes.{Keeps, Consumes}
 use Rattle.program.specs.Joined.{join_known}
 
 pub join_consumes : (a b c : Option (List ℕ)) (bs : List ℕ) → Consumes a b bs

@@ -23,8 +23,8 @@ abbrev pub source_left : {S : Type 0} → (S → Option (List ℕ)) → Option S
 source_left f None = Some []
 source_left f (Some s) = f s
 
-abbrev pub names_in : List (Bor (List ℕ)) → List (List ℕ)
-names_in ns = map (λ (b : Bor (List ℕ)). b.now) ns
+abbrev pub names_seen : List (Bor (List ℕ)) → List (List ℕ)
+names_seen ns = map (λ (b : Bor (List ℕ)). b.now) ns
 
 abbrev pub files_named : List (List ℕ) → List (List ℕ)
 files_named [] = codes "-" ∷ []
@@ -35,4 +35,4 @@ files_asked a = files_named a.logs
 
 abbrev pub joined_left : {S : Type 0} → (S → Option (List ℕ)) → (List ℕ → Option (List ℕ)) → Option S
     → List (Bor (List ℕ)) → Option (List ℕ)
-joined_left f g s ns = join_known (source_left f s) (joined_bytes g (names_in ns))
+joined_left f g s ns = join_known (source_left f s) (joined_bytes g (names_seen ns))

@@ -2,8 +2,8 @@
 -- output, which words to standard error, and the status.
 --   Outs                what the two outputs had, and have then
 --   IsTold ..           all of the log was read and told: it goes to standard output, how it ended to standard error
---   IsCutOff ..         a read, a write or a count failed: a front of what is told, and perhaps the line of the failure,
---                       go to standard output, the file that failed and why to standard error; the status is 1
+--   IsCutOff ..         a read, a write or a count failed: a front of what is told, and the failure's line, if it has
+--                       one, go to standard output, the file that failed and why to standard error; the status is 1
 --   TellsOut ..         the one or the other;   TellsSaved ..   the same of an output's file: nothing goes to standard
 --                       output
 --   StopsSo ..          what a command line is answered that asks for no log
@@ -142,7 +142,8 @@ module _ (writes fails : Error → Type 0) (log_bytes form_bytes : List ℕ → 
     (Stands : List ℕ → List ℕ → Type 0) (told : AskedFor → Begun → List ℕ → List ℕ)
     (Ends : Begun → List ℕ → Ending → Type 0) where
   abbrev pub TellsTo : Option (List ℕ) → AskedFor → Begun → Outs → Status → Type 0
-  TellsTo None a b o status = TellsOut writes fails (joined_bytes log_bytes (files_asked a)) (told a b) (Ends b) o status
+  TellsTo None a b o status =
+      TellsOut writes fails (joined_bytes log_bytes (files_asked a)) (told a b) (Ends b) o status
   TellsTo (Some name) a b o status =
       TellsSaved fails (joined_bytes log_bytes (files_asked a)) fresh (told a b) (Ends b) Stands name o.errors
       o.errors_then status
@@ -155,13 +156,13 @@ module _ (writes fails : Error → Type 0) (log_bytes form_bytes : List ℕ → 
     pub line : LeavesLine writes (is_lined a) o.out o.out_then why
     pub status_is : status ≡ Failed
 
-  pub record IsBegunBy (a : AskedFor) (o : Outs) (status : Status) : Type 0 where
+  pub record IsBegunSo (a : AskedFor) (o : Outs) (status : Status) : Type 0 where
     pub begun : Begun
     pub begins : BeginsBy form_bytes a.form (Ok begun)
     pub tells : TellsTo a.output a begun o status
 
   abbrev pub Does : AskedFor → Outs → Status → Type 0
-  Does a o status = IsUnbegun a o status ⊎ IsBegunBy a o status
+  Does a o status = IsUnbegun a o status ⊎ IsBegunSo a o status
 
   abbrev pub AnswersSo : Result Command Stop → About → Outs → Status → Type 0
   AnswersSo (Ok c) a = Does (asked_seen c)

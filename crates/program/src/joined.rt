@@ -2,7 +2,7 @@
 ghost use Rattle.std.specs.Prelude.{◌≡◌, ◌<◌, true, false, Ok, length, IfOk, List, ℕ, Option};
 ghost use Rattle.std.specs.Io.{ReadsAtMost};
 ghost use Rattle.std.specs.Io.KnownBytes.{Keeps, IsAtEnd, ReadConsumes};
-ghost use Rattle.program.specs.Joined.{join_known, joined_bytes, source_left, names_in};
+ghost use Rattle.program.specs.Joined.{join_known, joined_bytes, source_left, names_seen};
 
 use std::io;
 use std::io::Read;
@@ -35,8 +35,8 @@ impl<'a, 'w, O: Opens> Joined<'a, 'w, O> {
     /// These files, from the start of the first.
     pub fn new(opens: &'a O, names: &'a [&'w str]) -> Joined<'a, 'w, O>
         ensures { join_known (source_left O.Source.remaining result.source)
-            (joined_bytes (O.log_bytes result.opens.now) (names_in result.later.now))
-            ≡ joined_bytes (O.log_bytes opens.now) (names_in names.now) }
+            (joined_bytes (O.log_bytes result.opens.now) (names_seen result.later.now))
+            ≡ joined_bytes (O.log_bytes opens.now) (names_seen names.now) }
     {
         Joined {
             opens,
@@ -55,12 +55,12 @@ impl<'a, 'w, O: Opens> Joined<'a, 'w, O> {
     fn open_next(&mut self) -> io::Result<bool>
         requires { IsAtEnd (source_left O.Source.remaining self.old.source) }
         ensures keeps { Keeps (join_known (source_left O.Source.remaining self.old.source)
-            (joined_bytes (O.log_bytes self.old.opens.now) (names_in self.old.later.now)))
+            (joined_bytes (O.log_bytes self.old.opens.now) (names_seen self.old.later.now)))
             (join_known (source_left O.Source.remaining self.new.source)
-            (joined_bytes (O.log_bytes self.new.opens.now) (names_in self.new.later.now))) }
+            (joined_bytes (O.log_bytes self.new.opens.now) (names_seen self.new.later.now))) }
         ensures opens { self.new.opens ≡ self.old.opens }
         ensures end { result ≡ Ok false → IsAtEnd (join_known (source_left O.Source.remaining self.new.source)
-            (joined_bytes (O.log_bytes self.new.opens.now) (names_in self.new.later.now))) }
+            (joined_bytes (O.log_bytes self.new.opens.now) (names_seen self.new.later.now))) }
         ensures fewer { result ≡ Ok true → length self.new.later.now < length self.old.later.now }
     {
         match self.later {
@@ -91,7 +91,7 @@ impl<'a, 'w, O: Opens> Joined<'a, 'w, O> {
 
 impl<'a, 'w, O: Opens> Read for Joined<'a, 'w, O> {
     ghost remaining = { λ j. join_known (source_left O.Source.remaining j.source)
-        (joined_bytes (O.log_bytes j.opens.now) (names_in j.later.now)) };
+        (joined_bytes (O.log_bytes j.opens.now) (names_seen j.later.now)) };
 
     #[tactic(auto, using(crate::proofs::JoinedReads::joined_reads))]
     fn read(&mut self, buf: &mut [u8]) -> io::Result<usize> {

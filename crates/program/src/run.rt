@@ -2,8 +2,9 @@
 ghost use Rattle.std.specs.Prelude.{◌≡◌, ◌++◌, map, codes, IfOk, IfErr};
 ghost use Rattle.program.specs.Said.{UnbegunSaid, unread_text, unwritten_text, cause_of, failed_text, shown_name};
 ghost use Rattle.program.specs.Said.{IsSaid, ending_status, ending_text};
-ghost use Rattle.program.specs.Joined.{names_in, files_asked, joined_left};
-ghost use Rattle.program.specs.Running.{TellsOut, TellsSaved, BeginsBy, is_lined, LeavesLine, AboutEnds, StopsSo, Does, Runs, SaysAlone};
+ghost use Rattle.program.specs.Joined.{names_seen, files_asked, joined_left};
+ghost use Rattle.program.specs.Running.{TellsOut, TellsSaved, BeginsBy, is_lined, LeavesLine, AboutEnds};
+ghost use Rattle.program.specs.Running.{StopsSo, Does, Runs, SaysAlone};
 ghost use Rattle.program.specs.About.{help_text, version_text};
 ghost use Rattle.textio.specs.Fronts.{WritesText};
 ghost use Rattle.command.specs.Asked.{asked_seen, text_seen};
@@ -179,8 +180,9 @@ fn tell_out<P: Telling, O: Opens, W: ByteSink, E: ByteSink>(
     to: &mut W,
     errors: &mut E,
 ) -> Status
-    ensures { TellsOut W.fails_with E.fails_with (joined_left O.Source.remaining (O.log_bytes log.entry.opens.now) log.entry.source
-        log.entry.later.now) (P.told program.now (asked_seen command.now) begun.now) (P.ends program.now begun.now)
+    ensures { TellsOut W.fails_with E.fails_with (joined_left O.Source.remaining (O.log_bytes log.entry.opens.now)
+        log.entry.source log.entry.later.now) (P.told program.now (asked_seen command.now) begun.now)
+        (P.ends program.now begun.now)
         (record {
           out = W.contents to.old;
           out_then = W.contents to.new;
@@ -285,7 +287,7 @@ fn is_lined(command: &Command<'_>) -> bool
 
 // The files of the log; standard input where none is named.
 fn files_of<'c, 'w>(command: &'c Command<'w>) -> &'c [&'w str]
-    ensures { names_in result.now ≡ files_asked (asked_seen command.now) }
+    ensures { names_seen result.now ≡ files_asked (asked_seen command.now) }
 {
     if command.logs.is_empty() {
         return STANDARD_INPUT;

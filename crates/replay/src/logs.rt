@@ -21,8 +21,8 @@ use textio::writer::ByteSink;
 
 /// The log that a reader has left, of either kind, played from a device, which need not be legal, and of which the
 /// stored form has this sum. What its lines are answered, the line of power and lamps, and which line of a history does
-/// not belong, go to a sink. Returns that line, if there is one, and what of a log of the first kind was not played. What
-/// is printed is handed on before each read, which may wait.
+/// not belong, go to a sink. Returns that line, if there is one, and what of a log of the first kind was not played.
+/// What is printed is handed on before each read, which may wait.
 pub fn replay_log<R: ByteSource, W: ByteSink>(
     begun: Device,
     sum: u32,

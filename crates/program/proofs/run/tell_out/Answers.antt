@@ -11,5 +11,6 @@ returns-in-Ok g c =
 pub returns : goal.returns
 returns g c =
     cut_off c.in-Err.failure c.name.result.now _ _ c.new.ensures c.tell-told.ensures.front
-    (last_so g.W.ByteSink.fails_with c.in-Err.failure c.end_output-in-Err.ensures.text) (rw c.shown.ensures at c.failed-status.ensures.said)
+    (last_so g.W.ByteSink.fails_with c.in-Err.failure c.end_output-in-Err.ensures.text)
+    (rw c.shown.ensures at c.failed-status.ensures.said)
     c.failed-status.ensures.status

@@ -32,8 +32,8 @@ invariant_of-self-2 c =
     let seconds = c.seconds_of-seconds.ensures ∙ ap seconds_by c.read-event.ensures in
     let timed : c.in_ok-time.time ≡ c.args.self.now.time + c.seconds_of-seconds.result = omega arith in
     record {
-      sound = stays_sound (floor_step s.device e) s done seconds timed c.is_burning_in-was.ensures c.follow-ended.ensures.from
-          c.follow-ended.ensures.burnt c.args.self.now.sound;
+      sound = stays_sound (floor_step s.device e) s done seconds timed c.is_burning_in-was.ensures
+          c.follow-ended.ensures.from c.follow-ended.ensures.burnt c.args.self.now.sound;
     }
 
 pub returns-clause-watched : goal.returns-clause-watched

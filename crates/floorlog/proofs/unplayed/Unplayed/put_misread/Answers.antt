@@ -10,4 +10,5 @@ returns-clause-text c =
     (put_after old _ _ c.put_text.ensures (put_after c.put_text.new.out.items _ _ c.put_long.ensures
     (put_after c.put_long.new.out.items _ _ c.put_text-2.ensures
     (put_after c.put_text-2.new.out.items _ _ c.put_long-2.ensures
-    (put_after c.put_long-2.new.out.items _ _ (rw c.words.ensures.words at c.put_text-3.ensures) c.push.ensures.items)))))
+    (put_after c.put_long-2.new.out.items _ _ (rw c.words.ensures.words at c.put_text-3.ensures)
+    c.push.ensures.items)))))
