@@ -116,42 +116,42 @@ module _ (P : AnyPanel) (does : DoesWhatIsAsked P) (p : Panel) (i : ℕ) (l : Li
 -- ---- what is told of a line: each row of the table is told as one thing
 
 module _ (P Q : AnyPanel) (does : DoesWhatIsAsked P) (does_too : DoesWhatIsAsked Q) (p : Panel) (i : ℕ) (l : List ℕ)
-    where
-  replies_alike : (c : Command) → IsServed p i → IsUnderWay (entry_at p i) c → P.tell p i l ≡ Q.tell p i l
-  replies_alike c served u =
-      does.steps.replies_told p i l c served u ∙ sym (does_too.steps.replies_told p i l c served u)
+  where
+    replies_alike : (c : Command) → IsServed p i → IsUnderWay (entry_at p i) c → P.tell p i l ≡ Q.tell p i l
+    replies_alike c served u =
+        does.steps.replies_told p i l c served u ∙ sym (does_too.steps.replies_told p i l c served u)
 
-  greetings_alike : IsServed p i → (entry_at p i).greeting ≡ ungreeted → is_greeting (read_greeting l) ≡ true
-      → P.tell p i l ≡ Q.tell p i l
-  greetings_alike served u g =
-      does.steps.greetings_told p i l served u g ∙ sym (does_too.steps.greetings_told p i l served u g)
+    greetings_alike : IsServed p i → (entry_at p i).greeting ≡ ungreeted → is_greeting (read_greeting l) ≡ true
+        → P.tell p i l ≡ Q.tell p i l
+    greetings_alike served u g =
+        does.steps.greetings_told p i l served u g ∙ sym (does_too.steps.greetings_told p i l served u g)
 
-  stray_alike : IsServed p i → IsStray (entry_at p i) l → P.tell p i l ≡ Q.tell p i l
-  stray_alike served (ungreeted_malformed u g) =
-      does.steps.no_greetings_told p i l served u g ∙ sym (does_too.steps.no_greetings_told p i l served u g)
-  stray_alike served (late g w) =
-      does.steps.late_told p i l served g w ∙ sym (does_too.steps.late_told p i l served g w)
-  stray_alike served (malformed c u n) = replies_alike c served u
-  stray_alike served (foreign c u n) = replies_alike c served u
-  stray_alike served (not_allowed c u n) = replies_alike c served u
+    stray_alike : IsServed p i → IsStray (entry_at p i) l → P.tell p i l ≡ Q.tell p i l
+    stray_alike served (ungreeted_malformed u g) =
+        does.steps.no_greetings_told p i l served u g ∙ sym (does_too.steps.no_greetings_told p i l served u g)
+    stray_alike served (late g w) =
+        does.steps.late_told p i l served g w ∙ sym (does_too.steps.late_told p i l served g w)
+    stray_alike served (malformed c u n) = replies_alike c served u
+    stray_alike served (foreign c u n) = replies_alike c served u
+    stray_alike served (not_allowed c u n) = replies_alike c served u
 
-  row_alike : IsServed p i → {f : Entry} → StepTo (entry_at p i) l f → P.tell p i l ≡ Q.tell p i l
-  row_alike served (greets_open u r) = greetings_alike served u (ap is_greeting r)
-  row_alike served (greets_secured random u r) = greetings_alike served u (ap is_greeting r)
-  row_alike served (strays s) = stray_alike served s
-  row_alike served (answers c m u r) = replies_alike c served u
-  row_alike served (refuses c u r) = replies_alike c served u
+    row_alike : IsServed p i → {f : Entry} → StepTo (entry_at p i) l f → P.tell p i l ≡ Q.tell p i l
+    row_alike served (greets_open u r) = greetings_alike served u (ap is_greeting r)
+    row_alike served (greets_secured random u r) = greetings_alike served u (ap is_greeting r)
+    row_alike served (strays s) = stray_alike served s
+    row_alike served (answers c m u r) = replies_alike c served u
+    row_alike served (refuses c u r) = replies_alike c served u
 
-  told_alike : P.tell p i l ≡ Q.tell p i l
-  told_alike = by (first_of (projector_rows p i) == 0) refl
-    where
-      by : (t : Bool) → (first_of (projector_rows p i) == 0) ≡ t → P.tell p i l ≡ Q.tell p i l
-      by true e =
-          let served = served_then p i (eqb-true (first_of (projector_rows p i)) 0 e) in
-          row_alike served (steps_by_the_table (entry_at p i) l (entry_legal_there p i served))
-      by false e =
-          let some = eqb-false (first_of (projector_rows p i)) 0 e in
-          does.calls.tells_nothing p i l some ∙ sym (does_too.calls.tells_nothing p i l some)
+    told_alike : P.tell p i l ≡ Q.tell p i l
+    told_alike = by (first_of (projector_rows p i) == 0) refl
+      where
+        by : (t : Bool) → (first_of (projector_rows p i) == 0) ≡ t → P.tell p i l ≡ Q.tell p i l
+        by true e =
+            let served = served_then p i (eqb-true (first_of (projector_rows p i)) 0 e) in
+            row_alike served (steps_by_the_table (entry_at p i) l (entry_legal_there p i served))
+        by false e =
+            let some = eqb-false (first_of (projector_rows p i)) 0 e in
+            does.calls.tells_nothing p i l some ∙ sym (does_too.calls.tells_nothing p i l some)
 
 pub panels_alike : (P Q : AnyPanel) → DoesWhatIsAsked P → DoesWhatIsAsked Q → PanelsAlike P Q
 panels_alike P Q does does_too = record {

@@ -1,5 +1,5 @@
 -- what stands before the first stretch, and then what is told of the log, by the observer of its kind
-use Rattle.std.proofs.Common.{ap, subst, arith, ◌^◌, ◌∙◌}
+use Rattle.std.proofs.Common.{arith, ◌^◌, ◌∙◌}
 use Rattle.std.proofs.lemmas.Option.{IfSome_then}
 use Rattle.textio.specs.Ahead.{left_in}
 use Rattle.textio.proofs.Failures.{comes_of, short_enough}
