@@ -14,7 +14,7 @@ use Rattle.record.specs.declared.types.Device.{Device}
 use Rattle.device.specs.Calls.{longest_reply}
 use Rattle.ours.specs.Board.{ours}
 use Rattle.demands.specs.SpeaksPjlink.{BetweenLines}
-use Rattle.demands.specs.ClassOne.{longest_before}
+use Rattle.demands.specs.ClassOne.{longest_of_class_1}
 use Rattle.demands.specs.Sample.{sample, sockets, long_named, memory, opened_after}
 use Rattle.demands.specs.Computing.{computing}
 
@@ -38,9 +38,10 @@ pub ready : BetweenLines opened opened_sample 0
 unfolding computing
 ready = record { legal = refl; there = omega arith; in_phase = refl; unmarked = refl; none_held = refl }
 
-pub longest_before_reached : (ours.receive (opened_after sockets) 0 (codes "%1INST ?\r") memory).length ≡ longest_before
+pub most_of_class_1_reached :
+    (ours.receive (opened_after sockets) 0 (codes "%1INST ?\r") memory).length ≡ longest_of_class_1
 unfolding computing
-longest_before_reached = refl
+most_of_class_1_reached = refl
 
 pub longest_reply_reached :
     (ours.receive (opened_after long_named) 0 (codes "%2INNM ?11\r") memory).length ≡ longest_reply

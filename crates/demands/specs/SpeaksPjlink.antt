@@ -13,7 +13,8 @@
 -- `line_after` of stream/specs/Collecting); the record (record/specs); a stream in cuts (stream/specs/Machine);
 -- ours/specs/Board; here Calls, CallsDone, Outsider. RULES, Places: "Demand 2 holds place by place": what is said of a
 -- connection is said of that at any place p, whatever the other places hold. RULES, Class 2: lines, commands and
--- set-ups are of Class 1 or Class 2, and all is said of both; that a Class 1 set-up is as it was before is in ClassOne.
+-- set-ups are of Class 1 or Class 2, and all is said of both; that a Class 1 set-up answers by Class 1 alone is in
+-- ClassOne.
 --   BetweenLines phase d p   legal, at place p in that phase, no collected bytes and no overlong mark
 --   ReadBack B d p c w r     the command c, written as w and received as r, is read as it was meant and done
 --   AnsweredAs B d p bs a r  the bytes bs were all taken, and answered a

@@ -12,7 +12,7 @@ ghost use Rattle.demands.specs.CountsSeconds.{CountsSeconds};
 ghost use Rattle.demands.specs.Interleaved.{Interleaved};
 ghost use Rattle.demands.specs.Unheard.{Unheard};
 ghost use Rattle.demands.specs.BoardSwap.{BoardSwap};
-ghost use Rattle.demands.specs.ClassOne.{ClassOneKept};
+ghost use Rattle.demands.specs.ClassOne.{ClassOneAlone};
 ghost use Rattle.demands.specs.Beside.{RandomKept, UnheardThroughout, UnheardAnyhow};
 
 /// Our board keeps the demands. Nothing is done: that it has this contract is that the theorems stand.
@@ -23,7 +23,7 @@ pub fn ours_keeps_the_demands()
     ensures places_stand { Interleaved ours }
     ensures outsider_unheard { Unheard ours }
     ensures survives_a_swap { BoardSwap ours }
-    ensures class_1_kept { ClassOneKept ours }
+    ensures class_1_alone { ClassOneAlone ours }
 {}
 
 /// What our board keeps beside the demands. That an outsider is unheard needs its premise about openings.

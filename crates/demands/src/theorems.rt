@@ -12,7 +12,7 @@ ghost use Rattle.device.specs.Calls.{reply_room, longest_reply, has_password, re
 ghost use Rattle.controller.specs.Reading.{read_reply, outcome_alone, erra_said};
 ghost use Rattle.ours.specs.Board.{Board, ours, reply};
 ghost use Rattle.demands.specs.Calls.{run, after, opens, receives};
-ghost use Rattle.demands.specs.ClassOne.{ClassOneKept, longest_before};
+ghost use Rattle.demands.specs.ClassOne.{ClassOneAlone, longest_of_class_1};
 ghost use Rattle.demands.specs.CountsSeconds.{sets_up, run_of};
 ghost use Rattle.demands.specs.Interleaved.{heard};
 ghost use Rattle.demands.specs.Outsider.{unopened, IsNeverMatched};
@@ -29,7 +29,7 @@ ghost use Rattle.demands.specs.WrongLamps.{two_lamps, one_rests};
 pub fn boards_that_meet_the_demands_are_alike<R, S>()
     ensures ours_is_one { MeetsDemands ours }
     ensures alike { (B : Board R) (C : Board S) → MeetsDemands B → MeetsDemands C → AreAlike B C }
-    ensures class_1_kept { (B : Board R) → MeetsDemands B → ClassOneKept B }
+    ensures class_1_alone { (B : Board R) → MeetsDemands B → ClassOneAlone B }
 {}
 
 /// A controller whose first line ends without the matching digest reads the ERRA line, whatever it asked, and whatever
@@ -52,9 +52,9 @@ pub fn ours_settles()
 
 /// The bounds on a reply's length are reached: in Class 1 by 32 inputs, in Class 2 by the longest name of an input
 /// (RULES, Commands).
-#[tactic(auto, using(crate::proofs::Samples::longest_before_reached, crate::proofs::Samples::longest_reply_reached))]
+#[tactic(auto, using(crate::proofs::Samples::most_of_class_1_reached, crate::proofs::Samples::longest_reply_reached))]
 pub fn the_longest_replies_are_reached()
-    ensures class_1 { (ours.receive (opened_after sockets) 0 (codes "%1INST ?\r") memory).length ≡ longest_before }
+    ensures class_1 { (ours.receive (opened_after sockets) 0 (codes "%1INST ?\r") memory).length ≡ longest_of_class_1 }
     ensures class_2 { (ours.receive (opened_after long_named) 0 (codes "%2INNM ?11\r") memory).length ≡ longest_reply }
 {}
 

@@ -3,12 +3,11 @@ pub mod CommandLines
 pub mod FormsSpelt
 pub mod GreetingCases
 pub mod GreetingsHeard
-pub mod ClassOneKept
 pub mod RepliesReadBack
 pub mod BodiesNamed
 pub mod CommandsAskedBack
 pub mod PowerAsked
-pub mod ClassOneAsked
+pub mod RowsOfClass
 pub mod SaidRows
 pub mod SaidPlain
 pub mod Nothing

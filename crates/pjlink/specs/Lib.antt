@@ -3,9 +3,8 @@ pub mod Commands
 pub mod Laws
 pub mod Forms
 pub mod Greetings
-pub mod ClassOne
 pub mod Requests
-pub mod ClassOneAsked
+pub mod RowsOfClass
 pub mod Said
 pub mod Carried
 pub mod CanSay

@@ -6,7 +6,6 @@ pub mod NumbersReadBack
 pub mod InputsReadBack
 pub mod SourcesFollowed
 pub mod ListSteps
-pub mod ClassOneKept
 pub mod Examples
 mod Utf8Table
 mod Utf8Examples

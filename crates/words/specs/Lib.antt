@@ -13,7 +13,6 @@ pub mod Classes
 pub mod Refusing
 pub mod Combinations
 pub mod Laws
-pub mod ClassOne
 pub mod Computing
 pub mod Utf8
 pub mod Utf8Worked

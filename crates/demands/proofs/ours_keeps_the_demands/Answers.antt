@@ -6,7 +6,7 @@ use Rattle.demands.proofs.Unheard.{ours_unheard}
 use Rattle.demands.proofs.BoardSwap.{ours_swap}
 use Rattle.ours.specs.Board.{ours}
 use Rattle.demands.proofs.TwoBoards.{ours_meets}
-use Rattle.demands.proofs.ClassOne.{class_1_kept}
+use Rattle.demands.proofs.ClassOne.{class_1_alone}
 use Rattle.demands.proofs.ours_keeps_the_demands.Goals as goal
 
 pub returns : goal.returns
@@ -17,5 +17,5 @@ returns c = record {
   places_stand = interleaved;
   outsider_unheard = ours_unheard;
   survives_a_swap = ours_swap;
-  class_1_kept = class_1_kept ours ours_meets;
+  class_1_alone = class_1_alone ours ours_meets;
 }
