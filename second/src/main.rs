@@ -189,7 +189,8 @@ fn page(log: &str, form: Option<&[u8]>) -> io::Result<()> {
 
 fn pages(seed: u64, count: usize, words: &[&str]) -> ExitCode {
     println!("seed {seed}");
-    let began = words.iter().find_map(|word| word.strip_prefix("--began=")).map(|text| pages::moment(text).expect("a moment"));
+    let began =
+        words.iter().find_map(|word| word.strip_prefix("--began=")).map(|text| pages::moment(text).expect("a moment"));
     match pages::compare(&program(words), seed, count, began) {
         Ok(met) => {
             println!("{met}, seed {seed}");

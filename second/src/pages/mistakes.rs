@@ -206,23 +206,25 @@ pub const MISTAKES: &[(&str, Wrong)] = &[
         let other = if sheet.drawn.began.is_some() { format!("+{hours} h") } else { format!("{hours:02}:00") };
         Some(sheet.with([(hour.text.range(), other)]))
     }),
-    ("a day has the weekday before its own", |sheet, random| {
-        let began = sheet.drawn.began?;
+    ("a day has a weekday that is not its own", |sheet, random| {
         let rows = sheet.page.rows.iter().zip(sheet.drawn.rows());
         let rows = rows.filter_map(|(shown, row)| if let Row::Day(day) = row { Some((shown, day)) } else { None });
         let (shown, day) = any(rows.collect(), random)?;
-        let wrong = began.day(day + 6)[..3].to_string() + &began.day(day)[3..];
+        let wrong = match sheet.drawn.began {
+            Some(began) => began.day(day + 6)[..3].to_string() + &began.day(day)[3..],
+            None => format!("Mon {}", sheet.drawn.day(day)),
+        };
         Some(sheet.with([(shown.name.range(), wrong)]))
     }),
-    ("a day is counted from the log's beginning", |sheet, random| {
-        sheet.drawn.began?;
+    ("a day is named as where a clock is known, or not", |sheet, random| {
         let rows = sheet.page.rows.iter().zip(sheet.drawn.rows());
         let rows = rows.filter_map(|(shown, row)| if let Row::Day(day) = row { Some((shown, day)) } else { None });
         let (shown, day) = any(rows.collect(), random)?;
-        Some(sheet.with([(shown.name.range(), format!("day {day}"))]))
+        let wrong = if sheet.drawn.began.is_some() { format!("day {day}") } else { "Mon 2026-11-23".to_string() };
+        Some(sheet.with([(shown.name.range(), wrong)]))
     }),
-    ("x is counted from the second at which the log began", |sheet, random| {
-        let second = u64::from(sheet.drawn.began?.second);
+    ("x is counted from another second than midnight", |sheet, random| {
+        let second = sheet.drawn.began.map_or(21_600, |began| u64::from(began.second));
         sheet.at_x(random, |bar| (bar.from + DAY as u64 - second) % DAY as u64)
     }),
     ("lamps are numbered from 0", |sheet, random| {

@@ -63,7 +63,11 @@ fn clock(page: &Page, drawn: &Drawn) -> Result<(), String> {
         None => "This page knows no clock:".to_string(),
     };
     let first = page.first.ok_or("it says nothing first")?;
-    if first.text.starts_with(&words) { Ok(()) } else { Err(format!("byte {}: it does not begin with {words:?}", first.at)) }
+    if first.text.starts_with(&words) {
+        Ok(())
+    } else {
+        Err(format!("byte {}: it does not begin with {words:?}", first.at))
+    }
 }
 
 fn is_drawn(bar: &Bar, drawn: &drawn::Bar) -> Result<(), String> {

@@ -9,7 +9,8 @@ fn page(drawn: &Drawn) -> String {
         Some(began) => format!("The log began on {} at {}, and on", began.day(1), began.time()),
         None => "This page knows no clock: none".to_string(),
     };
-    let mut page = format!("<!doctype html><html><body><p>{first}</p>") + "<table><thead><tr><th>day</th><th>lamp</th><th>";
+    let mut page =
+        format!("<!doctype html><html><body><p>{first}</p>") + "<table><thead><tr><th>day</th><th>lamp</th><th>";
     for hour in (0..=24u32).step_by(3) {
         let name = shows::hour_name(drawn, hour.into());
         page += &format!("<span style='left:{}%'>{name}</span>", f64::from(hour) * 100.0 / 24.0);
