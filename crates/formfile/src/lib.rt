@@ -2,6 +2,9 @@
 // set-up, or those of a stored form (RULES, Stored form) in a file.
 #![tactic(auto)]
 
+#[cfg(test)]
+mod tests;
+
 ghost use Rattle.std.specs.Prelude.{◌≡◌, ℕ, List, take, IfSome, true};
 ghost use Rattle.record.specs.Legal.{is_legal};
 ghost use Rattle.record.specs.declared.types.Device.{Device};
