@@ -46,8 +46,9 @@ seconds since the log began, and at the end each lamp's seconds.
   -V, --version          write the version
 
 Status: 0 where all was read and written, 1 where a file failed or a form
-does not load, 2 where the words above are not kept to, 3 where a line of
-the log does not belong to it.
+does not load, 2 where the words above are not kept to, 3 where a line was
+not understood, a call was refused, or a line does not belong to its
+history.
 ";
 
 struct Burnt;

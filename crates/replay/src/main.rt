@@ -42,8 +42,9 @@ end the power and each lamp's seconds.
   -V, --version          write the version
 
 Status: 0 where all was read and written, 1 where a file failed or a form
-does not load, 2 where the words above are not kept to, 3 where a line of
-the log does not belong to it.
+does not load, 2 where the words above are not kept to, 3 where a line was
+not understood, a call was refused, or a line does not belong to its
+history.
 ";
 
 struct Replay;
