@@ -1,6 +1,6 @@
 -- What is told of the stretches of specs/Settled.antt is computed.
 -- Assumes nothing.
-use Rattle.std.proofs.Common.{◌≡◌, refl, [], ◌∷◌, codes}
+use Rattle.std.proofs.Common.{◌≡◌, refl, [], ◌∷◌, codes, None}
 use Rattle.numbers.specs.Computing.{computing as numbers}
 use Rattle.textio.specs.Computing.{computing as textio}
 use Rattle.report.specs.Reports.{ended_text}
@@ -25,7 +25,8 @@ pub lines_told : AreTold Lines line_rows
 unfolding computing numbers textio
 lines_told = (refl, (refl, (refl, tt)))
 
-pub totals_told : ended_text Lines 80 1 (0 ∷ []) (60 ∷ []) (60 ∷ []) ≡ codes "lamp 1 start 0 burnt 60 now 60\n"
+pub totals_told : ended_text Lines 80 1 (0 ∷ []) (60 ∷ []) (60 ∷ []) None
+    ≡ codes "lamp 1 start 0 burnt 60 now 60\n"
 unfolding computing numbers textio
 totals_told = refl
 

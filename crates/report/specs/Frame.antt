@@ -7,11 +7,13 @@
 --   table n starts burnt lasts    "each lamp's hours and minutes, and its seconds, at the start, burnt, and now", of n
 --                                 lamps
 --   page_begun began what stands above the rows
---   page_ended began rows seconds n ..   the rows up to the end of a log of so many seconds, and what stands below them
+--   page_ended began rows seconds n .. unplayed   the rows up to the end of a log of the first kind, of so many seconds,
+--                    and what stands below them: last what was not played of it, if anything was not
 --   until_text seconds lines  until when a log of the second kind goes (RULES, History of a board: "that a log's end is
 --                    missing cannot be seen from it"): the seconds that it lets pass, and the lines that belong to it
---   stray_paragraph s    what is said of the line that does not belong, if there is one
---   page_ended_until .. lines stray    the page's end for such a log
+--   paragraph s      what is said of a log, if anything is
+--   page_ended_until .. lines stray    the page's end for such a log: last what is said of the line that does not
+--                    belong, if there is one
 -- Assumes nothing.
 use Rattle.std.specs.Prelude.{ℕ, ◌+◌, ◌/◌, ◌%◌, List, [], ◌∷◌, ◌++◌, codes, slice_index_or, Option, Some, None}
 use Rattle.std.specs.List.{flat_map, range_with_len}
@@ -144,21 +146,21 @@ page_closed = codes "</main></body></html>\n"
 unfoldable pub page_begun : Option Moment → List ℕ
 page_begun began = head ++ (clock_text began ++ (head_of_days ++ hours began))
 
-unfoldable pub page_ended : Option Moment → ℕ → ℕ → ℕ → List ℕ → List ℕ → List ℕ → List ℕ
-page_ended began rows seconds lamps starts burnt lasts = days_ended began rows (days_of (at began seconds))
-    ++ (days_closed ++ (table lamps starts burnt lasts ++ page_closed))
+abbrev pub paragraph : Option (List ℕ) → List ℕ
+paragraph None = []
+paragraph (Some s) = codes "<p>" ++ (s ++ codes "</p>\n")
+
+unfoldable pub page_ended : Option Moment → ℕ → ℕ → ℕ → List ℕ → List ℕ → List ℕ → Option (List ℕ) → List ℕ
+page_ended began rows seconds lamps starts burnt lasts unplayed = days_ended began rows (days_of (at began seconds))
+    ++ (days_closed ++ (table lamps starts burnt lasts ++ (paragraph unplayed ++ page_closed)))
 
 abbrev pub until_text : ℕ → ℕ → List ℕ
 until_text seconds lines = form_filled
     (codes "<p>The log goes until second #, line #. What came after that, if anything did, is not told.</p>\n")
     (seconds ∷ lines ∷ [])
 
-abbrev pub stray_paragraph : Option (List ℕ) → List ℕ
-stray_paragraph None = []
-stray_paragraph (Some s) = codes "<p>" ++ (s ++ codes "</p>\n")
-
 unfoldable pub page_ended_until : Option Moment → ℕ → ℕ → ℕ → List ℕ → List ℕ → List ℕ → ℕ → Option (List ℕ) → List ℕ
 page_ended_until began rows seconds lamps starts burnt lasts lines stray =
     days_ended began rows (days_of (at began seconds))
     ++ (days_closed ++ (table lamps starts burnt lasts
-    ++ (until_text seconds lines ++ (stray_paragraph stray ++ page_closed))))
+    ++ (until_text seconds lines ++ (paragraph stray ++ page_closed))))

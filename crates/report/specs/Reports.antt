@@ -3,12 +3,12 @@
 --   begun_text r                      what stands before the first stretch
 --   told_text r lit from to           what is told of a stretch of the lamps whose marks of `lit` are set
 --   report_told r lit from to         how the log is told on: a page has the rows of that stretch
---   ended_text r seconds n ..         the end of a log of so many seconds, with the totals of n lamps
+--   ended_text r seconds n .. unplayed    the end of a log of the first kind, of so many seconds, with the totals of n
+--                                     lamps; a page says too what was not played of it, if anything was not
 --   ended_until r seconds n .. lines stray    the end of one of the second kind, of so many lines that belong to it:
---                                             and
---                                     what is said of the line that does not, if there is one
+--                                     and what is said of the line that does not, if there is one
 --   stray_line s                      that as a line
---   stray_said s                      that as the code has it
+--   given_text s                      a text, or none, that the code is given
 -- Assumes nothing.
 use Rattle.std.specs.Prelude.{ℕ, Bool, true, false, List, [], ◌++◌, codes, Option, Some, None, option_map}
 use Rattle.std.specs.Borrow.{Bor}
@@ -35,16 +35,17 @@ abbrev pub report_told : Report → List Bool → ℕ → ℕ → Report
 report_told Lines lit from to = Lines
 report_told (Page p) lit from to = Page (record p { rows = rows_drawn p.began p.rows lit from to })
 
-abbrev pub ended_text : Report → ℕ → ℕ → List ℕ → List ℕ → List ℕ → List ℕ
-ended_text Lines seconds lamps starts burnt lasts = total_lines lamps starts burnt lasts
-ended_text (Page p) seconds lamps starts burnt lasts = page_ended p.began p.rows seconds lamps starts burnt lasts
+abbrev pub ended_text : Report → ℕ → ℕ → List ℕ → List ℕ → List ℕ → Option (List ℕ) → List ℕ
+ended_text Lines seconds lamps starts burnt lasts unplayed = total_lines lamps starts burnt lasts
+ended_text (Page p) seconds lamps starts burnt lasts unplayed =
+    page_ended p.began p.rows seconds lamps starts burnt lasts unplayed
 
 abbrev pub stray_line : Option (List ℕ) → List ℕ
 stray_line None = []
 stray_line (Some s) = s ++ codes "\n"
 
-abbrev pub stray_said : Option (Bor (List ℕ)) → Option (List ℕ)
-stray_said s = option_map (λ b. b.now) s
+abbrev pub given_text : Option (Bor (List ℕ)) → Option (List ℕ)
+given_text s = option_map (λ b. b.now) s
 
 abbrev pub ended_until : Report → ℕ → ℕ → List ℕ → List ℕ → List ℕ → ℕ → Option (List ℕ) → List ℕ
 ended_until Lines seconds lamps starts burnt lasts lines stray =

@@ -3,8 +3,8 @@ ghost use Rattle.std.specs.Prelude.{◌≤◌, ◌<◌};
 ghost use Rattle.textio.specs.Fronts.{WritesText};
 ghost use Rattle.report.specs.Frame.{head, no_clock, moment_text, clock_text, head_of_days, hours_since};
 ghost use Rattle.report.specs.Frame.{hours_of_day, hours};
-ghost use Rattle.report.specs.Frame.{table_row, table_rows, table, until_text, stray_paragraph};
-ghost use Rattle.report.specs.Reports.{stray_said};
+ghost use Rattle.report.specs.Frame.{table_row, table_rows, table, until_text, paragraph};
+ghost use Rattle.report.specs.Reports.{given_text};
 
 use crate::days;
 use crate::lamps::Totals;
@@ -224,12 +224,12 @@ pub fn put_until<W: ByteSink>(out: &mut W, seconds: u64, lines: u64) -> io::Resu
     )
 }
 
-/// What is said of a line that does not belong, if there is one.
-pub fn put_stray<W: ByteSink>(out: &mut W, stray: Option<&[u8]>) -> io::Result<()>
+/// What is said of a log below its totals, if anything is: as a paragraph. The text has none of `<`, `>` and `&`.
+pub fn put_paragraph<W: ByteSink>(out: &mut W, said: Option<&[u8]>) -> io::Result<()>
     ensures { WritesText W.fails_with (W.contents out.old) (W.contents out.new) result
-        (stray_paragraph (stray_said stray.entry)) }
+        (paragraph (given_text said.entry)) }
 {
-    let Some(text) = stray else {
+    let Some(text) = said else {
         return Ok(());
     };
     put(out, b"<p>")?;

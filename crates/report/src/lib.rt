@@ -10,7 +10,7 @@ pub mod theorems;
 ghost use Rattle.std.specs.Prelude.{◌≡◌, ◌≤◌, length, OnOk, OnErr};
 ghost use Rattle.textio.specs.Fronts.{WritesText};
 ghost use Rattle.report.specs.Reports.{report_new, begun_text, report_told, told_text, ended_text, ended_until};
-ghost use Rattle.report.specs.Reports.{stray_line, stray_said};
+ghost use Rattle.report.specs.Reports.{stray_line, given_text};
 
 use crate::lamps::Totals;
 use crate::page::{Sheet, Stretch};
@@ -39,7 +39,7 @@ pub struct Until<'a> {
 // What is said of a line that does not belong, if there is one, as a line.
 fn put_stray<W: ByteSink>(out: &mut W, stray: Option<&[u8]>) -> io::Result<()>
     ensures { WritesText W.fails_with (W.contents out.old) (W.contents out.new) result
-        (stray_line (stray_said stray.entry)) }
+        (stray_line (given_text stray.entry)) }
 {
     let Some(text) = stray else {
         return Ok(());
@@ -90,15 +90,22 @@ impl Report {
         }
     }
 
-    /// The end of a log of so many seconds.
-    pub fn end<W: ByteSink>(self, out: &mut W, seconds: u64, t: Totals) -> io::Result<()>
+    /// The end of a log of the first kind, of so many seconds; a page says too what was not played of it, if anything
+    /// was not.
+    pub fn end<W: ByteSink>(
+        self,
+        out: &mut W,
+        seconds: u64,
+        t: Totals,
+        unplayed: Option<&[u8]>,
+    ) -> io::Result<()>
         requires { t.count ≤ 8 }
         ensures { WritesText W.fails_with (W.contents out.old) (W.contents out.new) result
-            (ended_text self seconds t.count t.starts t.burnt t.lasts) }
+            (ended_text self seconds t.count t.starts t.burnt t.lasts (given_text unplayed.entry)) }
     {
         match self {
             Report::Lines => lamps::put_totals(out, t),
-            Report::Page(sheet) => page::end(out, sheet, seconds, t),
+            Report::Page(sheet) => page::end(out, sheet, seconds, t, unplayed),
         }
     }
 
@@ -113,7 +120,7 @@ impl Report {
         requires { t.count ≤ 8 }
         ensures { WritesText W.fails_with (W.contents out.old) (W.contents out.new) result
             (ended_until self seconds t.count t.starts t.burnt t.lasts until.entry.lines
-            (stray_said until.entry.stray)) }
+            (given_text until.entry.stray)) }
     {
         match self {
             Report::Lines => {

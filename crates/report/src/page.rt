@@ -6,7 +6,7 @@ ghost use Rattle.std.specs.Prelude.{◌≡◌, ◌≤◌, length, IfOk};
 ghost use Rattle.textio.specs.Fronts.{WritesText};
 ghost use Rattle.report.specs.Days.{at, days_of, is_any_lit, rows_drawn, stretch_drawn};
 ghost use Rattle.report.specs.Frame.{days_closed, page_begun, page_closed, page_ended, page_ended_until};
-ghost use Rattle.report.specs.Reports.{stray_said};
+ghost use Rattle.report.specs.Reports.{given_text};
 
 use crate::days::Placed;
 use crate::lamps::Totals;
@@ -116,20 +116,28 @@ fn close<W: ByteSink>(out: &mut W) -> io::Result<()>
     put(out, b"</main></body></html>\n")
 }
 
-/// The rows up to the end of a log of so many seconds, and what stands below them.
-pub fn end<W: ByteSink>(out: &mut W, sheet: Sheet, seconds: u64, t: Totals) -> io::Result<()>
+/// The rows up to the end of a log of so many seconds, and what stands below them: last what was not played of it, if
+/// anything was not.
+pub fn end<W: ByteSink>(
+    out: &mut W,
+    sheet: Sheet,
+    seconds: u64,
+    t: Totals,
+    unplayed: Option<&[u8]>,
+) -> io::Result<()>
     requires { t.count ≤ 8 }
     ensures { WritesText W.fails_with (W.contents out.old) (W.contents out.new) result
-        (page_ended sheet.began sheet.rows seconds t.count t.starts t.burnt t.lasts) }
+        (page_ended sheet.began sheet.rows seconds t.count t.starts t.burnt t.lasts (given_text unplayed.entry)) }
 {
     let last = days_until(at(sheet.began, seconds));
     days::end(out, sheet.began, sheet.rows, last)?;
     close_days(out)?;
     frame::put_table(out, t)?;
+    frame::put_paragraph(out, unplayed)?;
     close(out)
 }
 
-/// The same for a log of the second kind: and until when it goes, and what is said of a line that does not belong.
+/// The same for a log of the second kind: until when it goes, and what is said of a line that does not belong.
 pub fn end_until<W: ByteSink>(
     out: &mut W,
     sheet: Sheet,
@@ -140,13 +148,13 @@ pub fn end_until<W: ByteSink>(
     requires { t.count ≤ 8 }
     ensures { WritesText W.fails_with (W.contents out.old) (W.contents out.new) result
         (page_ended_until sheet.began sheet.rows seconds t.count t.starts t.burnt t.lasts until.entry.lines
-        (stray_said until.entry.stray)) }
+        (given_text until.entry.stray)) }
 {
     let last = days_until(at(sheet.began, seconds));
     days::end(out, sheet.began, sheet.rows, last)?;
     close_days(out)?;
     frame::put_table(out, t)?;
     frame::put_until(out, seconds, until.lines)?;
-    frame::put_stray(out, until.stray)?;
+    frame::put_paragraph(out, until.stray)?;
     close(out)
 }

@@ -1,6 +1,6 @@
 // What is proved beside the contracts of the functions. Nothing is done here: that this function has its contract is
 // that the theorems stand.
-ghost use Rattle.std.specs.Prelude.{◌≡◌, [], ◌∷◌, codes};
+ghost use Rattle.std.specs.Prelude.{◌≡◌, [], ◌∷◌, codes, None};
 ghost use Rattle.report.specs.Reports.{ended_text};
 ghost use Rattle.report.specs.Settled.{AreTold, plain_page, clock_page, bar_rows, day_rows, clock_rows};
 ghost use Rattle.report.specs.Settled.{line_rows};
@@ -14,5 +14,6 @@ pub fn stretches_are_told_so()
     ensures days { AreTold (plain_page 1) day_rows }
     ensures clock { AreTold (clock_page 1) clock_rows }
     ensures lines { AreTold Lines line_rows }
-    ensures totals { ended_text Lines 80 1 (0 ∷ []) (60 ∷ []) (60 ∷ []) ≡ codes "lamp 1 start 0 burnt 60 now 60\n" }
+    ensures totals { ended_text Lines 80 1 (0 ∷ []) (60 ∷ []) (60 ∷ []) None
+        ≡ codes "lamp 1 start 0 burnt 60 now 60\n" }
 {}

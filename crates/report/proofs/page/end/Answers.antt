@@ -20,8 +20,17 @@ returns-in_err-put_table g c =
     (writes_then c.in_ok-close_days.ensures
     (writes_fails _ c.in_err-put_table.ensures c.from_residual-in_err-put_table.ensures))
 
+pub returns-in_err-put_paragraph : goal.returns-in_err-put_paragraph
+unfolding page_ended
+returns-in_err-put_paragraph g c =
+    writes_then (rw (c.days_until-last.ensures, c.at.ensures) at c.in_ok-end.ensures)
+    (writes_then c.in_ok-close_days.ensures
+    (writes_then c.in_ok-put_table.ensures
+    (writes_fails _ c.in_err-put_paragraph.ensures c.from_residual-in_err-put_paragraph.ensures)))
+
 pub returns : goal.returns
 unfolding page_ended
 returns g c =
     writes_then (rw (c.days_until-last.ensures, c.at.ensures) at c.in_ok-end.ensures)
-    (writes_then c.in_ok-close_days.ensures (writes_then c.in_ok-put_table.ensures c.close.ensures))
+    (writes_then c.in_ok-close_days.ensures
+    (writes_then c.in_ok-put_table.ensures (writes_then c.in_ok-put_paragraph.ensures c.close.ensures)))

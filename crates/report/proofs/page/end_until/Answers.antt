@@ -28,14 +28,14 @@ returns-in_err-put_until g c =
     (writes_then c.in_ok-put_table.ensures
     (writes_fails _ c.in_err-put_until.ensures c.from_residual-in_err-put_until.ensures)))
 
-pub returns-in_err-put_stray : goal.returns-in_err-put_stray
+pub returns-in_err-put_paragraph : goal.returns-in_err-put_paragraph
 unfolding page_ended_until
-returns-in_err-put_stray g c =
+returns-in_err-put_paragraph g c =
     writes_then (rw (c.days_until-last.ensures, c.at.ensures) at c.in_ok-end.ensures)
     (writes_then c.in_ok-close_days.ensures
     (writes_then c.in_ok-put_table.ensures
     (writes_then c.in_ok-put_until.ensures
-    (writes_fails _ c.in_err-put_stray.ensures c.from_residual-in_err-put_stray.ensures))))
+    (writes_fails _ c.in_err-put_paragraph.ensures c.from_residual-in_err-put_paragraph.ensures))))
 
 pub returns : goal.returns
 unfolding page_ended_until
@@ -43,4 +43,4 @@ returns g c =
     writes_then (rw (c.days_until-last.ensures, c.at.ensures) at c.in_ok-end.ensures)
     (writes_then c.in_ok-close_days.ensures
     (writes_then c.in_ok-put_table.ensures
-    (writes_then c.in_ok-put_until.ensures (writes_then c.in_ok-put_stray.ensures c.close.ensures))))
+    (writes_then c.in_ok-put_until.ensures (writes_then c.in_ok-put_paragraph.ensures c.close.ensures))))

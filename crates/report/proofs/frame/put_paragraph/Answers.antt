@@ -1,5 +1,5 @@
 use Rattle.textio.proofs.Fronts.{writes_then, writes_fails}
-use Rattle.report.proofs.frame.put_stray.Goals as goal
+use Rattle.report.proofs.frame.put_paragraph.Goals as goal
 
 pub returns-in_err-put : goal.returns-in_err-put
 returns-in_err-put g c =
