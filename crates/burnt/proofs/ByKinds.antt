@@ -125,7 +125,7 @@ module _ {begun : Device} {sum : ℕ} {way : Report} {o : Both} (n : IsBegun beg
           ≡ (if t then chain_told begun sum way log else log_told begun way log)
       by true =
           chain_begins begun sum way o.history n.chain_starts n.chain_report n.chain_watch n.log n.lines n.stray log
-      by false = teller_begun begun way o.events n.starts n.report n.watch log
+      by false = teller_begun begun way o.events n.starts n.report n.watch n.floor_lines n.unplayed log
 
   pub too_much : (log : List ℕ) → IsTooLong log ⊎ Overflows o (kept_lines log) → IsTooMuch log
   too_much log h = by (is_history (kept_lines log)) (moved h)
@@ -217,7 +217,7 @@ module _ {begun : Device} {sum : ℕ} {way : Report} {o : Both} (n : IsBegun beg
           let floor : TellerLeft o.events b.told after.events
           = subst (λ (t : Bool). MatchBool t (IsChainLeft o.history b.told after.history)
           (TellerLeft o.events b.told after.events)) mine at.1 in
-          teller_so_far begun way o.events n.starts n.report n.watch after.events b.told b.text
+          teller_so_far begun way o.events n.starts n.report n.watch n.floor_lines n.unplayed after.events b.told b.text
           (sym (if_no (teller_writes o.history b.told) (teller_told o.events b.told) mine)
           ∙ all ∙ ap (λ (l : List ℕ). b.text ++ l) (if_no _ _ (at.0 ∙ mine))) floor
           ∙ sym (ap (λ es. tellings_text way (told_within (watching_from begun) es)) (if_no _ _ is))

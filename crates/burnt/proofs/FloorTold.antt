@@ -18,7 +18,7 @@ use Rattle.floorlog.specs.Unplayed.{none_unplayed, why_misread, line_noted, said
 use Rattle.floorlog.specs.declared.unplayed.Unplayed.{Unplayed}
 use Rattle.floorlog.proofs.UnplayedBy.{unplayed_none, unplayed_more, said_kept}
 use Rattle.watch.specs.Watching.{Step, Watching, watching_from}
-use Rattle.watch.specs.Telling.{floor_events, floor_unplayed, telling_if, after_log}
+use Rattle.watch.specs.Telling.{floor_events, floor_unplayed, telling_if, told_at_end, after_log}
 use Rattle.watch.specs.States.{IsWatched, state_of}
 use Rattle.watch.proofs.LinesKept.{floor_events_kept, floor_event_of_front}
 use Rattle.watch.proofs.TellingsSpelt.{after_none, seconds_most_lem}
@@ -26,7 +26,7 @@ use Rattle.report.specs.Reports.{begun_text}
 use Rattle.report.specs.declared.Report.{Report}
 use Rattle.burnt.specs.Told.{tellings_text, report_after, told_from, told_within, totals_text, log_told, IsUntold}
 use Rattle.burnt.specs.declared.telling.Teller.{Teller}
-use Rattle.burnt.proofs.TellingsTold.{report_within_none}
+use Rattle.burnt.proofs.TellingsTold.{report_within_none, told_none}
 use Rattle.burnt.proofs.LinesTold.{step_left, step_told, step_reported, text_so_far}
 
 module _ (s : Watching) (e : FloorEvent) (es : List FloorEvent) where
@@ -51,15 +51,14 @@ module _ (s : Watching) (e : FloorEvent) (es : List FloorEvent) where
     pub line_left : after_log after (floor_steps after.device es) ≡ after_log s (floor_steps s.device (e ∷ es))
     line_left = ap (after_log after) same ∙ step_left w steps
 
-    module _ (starts : List ℕ) (r : Report) where
-      pub line_told : {then : Report} → then ≡ report_after r (telling_if ended after)
-          → told_from (totals_text starts) r s (floor_steps s.device (e ∷ es))
-          ≡ tellings_text r (telling_if ended after)
-          ++ told_from (totals_text starts) then after (floor_steps after.device es)
-      line_told {then} told =
-          step_told w steps r told (totals_text starts)
-          ∙ ap (λ (l : List Step). tellings_text r (telling_if ended after)
-          ++ told_from (totals_text starts) then after l) (sym same)
+    module _ (r : Report) where
+      pub line_told : (end : Report → Watching → List ℕ) {then : Report}
+          → then ≡ report_after r (telling_if ended after)
+          → told_from end r s (floor_steps s.device (e ∷ es))
+          ≡ tellings_text r (telling_if ended after) ++ told_from end then after (floor_steps after.device es)
+      line_told end {then} told =
+          step_told w steps r told end
+          ∙ ap (λ (l : List Step). tellings_text r (telling_if ended after) ++ told_from end then after l) (sym same)
 
       pub line_reported : {then last : Report} → then ≡ report_after r (telling_if ended after)
           → last ≡ report_after then (told_within after (floor_steps after.device es))
@@ -69,10 +68,11 @@ module _ (s : Watching) (e : FloorEvent) (es : List FloorEvent) where
           (h ∙ ap (λ (l : List Step). report_after then (told_within after l)) same)
 
       -- only some of what ended with it could be told
-      pub line_cut : {old new : Option (List ℕ)} → WritesFront old new (tellings_text r (telling_if ended after))
-          → WritesFront old new (told_from (totals_text starts) r s (floor_steps s.device (e ∷ es)))
-      line_cut {old} {new} f =
-          subst (WritesFront old new) (sym (line_told refl)) (front_more old new _ _ f)
+      pub line_cut : (end : Report → Watching → List ℕ) {old new : Option (List ℕ)}
+          → WritesFront old new (tellings_text r (telling_if ended after))
+          → WritesFront old new (told_from end r s (floor_steps s.device (e ∷ es)))
+      line_cut end {old} {new} f =
+          subst (WritesFront old new) (sym (line_told end refl)) (front_more old new _ _ f)
 
 -- a log that cannot be told has as many bytes
 pub untold_bytes : (log : List ℕ) → IsUntold log → 2 ^ 32 ≤ length log
@@ -97,9 +97,15 @@ untold first none log (inr (inr e)) =
       length-map (lines_in log) (λ (l : LogLine). l.text),
     )))
 
+-- what is not played, when these lines have come
+abbrev pub unplayed_then : Teller → List LogLine → Unplayed
+unplayed_then t ls =
+    unplayed_by watched_answer done_by t.unplayed t.lines t.watch.tested.device
+    (map (said_line floor_event) (texts_of ls))
+
 abbrev pub teller_told : Teller → List LogLine → List ℕ
 teller_told t ls =
-    told_from (totals_text t.starts) t.report (state_of t.watch)
+    told_from (totals_text t.starts (unplayed_then t ls)) t.report (state_of t.watch)
     (floor_steps t.watch.tested.device (map floor_event (texts_of ls)))
 
 abbrev pub TellerLeft : Teller → List LogLine → Teller → Type 0
@@ -107,19 +113,31 @@ TellerLeft t ls last =
     let es = floor_steps t.watch.tested.device (map floor_event (texts_of ls)) in
     (last.starts ≡ t.starts) × (last.report ≡ report_after t.report (told_within (state_of t.watch) es))
     × (state_of last.watch ≡ after_log (state_of t.watch) es)
-    × (last.unplayed ≡ unplayed_by watched_answer done_by t.unplayed t.lines t.watch.tested.device
-    (map (said_line floor_event) (texts_of ls)))
+    × (last.unplayed ≡ unplayed_then t ls)
 
 abbrev pub TellerOverflows : Teller → List LogLine → Type 0
 TellerOverflows t ls =
     (2 ^ 64 ≤ t.watch.time + sum_by seconds_by (map floor_event (texts_of ls))) ⊎ (2 ^ 64 ≤ t.lines + length ls)
 
+pub all_unplayed : (t : Teller) (begun : Device) → t.unplayed ≡ none_unplayed → t.lines ≡ 0
+    → state_of t.watch ≡ watching_from begun → (log : List ℕ)
+    → unplayed_then t (kept_lines log) ≡ floor_unplayed begun log
+all_unplayed t begun none first watch log =
+    (λ i. unplayed_by watched_answer done_by (none i) (first i) (watch i).device
+    (said_kept floor_event floor_event_of_front log i))
+
+-- no line more
+pub still_unplayed : (t : Teller) → unplayed_then t [] ≡ t.unplayed
+still_unplayed t = unplayed_none watched_answer done_by t.unplayed t.lines t.watch.tested.device
+
 module _ (begun : Device) (way : Report) (t : Teller) (starts : t.starts ≡ begun.own.lamps)
-    (report : t.report ≡ way) (watch : state_of t.watch ≡ watching_from begun) where
+    (report : t.report ≡ way) (watch : state_of t.watch ≡ watching_from begun) (first : t.lines ≡ 0)
+    (none : t.unplayed ≡ none_unplayed) where
   pub teller_begun : (log : List ℕ)
       → begun_text way ++ teller_told t (kept_lines log) ≡ log_told begun way log
   teller_begun log =
-      (λ i. begun_text way ++ told_from (totals_text (starts i)) (report i) (watch i)
+      (λ i. begun_text way
+      ++ told_from (totals_text (starts i) (all_unplayed t begun none first watch log i)) (report i) (watch i)
       (floor_steps (watch i).device (floor_events_kept log i)))
 
   -- where a read fails
@@ -129,8 +147,10 @@ module _ (begun : Device) (way : Report) (t : Teller) (starts : t.starts ≡ beg
       (told_within (watching_from begun) (floor_steps begun (map floor_event (texts_of ls))))
   teller_so_far after ls text all at =
       let events = map floor_event (texts_of ls) in
-      text_so_far (totals_text t.starts) t.report (state_of t.watch) (floor_steps t.watch.tested.device events) all
-      (λ i. told_from (totals_text (at.0 i)) (at.1 i) (at.2 i) [])
+      let unplayed : unplayed_then after [] ≡ unplayed_then t ls = still_unplayed after ∙ at.3 in
+      text_so_far (totals_text t.starts (unplayed_then t ls)) t.report (state_of t.watch)
+      (floor_steps t.watch.tested.device events) all
+      (λ i. told_from (totals_text (at.0 i) (unplayed i)) (at.1 i) (at.2 i) [])
       ∙ (λ i. tellings_text (report i) (told_within (watch i) (floor_steps (watch i).device events)))
 
 pub teller_itself : (t : Teller) → TellerLeft t [] t
@@ -138,7 +158,7 @@ teller_itself t = (
   refl,
   sym (report_within_none t.report (state_of t.watch)),
   sym (after_none (state_of t.watch)),
-  sym (unplayed_none watched_answer done_by t.unplayed t.lines t.watch.tested.device),
+  sym (still_unplayed t),
 )
 
 pub teller_itself_ok : {T E : Type 0} (t : Teller) (r : Result T E) → OnOk r (TellerLeft t [] t)
@@ -151,8 +171,7 @@ pub line_unplayed : (t : Teller) (line : LogLine) (ls : List LogLine) {unplayed 
     → unplayed ≡ line_noted t.unplayed (t.lines + 1) (why_misread line.text)
     (watched_answer t.watch.tested.device (floor_event line.text))
     → last ≡ unplayed_by watched_answer done_by unplayed lines device (map (said_line floor_event) (texts_of ls))
-    → last ≡ unplayed_by watched_answer done_by t.unplayed t.lines t.watch.tested.device
-    (map (said_line floor_event) (texts_of (line ∷ ls)))
+    → last ≡ unplayed_then t (line ∷ ls)
 line_unplayed t line ls more is noted h =
     h ∙ (λ i. unplayed_by watched_answer done_by (noted i) (more i) (is i) (map (said_line floor_event) (texts_of ls)))
     ∙ sym (unplayed_more watched_answer done_by t.unplayed t.lines t.watch.tested.device
@@ -167,10 +186,32 @@ line_over t line ls more watched (inl h) =
     inl (line_counted (state_of t.watch) (floor_event line.text) (map floor_event (texts_of ls)) watched h)
 line_over t line ls more watched (inr h) = inr (omega (arith, more, h))
 
-pub all_unplayed : (t : Teller) (begun : Device) → t.unplayed ≡ none_unplayed → t.lines ≡ 0
-    → state_of t.watch ≡ watching_from begun → (log : List ℕ)
-    → unplayed_by watched_answer done_by t.unplayed t.lines t.watch.tested.device
-    (map (said_line floor_event) (texts_of (kept_lines log))) ≡ floor_unplayed begun log
-all_unplayed t begun none first watch log =
-    (λ i. unplayed_by watched_answer done_by (none i) (first i) (watch i).device
-    (said_kept floor_event floor_event_of_front log i))
+-- the stretches that are under way, and then the totals
+pub told_ended : (t : Teller) → let s = state_of t.watch in
+    teller_told t [] ≡ tellings_text t.report (told_at_end s)
+    ++ totals_text t.starts t.unplayed (report_after t.report (told_at_end s)) s
+told_ended t =
+    (λ i. told_from (totals_text t.starts (still_unplayed t i)) t.report (state_of t.watch) [])
+    ∙ told_none (totals_text t.starts t.unplayed) t.report (state_of t.watch)
+
+-- what is said of a line more, and of those that come after it
+pub line_more : (t : Teller) (line : LogLine) (ls : List LogLine) {unplayed : Unplayed} {lines : ℕ} {then : Report}
+    {after : Watching} {ended : Bool}
+    → lines ≡ t.lines + 1
+    → IsWatched (state_of t.watch) (floor_step t.watch.tested.device (floor_event line.text)) after ended
+    → unplayed ≡ line_noted t.unplayed (t.lines + 1) (why_misread line.text)
+    (watched_answer t.watch.tested.device (floor_event line.text))
+    → then ≡ report_after t.report (telling_if ended after)
+    → teller_told t (line ∷ ls) ≡ tellings_text t.report (telling_if ended after)
+    ++ told_from (totals_text t.starts (unplayed_by watched_answer done_by unplayed lines after.device
+    (map (said_line floor_event) (texts_of ls)))) then after
+    (floor_steps after.device (map floor_event (texts_of ls)))
+line_more t line ls {unplayed} {lines} {then} {after} more watched noted told =
+    let e = floor_event line.text in
+    let u = unplayed_by watched_answer done_by unplayed lines after.device
+    (map (said_line floor_event) (texts_of ls)) in
+    let all : u ≡ unplayed_then t (line ∷ ls)
+    = line_unplayed t line ls more (ap (λ (x : Watching). x.device) watched.state) noted refl in
+    sym (λ i. told_from (totals_text t.starts (all i)) t.report (state_of t.watch)
+    (floor_steps t.watch.tested.device (map floor_event (texts_of (line ∷ ls)))))
+    ∙ line_told (state_of t.watch) e (map floor_event (texts_of ls)) watched t.report (totals_text t.starts u) told

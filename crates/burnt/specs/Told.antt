@@ -4,18 +4,21 @@
 --   told_within s es         the stretches that end with the steps es, from the state s on, and not with the log
 --   told_from end r s es     what is written of the steps es, from the state s on, and at their end: the stretches that
 --                            are under way, and then what `end` says of the report and the state there
---   totals_text starts r s   what stands at the end of a log of the first kind that began with these seconds of its
---                            lamps and leaves the state s
+--   words_unplayed u         the words for what was not played, if anything was not
+--   totals_text starts u r s   what stands at the end of a log of the first kind that began with these seconds of its
+--                            lamps, of which u was not played, and that leaves the state s
 --   log_told d way log       what is written of a whole log of the first kind that begins with the device d, as the
 --                            report `way` has it
 --   IsUntold log             it has more lines, or more bytes in one, or lets more seconds pass, than 64 bits count
 -- Assumes nothing.
-use Rattle.std.specs.Prelude.{ℕ, ◌⊎◌, min, List, [], ◌∷◌, ◌++◌}
+use Rattle.std.specs.Prelude.{ℕ, ◌+◌, ◌==◌, ◌⊎◌, min, if◌then◌else◌, List, [], ◌∷◌, ◌++◌, Option, Some, None}
 use Rattle.record.specs.declared.types.Device.{Device}
 use Rattle.clock.specs.Second.{marks_in}
 use Rattle.textio.specs.Lines.{IsTooLong}
+use Rattle.floorlog.specs.Unplayed.{unplayed_text}
+use Rattle.floorlog.specs.declared.unplayed.Unplayed.{Unplayed}
 use Rattle.watch.specs.Watching.{Step, Watching, watching_from, watched_on, burnt_by}
-use Rattle.watch.specs.Telling.{log_steps, Telling, told_on, tellings, after_log, IsUncounted}
+use Rattle.watch.specs.Telling.{log_steps, Telling, told_on, tellings, after_log, floor_unplayed, IsUncounted}
 use Rattle.report.specs.Reports.{begun_text, report_told, told_text, ended_text}
 use Rattle.report.specs.declared.Report.{Report}
 
@@ -38,13 +41,17 @@ told_from end r s es = let ts = tellings s es in tellings_text r ts ++ end (repo
 
 -- ---- of a log of the first kind
 
-abbrev pub totals_text : List ℕ → Report → Watching → List ℕ
-totals_text starts r s =
-    ended_text r s.time (min s.device.settings.lamp_count 8) starts (burnt_by s) s.device.own.lamps
+abbrev pub words_unplayed : Unplayed → Option (List ℕ)
+words_unplayed u = if u.misread + u.refused == 0 then None else Some (unplayed_text u)
+
+abbrev pub totals_text : List ℕ → Unplayed → Report → Watching → List ℕ
+totals_text starts u r s =
+    ended_text r s.time (min s.device.settings.lamp_count 8) starts (burnt_by s) s.device.own.lamps (words_unplayed u)
 
 abbrev pub log_told : Device → Report → List ℕ → List ℕ
 log_told d way log =
-    begun_text way ++ told_from (totals_text d.own.lamps) way (watching_from d) (log_steps d log)
+    begun_text way
+    ++ told_from (totals_text d.own.lamps (floor_unplayed d log)) way (watching_from d) (log_steps d log)
 
 abbrev pub IsUntold : List ℕ → Type 0
 IsUntold log = IsTooLong log ⊎ IsUncounted log

@@ -22,7 +22,7 @@ use floorlog::kept::KeptLine;
 use floorlog::kinds::ByKind;
 use floorlog::observer;
 use floorlog::observer::Observer;
-use floorlog::unplayed::Unplayed;
+use floorlog::unplayed::{Unplayed, UnplayedText};
 use program::telling::Ending;
 use record::types::Device;
 use report::Report;
@@ -76,6 +76,27 @@ pub fn totals_of(watch: &Watch, starts: [u32; LAMPS]) -> Totals
     }
 }
 
+// What stands last: the seconds of each lamp, and on a page what was not played, if anything was not.
+fn tell_totals<W: ByteSink>(
+    report: Report,
+    watch: &Watch,
+    starts: [u32; LAMPS],
+    unplayed: &Unplayed,
+    to: &mut W,
+) -> io::Result<()>
+    ensures { WritesText W.fails_with (W.contents to.old) (W.contents to.new) result
+        (totals_text starts unplayed.now report (state_of watch.now)) }
+{
+    let totals = totals_of(watch, starts);
+    let time = watch.time();
+    if unplayed.is_none() {
+        return report.end(to, time, totals, None);
+    }
+    let mut text = UnplayedText::new();
+    unplayed.put(&mut text);
+    report.end(to, time, totals, Some(text.as_slice()))
+}
+
 /// A log of the first kind that is watched, as it is told: its lamps had these seconds where it began; so many of its
 /// lines came; and this of them was not played.
 #[derive(Drop)]
@@ -116,7 +137,9 @@ impl Teller {
 }
 
 impl Observer for Teller {
-    ghost output = { λ t ls. told_from (totals_text t.starts) t.report (state_of t.watch)
+    ghost output = { λ t ls. let u = unplayed_by watched_answer done_by t.unplayed t.lines t.watch.tested.device
+        (map (said_line floor_event) (texts_of ls)) in
+        told_from (totals_text t.starts u) t.report (state_of t.watch)
         (floor_steps t.watch.tested.device (map floor_event (texts_of ls))) };
 
     ghost leaves = { λ t ls last. let es = floor_steps t.watch.tested.device (map floor_event (texts_of ls)) in
@@ -147,7 +170,7 @@ impl Observer for Teller {
     fn end<W: ByteSink>(&mut self, to: &mut W) -> io::Result<()> {
         let mut report = self.report;
         tell_ended(self.watch.is_underway(), &mut report, &self.watch, to)?;
-        report.end(to, self.watch.time(), totals_of(&self.watch, self.starts))
+        tell_totals(report, &self.watch, self.starts, &self.unplayed, to)
     }
 }
 

@@ -7,8 +7,8 @@
 --   table n starts burnt lasts    "each lamp's hours and minutes, and its seconds, at the start, burnt, and now", of n
 --                                 lamps
 --   page_begun began what stands above the rows
---   page_ended began rows seconds n .. unplayed   the rows up to the end of a log of the first kind, of so many seconds,
---                    and what stands below them: last what was not played of it, if anything was not
+--   page_ended began rows seconds n .. unplayed   the rows up to the end of a log of the first kind, of so many
+--                    seconds, and what stands below them: last what was not played of it, if anything was not
 --   until_text seconds lines  until when a log of the second kind goes (RULES, History of a board: "that a log's end is
 --                    missing cannot be seen from it"): the seconds that it lets pass, and the lines that belong to it
 --   paragraph s      what is said of a log, if anything is

@@ -130,6 +130,8 @@ pub struct Told {
     pub seconds: u128,
     /// What is said of a line that does not belong to its history.
     pub stray: Option<String>,
+    /// What is said of a log of the first kind that was not all played; nothing of one that was.
+    pub unplayed: String,
 }
 
 /// What is told of a log in memory, or the number of a form that does not load.
@@ -140,7 +142,12 @@ pub fn told(form: Option<&[u8]>, log: &[u8]) -> Result<Told, u32> {
         Ok(())
     });
     let Followed { watch, stray } = watch.expect("memory is read");
-    Ok(Told { stretches, lamps: watch.sums().collect(), seconds: watch.second, stray })
+    let unplayed = if history::is_history(log) {
+        String::new()
+    } else {
+        unplayed::words(&unplayed::RIGHT, notes((RIGHT.device)(form)?, log))
+    };
+    Ok(Told { stretches, lamps: watch.sums().collect(), seconds: watch.second, stray, unplayed })
 }
 
 /// How `burnt` ends, and what it says.
@@ -149,10 +156,15 @@ pub fn due(form: Option<&[u8]>, log: &[u8]) -> Due {
 }
 
 pub fn due_by(says: &Says, form: Option<&[u8]>, log: &[u8]) -> Due {
-    let Ok(mut projector) = device(form) else { return Due::REFUSED };
+    let Ok(projector) = device(form) else { return Due::REFUSED };
     if history::is_history(log) {
         return Due::ended(stray_words(told(form, log).expect("the form loads").stray));
     }
+    Due::ended(unplayed::words(says, notes(projector, log)))
+}
+
+/// The lines of a log of the first kind that are not played.
+fn notes(mut projector: Projector, log: &[u8]) -> Vec<Note> {
     let notes = (1..).zip(lines(log).map(text_of)).filter_map(|(number, line)| {
         let came = match mark(line) {
             Some((lamp, enabled)) => Some(projector.set_mark(lamp, enabled).map_err(Some)),
@@ -164,7 +176,7 @@ pub fn due_by(says: &Says, form: Option<&[u8]>, log: &[u8]) -> Due {
         let refused = came.unwrap_or(Err(None)).err()?;
         Some(Note { number, line: line.to_vec(), refused })
     });
-    Due::ended(unplayed::words(says, notes.collect()))
+    notes.collect()
 }
 
 fn in_memory(steps: &Steps, form: Option<&[u8]>, log: &[u8]) -> Vec<u8> {

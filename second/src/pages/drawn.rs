@@ -18,6 +18,8 @@ pub struct Drawn {
     pub sums: Vec<Sum>,
     /// RULES, History of a board: what is said of a line that does not belong.
     pub stray: Option<String>,
+    /// RULES, The programs: what is said of a log that was not all played; nothing of one that was.
+    pub unplayed: String,
     /// When the log began, where that is known.
     pub began: Option<Moment>,
 }
@@ -100,7 +102,7 @@ pub fn drawn(told: Told, began: Option<Moment>) -> Drawn {
     let midnight = began.map_or(0, |began| began.second.into());
     let days = (midnight + told.seconds).div_ceil(DAY).max(1);
     let days = vec![vec![Vec::new(); told.lamps.len()]; days as usize];
-    let mut drawn = Drawn { days, sums: told.lamps, stray: told.stray, began };
+    let mut drawn = Drawn { days, sums: told.lamps, stray: told.stray, unplayed: told.unplayed, began };
     for (place, stretch) in told.stretches {
         for day in (midnight + stretch.from) / DAY..(midnight + stretch.to).div_ceil(DAY) {
             let second =

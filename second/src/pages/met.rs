@@ -10,9 +10,10 @@ use crate::replay::lines;
 use crate::tally::Tally;
 use std::fmt;
 
-pub const KINDS: [&str; 17] = [
+pub const KINDS: [&str; 18] = [
     "a history",
     "a line that does not belong",
+    "lines or calls that were not played",
     "a form that does not load",
     "no lamp",
     "eight lamps",
@@ -65,6 +66,7 @@ impl Met {
         let at_limit = |sum: &Sum| u128::from(sum.start) + sum.burnt > sum.now.into();
         for (kind, is_met) in [
             ("a line that does not belong", drawn.stray.is_some()),
+            ("lines or calls that were not played", !drawn.unplayed.is_empty()),
             ("no lamp", drawn.sums.is_empty()),
             ("eight lamps", drawn.sums.len() == 8),
             ("a lamp at its limit", drawn.sums.iter().any(at_limit)),

@@ -306,6 +306,34 @@ pub const MISTAKES: &[(&str, Wrong)] = &[
         let words = "<p>! line 1: no such line</p>".to_string();
         sheet.page.strays.is_empty().then(|| sheet.with([(before..before, words)]))
     }),
+    // "the page says it too, in one paragraph at its end"
+    ("it is not said what was not played", |sheet, _| {
+        Some(sheet.without(sheet.page.others.first()?.range.clone()))
+    }),
+    ("it is said twice what was not played", |sheet, _| {
+        let range = sheet.page.others.first()?.range.clone();
+        Some(sheet.with([(range.end..range.end, sheet.text[range].to_string())]))
+    }),
+    ("another number of lines or calls was not played", |sheet, _| {
+        let text = sheet.page.others.first()?.text;
+        let (of, count) = text.text.split_once(';')?.0.rsplit_once(' ')?;
+        let (start, next) = (text.at + of.len() + 1, count.parse::<u64>().ok()? + 1);
+        Some(sheet.with([(start..start + count.len(), next.to_string())]))
+    }),
+    ("of lines and calls that were not played the calls are left out", |sheet, _| {
+        let text = sheet.page.others.first()?.text;
+        let lines = text.text.find("calls refused: ").filter(|at| *at > 0)?;
+        Some(sheet.with([(text.at + lines..text.range().end, String::new())]))
+    }),
+    ("what was not played stands above the lamps", |sheet, _| {
+        let (range, table) = (sheet.page.others.first()?.range.clone(), sheet.page.table.range.start);
+        Some(sheet.with([(table..table, sheet.text[range.clone()].to_string()), (range, String::new())]))
+    }),
+    ("a call is said to be refused where none was", |sheet, _| {
+        let end = sheet.page.table.range.end;
+        let words = "<p>calls refused: 1; line 1: place 0 is not closed (5)</p>".to_string();
+        sheet.page.others.is_empty().then(|| sheet.with([(end..end, words)]))
+    }),
     // "one HTML document with no script in it"
     ("a closing tag is left out", |sheet, random| Some(sheet.without(any(sheet.page.closings.clone(), random)?))),
     ("a drawing is not closed", |sheet, random| {

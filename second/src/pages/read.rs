@@ -19,16 +19,17 @@ pub struct Page<'a> {
     pub rows: Vec<Row<'a>>,
     pub table: Table<'a>,
     /// Paragraphs that begin with `! `.
-    pub strays: Vec<Stray<'a>>,
+    pub strays: Vec<Paragraph<'a>>,
+    /// Those that say neither this, nor what the page is, nor until when its log goes.
+    pub others: Vec<Paragraph<'a>>,
     /// What its styles say of classes.
     styles: &'a str,
     /// Every closing tag.
     pub closings: Vec<Range<usize>>,
 }
 
-/// What is said of a line that does not belong.
 #[derive(Debug)]
-pub struct Stray<'a> {
+pub struct Paragraph<'a> {
     pub range: Range<usize>,
     pub text: Part<'a>,
 }
@@ -105,6 +106,7 @@ pub struct Rect<'a> {
 
 #[derive(Debug)]
 pub struct Table<'a> {
+    pub range: Range<usize>,
     /// The heads of its columns.
     pub heads: Vec<Part<'a>>,
     pub totals: Vec<Total<'a>>,
@@ -125,11 +127,16 @@ pub fn read(text: &str) -> Result<Page<'_>, String> {
         None => "",
     };
     let closings = all.iter().filter_map(|element| element.closing.clone()).collect();
-    let paragraphs = all.iter().filter(|element| element.name == "p");
-    let first = all.iter().find(|element| element.name == "p").and_then(|element| element.text().ok());
-    let strays = paragraphs.filter_map(|element| Some((element.range.clone(), element.text().ok()?)));
-    let strays = strays.filter(|(_, text)| text.text.starts_with("! "));
-    let strays = strays.map(|(range, text)| Stray { range, text }).collect();
+    let mut paragraphs = all.iter().filter(|element| element.name == "p");
+    let first = paragraphs.next().and_then(|element| element.text().ok());
+    let paragraphs = paragraphs.map(|element| Ok(Paragraph { range: element.range.clone(), text: element.text()? }));
+    let paragraphs = paragraphs.filter(|said: &Result<_, String>| {
+        !said.as_ref().is_ok_and(|said: &Paragraph| said.text.text.starts_with("The log goes until second "))
+    });
+    let (strays, others) = paragraphs
+        .collect::<Result<Vec<_>, _>>()?
+        .into_iter()
+        .partition(|said: &Paragraph| said.text.text.starts_with("! "));
     let tables: Vec<_> = all.iter().filter(|element| element.name == "table").collect();
     let [days, lamps] = tables[..] else { return Err("it has not just two tables".to_string()) };
     let (heads, rows) = parts(days)?;
@@ -141,7 +148,7 @@ pub fn read(text: &str) -> Result<Page<'_>, String> {
     if drawings(&html) != drawings(days) {
         return Err("a drawing stands outside the table of the days".to_string());
     }
-    Ok(Page { first, hours, rows, table: table(lamps)?, strays, styles, closings })
+    Ok(Page { first, hours, rows, table: table(lamps)?, strays, others, styles, closings })
 }
 
 /// The row of a table's head, and the rows below it. Each row of a table is in one of the two.
@@ -323,7 +330,8 @@ fn table<'a>(table: &Element<'a>) -> Result<Table<'a>, String> {
         let cells = texts(row)?.try_into().map_err(|_| at(row, "it has not four cells"))?;
         Ok(Total { range: row.range.clone(), cells })
     };
-    Ok(Table { heads: texts(heads)?, totals: rows.into_iter().map(total).collect::<Result<_, String>>()? })
+    let totals = rows.into_iter().map(total).collect::<Result<_, String>>()?;
+    Ok(Table { range: table.range.clone(), heads: texts(heads)?, totals })
 }
 
 fn texts<'a>(row: &Element<'a>) -> Result<Vec<Part<'a>>, String> {

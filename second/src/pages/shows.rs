@@ -34,6 +34,7 @@ pub fn shows(page: &Page, drawn: &Drawn) -> Result<(), String> {
     }
     colours(page)?;
     stray(page, drawn)?;
+    unplayed(page, drawn)?;
     totals(page, drawn)
 }
 
@@ -105,6 +106,21 @@ fn is_light_grey(fill: &str) -> bool {
 fn stray(page: &Page, drawn: &Drawn) -> Result<(), String> {
     alike("paragraphs of a line that does not belong", page.strays.len(), drawn.stray.iter().len())?;
     page.strays.iter().zip(&drawn.stray).try_for_each(|(shown, words)| says(shown.text, words))
+}
+
+/// "the page says it too, in one paragraph at its end": in HTML a line's end is a space.
+fn unplayed(page: &Page, drawn: &Drawn) -> Result<(), String> {
+    let words = drawn.unplayed.split_whitespace().collect::<Vec<_>>();
+    alike("paragraphs of what was not played", page.others.len(), usize::from(!words.is_empty()))?;
+    page.others.iter().try_for_each(|shown| {
+        if shown.range.start < page.table.range.end {
+            return Err(format!("byte {}: a paragraph above the table's end", shown.range.start));
+        }
+        match shown.text.text.split_whitespace().eq(words.iter().copied()) {
+            true => Ok(()),
+            false => Err(format!("byte {}: {:?} for {:?}", shown.text.at, shown.text.text, words.join(" "))),
+        }
+    })
 }
 
 fn totals(page: &Page, drawn: &Drawn) -> Result<(), String> {

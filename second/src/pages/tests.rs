@@ -51,6 +51,9 @@ fn page(drawn: &Drawn) -> String {
     if let Some(words) = &drawn.stray {
         page += &format!("<p>{words}</p>");
     }
+    if !drawn.unplayed.is_empty() {
+        page += &format!("<p>{}</p>", drawn.unplayed.trim_end().replace('\n', " "));
+    }
     page + "</body></html>"
 }
 
