@@ -215,7 +215,7 @@ impl RefusedCall {
         ensures { out.new.items ≡ out.old.items ++ refused_words self.now.number }
     {
         put_text(b": ", out);
-        put_text(reasons::number_text(self.number).as_bytes(), out);
+        put_text(reasons::numbers::number_text(self.number).as_bytes(), out);
         put_text(b" (", out);
         numbers::put_number(self.number, out);
         put_text(b")\n", out);
