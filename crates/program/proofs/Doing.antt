@@ -18,7 +18,8 @@ use Rattle.program.specs.declared.status.Status.TheVariants.{Failed, Usage}
 use Rattle.program.specs.declared.about.About.{About}
 use Rattle.command.specs.Asked.{text_seen}
 use Rattle.command.specs.declared.asked.Stop.{Stop}
-use Rattle.command.specs.declared.asked.Stop.TheVariants.{Help, Version, Unknown, Alone, Twice, NoForm, NoMemory}
+use Rattle.command.specs.declared.asked.Stop.TheVariants.{Help, Version, Unknown, Alone, Twice, NoForm}
+use Rattle.command.specs.declared.asked.Stop.TheVariants.{NoMoment, NoMemory}
 use Rattle.std.specs.Borrow.{Bor}
 use Rattle.std.proofs.Common.{codes}
 
@@ -79,3 +80,4 @@ module _ (writes fails : Error → Type 0) (a : About) (o : Outs) (status : Stat
   word_so (Alone w) h v n said nothing is = record { said = said; nothing = nothing; status_is = is }
   word_so (Twice w) h v n said nothing is = record { said = said; nothing = nothing; status_is = is }
   word_so (NoForm w) h v n said nothing is = record { said = said; nothing = nothing; status_is = is }
+  word_so (NoMoment w) h v n said nothing is = record { said = said; nothing = nothing; status_is = is }

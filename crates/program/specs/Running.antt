@@ -27,7 +27,8 @@ use Rattle.floorlog.specs.Cuts.{failure_line, number_line}
 use Rattle.command.specs.Asked.{AskedFor, Asks, asked_by, asked_seen}
 use Rattle.command.specs.declared.asked.Command.{Command}
 use Rattle.command.specs.declared.asked.Stop.{Stop}
-use Rattle.command.specs.declared.asked.Stop.TheVariants.{Help, Version, Unknown, Alone, Twice, NoForm, NoMemory}
+use Rattle.command.specs.declared.asked.Stop.TheVariants.{Help, Version, Unknown, Alone, Twice, NoForm}
+use Rattle.command.specs.declared.asked.Stop.TheVariants.{NoMoment, NoMemory}
 use Rattle.formfile.specs.Begun.{IsBegun, IsReadBy}
 use Rattle.formfile.specs.declared.Begun.{Begun}
 use Rattle.formfile.specs.declared.NotBegun.{NotBegun}
@@ -135,6 +136,7 @@ StopsSo writes fails (Unknown w) a = SaysAlone fails (stop_text (Unknown w) a.us
 StopsSo writes fails (Alone w) a = SaysAlone fails (stop_text (Alone w) a.usage.now) Usage
 StopsSo writes fails (Twice w) a = SaysAlone fails (stop_text (Twice w) a.usage.now) Usage
 StopsSo writes fails (NoForm w) a = SaysAlone fails (stop_text (NoForm w) a.usage.now) Usage
+StopsSo writes fails (NoMoment w) a = SaysAlone fails (stop_text (NoMoment w) a.usage.now) Usage
 StopsSo writes fails NoMemory a =
     SaysAlone fails (unread_text (codes "the command line") (codes ": out of memory")) Failed
 
