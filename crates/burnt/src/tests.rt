@@ -1,6 +1,7 @@
 // A log from a source that gives it in odd pieces, or fails in mid-stream, to a sink that takes odd pieces, or fails.
 use crate::telling::tell_log;
 use floorlog::{cut, sample};
+use program::telling::Ending;
 use record::types::Device;
 use recorded::chain::Why;
 use report::Report;
@@ -121,7 +122,7 @@ fn four_places_and_a_password(rt: HostRuntime) {
             &mut recorded(log, most),
             &mut to,
         );
-        assert!(rt; matches!(told, Ok(None)));
+        assert!(rt; matches!(told, Ok(ending) if ending.stray.is_none()));
         assert!(rt;
             to.text() == b"lamp 1 from 100 to 130\nlamp 1 start 0 burnt 30 now 30\n".as_slice()
         );
@@ -141,7 +142,12 @@ fn a_log_that_was_cut(rt: HostRuntime) {
         &mut to,
     );
     match told {
-        Ok(Some(stray)) => {
+        Ok(
+            Ending {
+                stray: Some(stray),
+                ..
+            },
+        ) => {
             assert_eq!(rt; stray.line, 3);
             assert!(rt; matches!(stray.why, Why::Unended));
         }
@@ -162,6 +168,6 @@ fn a_log_of_another_form(rt: HostRuntime) {
         &mut recorded(log, 9),
         &mut to,
     );
-    assert!(rt; matches!(told, Ok(Some(_))));
+    assert!(rt; matches!(told, Ok(ending) if ending.stray.is_some()));
     assert!(rt; to.text() == b"lamp 1 start 0 burnt 0 now 0\n! line 1: another sum\n".as_slice());
 }

@@ -1,5 +1,5 @@
 -- A line that no LF ended, one that says nothing that stands there, and one that does.
-use Rattle.std.proofs.Common.{◌≡◌, sym, ap, ◌∙◌, Ok, false, true}
+use Rattle.std.proofs.Common.{◌≡◌, sym, ap, ◌∙◌, Ok}
 use Rattle.floorlog.specs.KeptText.{kept_text, kept_line}
 use Rattle.history.specs.Entries.{entry_seen}
 use Rattle.recorded.specs.Chain.{entry_told}
