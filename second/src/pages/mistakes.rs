@@ -306,10 +306,8 @@ pub const MISTAKES: &[(&str, Wrong)] = &[
         let words = "<p>! line 1: no such line</p>".to_string();
         sheet.page.strays.is_empty().then(|| sheet.with([(before..before, words)]))
     }),
-    // "the page says it too, in one paragraph at its end"
-    ("it is not said what was not played", |sheet, _| {
-        Some(sheet.without(sheet.page.others.first()?.range.clone()))
-    }),
+    // "is said last, in one paragraph"
+    ("it is not said what was not played", |sheet, _| Some(sheet.without(sheet.page.others.first()?.range.clone()))),
     ("it is said twice what was not played", |sheet, _| {
         let range = sheet.page.others.first()?.range.clone();
         Some(sheet.with([(range.end..range.end, sheet.text[range].to_string())]))

@@ -108,7 +108,7 @@ fn stray(page: &Page, drawn: &Drawn) -> Result<(), String> {
     page.strays.iter().zip(&drawn.stray).try_for_each(|(shown, words)| says(shown.text, words))
 }
 
-/// "the page says it too, in one paragraph at its end": in HTML a line's end is a space.
+/// "is said last, in one paragraph", "where a line's end counts as a space".
 fn unplayed(page: &Page, drawn: &Drawn) -> Result<(), String> {
     let words = drawn.unplayed.split_whitespace().collect::<Vec<_>>();
     alike("paragraphs of what was not played", page.others.len(), usize::from(!words.is_empty()))?;
