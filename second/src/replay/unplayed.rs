@@ -65,9 +65,12 @@ pub fn is_of_history(line: &[u8]) -> bool {
     line.starts_with(b"LOG ") || is_opening(line) || is_stated
 }
 
+/// What may hold of a line, and what is said of it then.
+type Reason = (fn(&[u8]) -> bool, &'static str);
+
 /// Why a line is not understood: the first of these that holds of it.
 pub fn why(line: &[u8]) -> &'static str {
-    const REASONS: [(fn(&[u8]) -> bool, &str); 13] = [
+    const REASONS: [Reason; 13] = [
         (is_of_history, " is of a history, and no header stands before it"),
         (|line| line.len() > LONGEST, ": longer than 4,096 bytes"),
         (|line| line.starts_with("\u{feff}".as_bytes()), ": a byte order mark before it"),
