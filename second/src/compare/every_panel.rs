@@ -2,9 +2,10 @@
 //! a projector, each length of lent memory, each password. `panel_lines` has the lines, `panels` the histories.
 
 use super::random::Random;
-use super::records::set_text;
+use super::records::{NO_FLAGS, set_text};
 use super::{panel_lines, passwords};
 use crate::face::{Act, Command, Entry, Flag, Panel, PanelAct, PanelCall};
+use crate::reference::rules::knows_class_2;
 
 pub fn calls(random: &mut Random) -> Vec<Act> {
     let mut all = vec![PanelCall { panel: Panel::NONE, act: PanelAct::None }];
@@ -114,7 +115,13 @@ fn broken(entry: &Entry) -> Vec<Entry> {
         with(&|e| e.lamp_count = usize::from(byte));
     }
     [0, 1, u32::MAX].iter().for_each(|&random| with(&|e| e.random = random));
-    for flag in (0..=255).map(Flag) {
+    with(&|e| e.led = !e.led);
+    with(&|e| e.under_way = !e.under_way);
+    with(&|e| e.power_known = !e.power_known);
+    with(&|e| e.input_known = !e.input_known);
+    with(&|e| e.lamps_known = !e.lamps_known);
+    let no_flags = if knows_class_2() { &NO_FLAGS[..] } else { &[] };
+    for &flag in no_flags {
         with(&|e| e.led = flag);
         with(&|e| e.under_way = flag);
         with(&|e| e.power_known = flag);
@@ -124,7 +131,8 @@ fn broken(entry: &Entry) -> Vec<Entry> {
     [4, 7, 8, 256, 261, (1 << 61) + 5, usize::MAX].iter().for_each(|&count| with(&|e| e.lamp_count = count));
     for place in 0..8 {
         [0, 1, 99_999, 100_000, u32::MAX].iter().for_each(|&hours| with(&|e| e.hours[place] = hours));
-        (0..=255).map(Flag).for_each(|flag| with(&|e| e.lit[place] = flag));
+        with(&|e| e.lit[place] = !e.lit[place]);
+        no_flags.iter().for_each(|&flag| with(&|e| e.lit[place] = flag));
     }
     [0, 1, 65_534, 65_535, 65_536, u32::MAX].iter().for_each(|&strays| with(&|e| e.strays = strays));
     all

@@ -2,11 +2,12 @@
 
 use super::histories::NO_PLACES;
 use super::random::Random;
+use super::records::NO_FLAGS;
 use super::{Case, forms, records};
 use crate::face::{Act, Connection, Device, Flag, Lent, Line, PLACES};
 use crate::reference::calls;
 use crate::reference::connection::leading_digest;
-use crate::reference::rules::unmistaken;
+use crate::reference::rules::{knows_class_2, unmistaken};
 use std::rc::Rc;
 
 const PASSWORD: &[u8] = b"Schnitt8";
@@ -110,7 +111,9 @@ fn illegal() -> Vec<Connection> {
     all.extend([1, 2].map(|phase| with(phase, line(1, 1, b'%'))));
     all.extend([1, 2].map(|phase| with(phase, line(0, 168, b'%'))));
     all.push(with(2, line(0, 136, b'%')));
-    all.extend([1, 2].iter().flat_map(|&phase| (2..=255).map(move |flag| with(phase, line(flag, 0, 0)))));
+    if knows_class_2() {
+        all.extend([1, 2].iter().flat_map(|&phase| NO_FLAGS.map(|flag| with(phase, line(flag.0, 0, 0)))));
+    }
     all.extend([0, 1, 2, 3].map(|phase| with(phase, late)));
     all
 }

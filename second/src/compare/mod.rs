@@ -303,7 +303,7 @@ impl<'a, B: Side> Run<'a, B> {
             let case = history(&mut self.random);
             self.compare(case)?;
         }
-        for field in 0..records::FIELDS {
+        for field in 0..records::fields() {
             let mut device = records::legal(&mut self.random);
             records::damage(&mut self.random, &mut device, field);
             self.compare_call(device, Act::Legal)?;

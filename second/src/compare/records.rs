@@ -4,7 +4,7 @@ use super::random::Random;
 use super::{lines, names, setups};
 use crate::face::{Connection, Device, Flag, PLACES, Text};
 use crate::reference::calls;
-use crate::reference::rules::unmistaken;
+use crate::reference::rules::{knows_class_2, unmistaken};
 
 /// Legal by the rules, whatever mistake is made.
 pub fn legal(random: &mut Random) -> Device {
@@ -106,16 +106,20 @@ fn collect(random: &mut Random, device: &mut Device, place: usize) {
 pub fn damaged(random: &mut Random) -> Device {
     let mut device = legal(random);
     for _ in 0..random.pick(&[1, 1, 1, 2, 3]) {
-        let field = random.below(FIELDS);
+        let field = random.below(fields());
         damage(random, &mut device, field);
     }
     device
 }
 
-/// How many fields `damage` knows: those of settings and own part, then those of each place's connection.
-pub const FIELDS: usize = SHARED + PLACES * OF_A_PLACE;
-const SHARED: usize = 19;
+/// How many fields `damage` knows: those of settings and own part, then those of each place's connection, and last the
+/// flags of the own part, which were no bytes before Class 2.
+pub fn fields() -> usize {
+    if knows_class_2() { FLAGS + 1 } else { FLAGS }
+}
+const SHARED: usize = 18;
 const OF_A_PLACE: usize = 8;
+const FLAGS: usize = SHARED + PLACES * OF_A_PLACE;
 
 /// Replaces one field, of those that a record has, in their order.
 pub fn damage(random: &mut Random, device: &mut Device, field: usize) {
@@ -154,7 +158,7 @@ pub fn damage(random: &mut Random, device: &mut Device, field: usize) {
             own.enabled[lamp] = flag(random, own.enabled[lamp]);
         }
         17 => own.enabled = [Flag::from(random.one_in(4)); 8],
-        18 => {
+        FLAGS => {
             let flags = [&mut own.video_muted, &mut own.audio_muted, &mut own.fault, &mut own.frozen];
             let damaged = flags.into_iter().nth(random.below(4)).expect("one of four");
             *damaged = flag(random, *damaged);
@@ -166,8 +170,15 @@ pub fn damage(random: &mut Random, device: &mut Device, field: usize) {
     }
 }
 
+/// Bytes that no legal record has as a flag: more than one bit apart from 0 and 1, or one that is not the lowest.
+pub const NO_FLAGS: [Flag; 9] =
+    [Flag(2), Flag(3), Flag(4), Flag(8), Flag(16), Flag(32), Flag(64), Flag(128), Flag(255)];
+
 /// The other one of 0 and 1, or a byte that no legal record has there.
 pub fn flag(random: &mut Random, was: Flag) -> Flag {
+    if !knows_class_2() {
+        return !was;
+    }
     match random.below(4) {
         0 | 1 => !was,
         2 => Flag(1 << random.from_to(1, 7) | was.0),

@@ -146,10 +146,10 @@ mod tests {
     /// Random logs show each mistake, several of them, but for one that needs more lines than they have.
     #[test]
     fn logs_show_the_mistakes() {
-        let logs: Vec<Vec<u8>> = (fixed()..fixed() + 400).map(|number| Fed::nth(4, number).log).collect();
+        let logs: Vec<Vec<u8>> = (fixed()..fixed() + 1000).map(|number| Fed::nth(4, number).log).collect();
         let right: Vec<Vec<u8>> = logs.iter().map(|log| replayed(log)).collect();
         let over_lines = mistakes::all().filter(|all| !mistakes::over_histories().iter().any(|over| over.0 == all.0));
-        for (words, wrong) in over_lines.filter(|(words, _)| *words != "a line's number has 16 bits") {
+        for (words, wrong) in over_lines.filter(|(words, _)| !words.starts_with("a line's number has 16 bits")) {
             let shown = logs.iter().zip(&right).filter(|(log, right)| wrong.replayed(log) != **right).count();
             assert!(shown >= 4, "{words}: {shown}");
         }

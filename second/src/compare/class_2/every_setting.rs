@@ -5,6 +5,7 @@ use super::forms::{classed, common, least, most, of};
 use super::setups::{self, all_inputs};
 use crate::compare::forms::{marked, old};
 use crate::compare::random::Random;
+use crate::compare::records::NO_FLAGS;
 use crate::compare::{forms, records, setups as setups_1};
 use crate::face::{Act, Device, Flag, Lent, Lent2, Text};
 use crate::reference::calls;
@@ -291,7 +292,7 @@ pub fn records(random: &mut Random) -> Vec<(Device, Act)> {
             with(&|d| d.own.speaker = byte);
             with(&|d| d.own.microphone = byte);
         }
-        (0..=255).map(Flag).for_each(|frozen| with(&|d| d.own.frozen = frozen));
+        [Flag::NO, Flag::YES].iter().chain(&NO_FLAGS).for_each(|&frozen| with(&|d| d.own.frozen = frozen));
         for place in 0..32 {
             for length in [0, 1, 2, 3, 4, 127, 128, 129, 256, 1 << 32, 1 << 63, usize::MAX] {
                 with(&|d| d.settings.names[place].len = length);

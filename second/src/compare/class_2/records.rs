@@ -85,7 +85,7 @@ pub fn damaged(random: &mut Random) -> Device {
     let mut device = legal(random);
     for _ in 0..random.pick(&[1, 1, 1, 2, 3]) {
         if random.one_in(3) {
-            let field = random.below(records::FIELDS);
+            let field = random.below(records::fields());
             records::damage(random, &mut device, field);
         } else {
             let field = random.below(FIELDS);
