@@ -88,6 +88,23 @@ pub fn why(line: &[u8]) -> &'static str {
     REASONS.iter().find(|(holds, _)| holds(line)).map_or(" begins with none of O, R, T and X", |(_, words)| words)
 }
 
+/// `MISTAKES` as those of a kind of wrong program that has a case for what is said.
+macro_rules! all_said {
+    ($wrong:ident) => {{
+        use $crate::replay::unplayed::{MISTAKES, RIGHT};
+        &{
+            let mut all = [const { ("", $wrong::Says(&RIGHT)) }; MISTAKES.len()];
+            let mut place = 0;
+            while place < MISTAKES.len() {
+                all[place] = (MISTAKES[place].0, $wrong::Says(&MISTAKES[place].1));
+                place += 1;
+            }
+            all
+        }
+    }};
+}
+pub(crate) use all_said;
+
 /// Programs that say something else, each with what it gets wrong.
 pub const MISTAKES: &[(&str, Says)] = &[
     (
