@@ -4,8 +4,8 @@ ghost use Rattle.std.specs.Prelude.{IfSome, length, ◌≤◌};
 use device::calls;
 use setup::wanted::{Class, Wanted};
 
-/// A projector is set up, a controller connects and sends a line: the reply's length, from the start of `memory` on;
-/// none where a call is refused.
+/// Sets up a projector, connects a controller and sends a line. Returns the length of the reply, which fills the start
+/// of `memory`; `None` if a call is refused.
 #[rattlefmt::skip]
 fn answer(line: &[u8], memory: &mut [u8]) -> Option<usize>
     ensures fits { IfSome result (λ n. n ≤ length memory.new) }
