@@ -11,7 +11,7 @@ use crate::results::{Changed, Opened, Opening, Received, Receiving};
 use record::fresh;
 use record::types::Device;
 
-/// Set-up of Class 1, by value: 3, then 8; with either the blank record.
+/// Sets up a Class 1 projector, by value. Returns 0 and the record. Errors, in this order, with the blank record: 3, 8.
 #[unsafe(no_mangle)]
 pub extern "C" fn pj_set_up<'a>(
     name: &'a [u8],
@@ -46,8 +46,8 @@ pub extern "C" fn pj_set_up<'a>(
     changed
 }
 
-/// Set-up of Class 2, by value: the names one after the other, each of its length. 3, then 8; with either the blank
-/// record.
+/// Sets up a Class 2 projector, by value. The inputs' names come one after the other, each of its length. Returns 0 and
+/// the record. Errors, in this order, with the blank record: 3, 8.
 #[unsafe(no_mangle)]
 pub extern "C" fn pj_set_up_2<'a>(
     name: &'a [u8],
@@ -91,7 +91,7 @@ pub extern "C" fn pj_set_up_2<'a>(
     changed
 }
 
-/// Whether the record is legal, by value.
+/// Returns whether the record is legal, by value. Refuses nothing.
 #[unsafe(no_mangle)]
 pub extern "C" fn pj_legal(d: Device) -> bool
     ensures { result ≡ is_legal d }
@@ -99,7 +99,8 @@ pub extern "C" fn pj_legal(d: Device) -> bool
     d.is_legal()
 }
 
-/// A new connection, greeted, by value: 1, 2 and 6 in that order.
+/// Opens a connection at the lowest closed place and writes the greeting to the start of `out`, by value. Errors, in
+/// this order: 1, 2, 6.
 #[unsafe(no_mangle)]
 pub extern "C" fn pj_open(d: Device, random: u32, out: &mut [u8]) -> Opened
     ensures says { result ≡ opened_of (ours.opening d random out.old) (ours.place_opened d random out.old) }
@@ -119,7 +120,7 @@ pub extern "C" fn pj_open(d: Device, random: u32, out: &mut [u8]) -> Opened
     }
 }
 
-/// The connection at a place closed, by value: 1, 3 and 4 in that order.
+/// Closes the connection at a place, by value. Errors, in this order: 1, 3, 4.
 #[unsafe(no_mangle)]
 pub extern "C" fn pj_close(d: Device, place: usize) -> Changed
     ensures { result ≡ changed_of (ours.closing d place) }
@@ -129,7 +130,8 @@ pub extern "C" fn pj_close(d: Device, place: usize) -> Changed
     Changed { number, device }
 }
 
-/// Bytes from the network at a place, by value: 1, 2, 3 and 4 in that order.
+/// Takes bytes from the network at a place, up to and including the first CR, and writes the reply to the start of
+/// `out`, by value. Errors, in this order, also for no bytes: 1, 2, 3, 4.
 #[unsafe(no_mangle)]
 pub extern "C" fn pj_receive(d: Device, place: usize, bytes: &[u8], out: &mut [u8]) -> Received
     ensures says { result ≡ received_of (ours.receive d place bytes.now out.old) }
@@ -149,7 +151,7 @@ pub extern "C" fn pj_receive(d: Device, place: usize, bytes: &[u8], out: &mut [u
     }
 }
 
-/// The fault mark, by value: 1.
+/// Sets or clears the fault mark, by value. Error: 1 (`PJ_NOT_LEGAL`).
 #[unsafe(no_mangle)]
 pub extern "C" fn pj_set_fault(d: Device, mark: bool) -> Changed
     ensures { result ≡ changed_of (ours.set_fault d mark) }
@@ -159,7 +161,7 @@ pub extern "C" fn pj_set_fault(d: Device, mark: bool) -> Changed
     Changed { number, device }
 }
 
-/// The six error digits, by value: 1 and 3 in that order.
+/// Sets the six error digits, each 0 to 2, by value. Errors, in this order: 1, 3.
 #[unsafe(no_mangle)]
 pub extern "C" fn pj_set_errors(d: Device, digits: &[u8]) -> Changed
     ensures { result ≡ changed_of (ours.set_errors d digits.now) }
@@ -169,7 +171,7 @@ pub extern "C" fn pj_set_errors(d: Device, digits: &[u8]) -> Changed
     Changed { number, device }
 }
 
-/// A lamp's enabled mark, by value: 1, 3 and 7 in that order.
+/// Sets or clears the enabled mark of a lamp, numbered from 0, by value. Errors, in this order: 1, 3, 7.
 #[unsafe(no_mangle)]
 pub extern "C" fn pj_set_mark(d: Device, lamp: usize, enabled: bool) -> Changed
     ensures { result ≡ changed_of (ours.set_mark d lamp enabled) }
@@ -179,7 +181,7 @@ pub extern "C" fn pj_set_mark(d: Device, lamp: usize, enabled: bool) -> Changed
     Changed { number, device }
 }
 
-/// So many seconds pass, by value: 1.
+/// Lets `seconds` seconds pass, by value. Error: 1 (`PJ_NOT_LEGAL`).
 #[unsafe(no_mangle)]
 pub extern "C" fn pj_pass(d: Device, seconds: u32) -> Changed
     ensures { result ≡ changed_of (ours.pass d seconds) }

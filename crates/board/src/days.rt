@@ -10,27 +10,28 @@ use day::check::{CheckError, check_day};
 use day::plan::{Plan, PlanError, plan_day};
 use day::{JOBS_MOST, Placement, RIGS_MOST};
 
-/// The number of the call, the rule broken, and the jobs or the rig concerned; 0 where there is none.
+/// The result of a check: the number of the call, the rule broken, and the jobs or the rig concerned, 0 if there is
+/// none.
 #[repr(C)]
 #[derive(Clone, Copy)]
 pub struct FlatVerdict {
-    /// 0; 3 where the lists are no day (RULES, Cutting day).
+    /// 0; 3 if the lists are no day (RULES, Cutting day).
     pub number: u32,
-    /// The first rule that is broken, 1 to 4 (`enum pj_rule`); 0 where none is, or the call was refused.
+    /// The first rule that is broken, 1 to 4 (`enum pj_rule`); 0 if none is, or the call was refused.
     pub rule: u8,
-    /// The lowest job concerned, from 0, or by rule 4 the lowest rig; 0 where there is none.
+    /// The lowest job concerned, from 0, or for rule 4 the lowest rig; 0 if there is none.
     pub first: usize,
-    /// By rule 3 the lowest job that the first one clashes with; else 0.
+    /// For rule 3 the lowest job with which the first one clashes; else 0.
     pub second: usize,
 }
 
-/// The number of the call, whether all jobs have a rig, and else the first that finds none.
+/// The result of planning: the number of the call, whether all jobs have a rig, and else the first job that finds none.
 #[repr(C)]
 #[derive(Clone, Copy)]
 pub struct FlatPlan {
-    /// 0, also where some job finds no rig; 3 where the lists are no day (RULES, Cutting day).
+    /// 0, also if some job finds no rig; 3 if the lists are no day (RULES, Cutting day).
     pub number: u32,
-    /// Whether every job has a rig; false where the call was refused.
+    /// Whether every job has a rig; false if the call was refused.
     pub planned: bool,
     /// The first job that finds none, from 0; else 0.
     pub job: usize,
@@ -70,7 +71,7 @@ impl From<Result<(), CheckError>> for FlatVerdict {
     }
 }
 
-/// The planner's answer in numbers; the rigs are in the list that the call was lent.
+/// The planner's answer in numbers; the rigs are in the call's result list.
 impl From<Result<(), PlanError>> for FlatPlan {
     ghost from_gives = { λ answer flat. flat ≡ flat_plan answer };
 
@@ -134,7 +135,7 @@ impl DayLists<'_> {
     }
 }
 
-/// Checks a day for which each job has a rig (RULES, Cutting day).
+/// Checks a day for which each job has a rig (RULES, Cutting day). Error: 3.
 #[unsafe(no_mangle)]
 pub extern "C" fn pj_check_day(
     starts: &[u32],
@@ -168,7 +169,7 @@ fn put_rigs_of(plan: &[Placement], out: &mut [u8])
     }
 }
 
-/// Plans a day, and writes the rigs over the start of `out` (RULES, Cutting day).
+/// Plans a day, and writes the rigs to the start of `out` (RULES, Cutting day). Error: 3.
 #[unsafe(no_mangle)]
 pub extern "C" fn pj_plan_day(
     starts: &[u32],

@@ -6,7 +6,7 @@ ghost use Rattle.reasons.specs.About.{face_number, about_text};
 
 use reasons::{about, numbers, settings};
 
-/// The version of the face.
+/// Returns the version of the face.
 #[unsafe(no_mangle)]
 pub extern "C" fn pj_face() -> u32
     ensures { result ≡ face_number }
@@ -14,8 +14,8 @@ pub extern "C" fn pj_face() -> u32
     about::face_number()
 }
 
-/// The same. Its name has the version in it, and the header makes each host need it: no host of another version's
-/// header is linked.
+/// Returns the version of the face. The name of this call has the version in it, and the header makes each host need
+/// the name: so a host compiled with the header of another version does not link.
 #[unsafe(no_mangle)]
 pub extern "C" fn pj_face_13() -> u32
     ensures { result ≡ face_number }
@@ -23,7 +23,7 @@ pub extern "C" fn pj_face_13() -> u32
     about::face_number()
 }
 
-/// What the archive says of itself: the version of the face, and the kit that proved it.
+/// Points `words` to the archive's description of itself: the version of the face, and the kit that proved it.
 #[unsafe(no_mangle)]
 pub extern "C" fn pj_face_words(words: &mut &'static [u8])
     ensures { words.new.now ≡ in_c about_text }
@@ -31,7 +31,7 @@ pub extern "C" fn pj_face_words(words: &mut &'static [u8])
     *words = about::about_text_in_c().as_bytes();
 }
 
-/// What a number that a call gives says.
+/// Points `words` to the meaning of a number that a call gives.
 #[unsafe(no_mangle)]
 pub extern "C" fn pj_number_words(number: u32, words: &mut &'static [u8])
     ensures { words.new.now ≡ in_c (number_text number) }
@@ -39,7 +39,7 @@ pub extern "C" fn pj_number_words(number: u32, words: &mut &'static [u8])
     *words = numbers::number_text_in_c(number).as_bytes();
 }
 
-/// What a setting of a set-up is called, by its number (`pj_which_setting`).
+/// Points `words` to the name of a setting of a set-up, by its number (`pj_which_setting`).
 #[unsafe(no_mangle)]
 pub extern "C" fn pj_setting_words(setting: u32, words: &mut &'static [u8])
     ensures { words.new.now ≡ in_c (setting_text setting) }

@@ -11,7 +11,7 @@ use record::types::Device;
 use stored::{loading, storing};
 use text::numbered;
 
-/// The record's form into the lent memory: 1 and 2 in that order.
+/// Writes the stored form of the record to the start of `out`. Errors, in this order: 1, 2.
 #[unsafe(no_mangle)]
 pub extern "C" fn pj_store_in_place(device: &Device, out: &mut [u8]) -> Written
     ensures says { result ≡ writing_of (wrote_told (ours.store device.now out.old)) }
@@ -20,7 +20,7 @@ pub extern "C" fn pj_store_in_place(device: &Device, out: &mut [u8]) -> Written
     Written::from(storing::store(device, out))
 }
 
-/// The same, of a record that is given by value.
+/// Writes the stored form of the record to the start of `out`, by value. Errors, in this order: 1, 2.
 #[unsafe(no_mangle)]
 pub extern "C" fn pj_store(d: Device, out: &mut [u8]) -> Written
     ensures says { result ≡ writing_of (wrote_told (ours.store d out.old)) }
@@ -29,7 +29,8 @@ pub extern "C" fn pj_store(d: Device, out: &mut [u8]) -> Written
     Written::from(storing::store(&d, out))
 }
 
-/// The device that the form is of, into the record; the blank one where it is refused, with 20 to 23.
+/// Fills the record with the device of a stored form; with the blank record if the form is refused. Errors, in this
+/// order: 20, 21, 22, 23.
 #[unsafe(no_mangle)]
 pub extern "C" fn pj_load_in_place(device: &mut Device, bytes: &[u8]) -> u32
     ensures number { result ≡ (ours.load bytes.now).number }
@@ -38,7 +39,8 @@ pub extern "C" fn pj_load_in_place(device: &mut Device, bytes: &[u8]) -> u32
     numbered::number_of(loading::load_in(device, bytes))
 }
 
-/// The same, by value.
+/// Returns the device of a stored form, by value; the blank record if the form is refused. Errors, in this order: 20,
+/// 21, 22, 23.
 #[unsafe(no_mangle)]
 pub extern "C" fn pj_load(bytes: &[u8]) -> Changed
     ensures { result ≡ changed_of (ours.load bytes.now) }

@@ -5,15 +5,16 @@ ghost use Rattle.board.specs.Lamps.{ComparesInto, report_of, not_compared};
 use crate::lists;
 use service::{CompareError, TABLE_MOST};
 
-/// The number of the call, whether a lamp went backwards, and the first place where one did; 0 where none did.
+/// The result of a comparison: the number of the call, whether a lamp went backwards, and the first place of such a
+/// lamp, 0 if there is none.
 #[repr(C)]
 #[derive(Clone, Copy)]
 pub struct Report {
-    /// 0; 3 where the tables cannot be compared (RULES, Service).
+    /// 0; 3 if the tables cannot be compared (RULES, Service).
     pub number: u32,
     /// Whether some lamp has fewer seconds than before.
     pub backwards: bool,
-    /// The place of the first such lamp, from 0; 0 where there is none.
+    /// The place of the first such lamp, from 0; 0 if there is none.
     pub place: usize,
 }
 
@@ -30,7 +31,7 @@ impl Report {
     }
 }
 
-/// The answer in numbers; the differences are in the list that the call was lent.
+/// The answer in numbers; the differences are in the call's result list.
 impl From<Result<Option<usize>, CompareError>> for Report {
     ghost from_gives = { λ answer report. report ≡ report_of answer };
 
@@ -51,7 +52,8 @@ impl From<Result<Option<usize>, CompareError>> for Report {
     }
 }
 
-/// Compares two tables of lamp seconds, and writes the differences over the start of `out` (RULES, Service).
+/// Compares two tables of lamp seconds, and writes the later minus the earlier of each place to the start of `out`
+/// (RULES, Service). Error: 3.
 #[unsafe(no_mangle)]
 pub extern "C" fn pj_compare_lamps(earlier: &[u32], later: &[u32], out: &mut [i64]) -> Report
     ensures { ComparesInto earlier.now later.now out.old result out.new }

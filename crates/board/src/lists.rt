@@ -33,7 +33,7 @@ pub const NO_READING: Reading = Reading {
     later: 0,
 };
 
-/// The lists of a day, as a call is lent them: one for each field of its jobs, and of its rigs.
+/// The lists of a day: one for each field of its jobs, and of its rigs.
 #[derive(Clone, Copy)]
 pub struct DayLists<'a> {
     /// The second of the day at which each job starts.
@@ -51,7 +51,7 @@ pub struct DayLists<'a> {
 }
 
 impl DayLists<'_> {
-    /// The lists of the jobs are of one length, and those of the rigs.
+    /// Whether the lists of the jobs are of one length, and those of the rigs.
     pub fn have_one_length(&self) -> bool
         ensures { IsTrue result ↔ HaveOneLength (day_lists self.now) }
     {
@@ -61,7 +61,7 @@ impl DayLists<'_> {
             && self.life.len() == self.warm.len()
     }
 
-    /// There are no more than a day has.
+    /// Whether there are no more jobs and rigs than a day has.
     pub fn fit_a_day(&self) -> bool
         ensures { IsTrue result ↔ FitADay (day_lists self.now) }
     {
@@ -81,7 +81,7 @@ impl DayLists<'_> {
         }
     }
 
-    /// The jobs, over the start of `jobs`.
+    /// Writes the jobs to the start of `jobs`.
     pub fn put_jobs(&self, jobs: &mut [Job])
         requires alike { HaveOneLength (day_lists self.now) }
         requires room { length self.now.starts.now ≤ length jobs.old }
@@ -93,7 +93,7 @@ impl DayLists<'_> {
         }
     }
 
-    /// The jobs, each on its rig of the list, over the start of `plan`.
+    /// Writes the jobs, each on its rig of the list, to the start of `plan`.
     pub fn put_plan(&self, rigs: &[u8], plan: &mut [Placement])
         requires alike { HaveOneLength (day_lists self.now) }
         requires one_each { length rigs.now ≡ length self.now.starts.now }
@@ -109,7 +109,7 @@ impl DayLists<'_> {
         }
     }
 
-    /// The rigs, over the start of `rigs`.
+    /// Writes the rigs to the start of `rigs`.
     pub fn put_rigs(&self, rigs: &mut [Rig])
         requires alike { HaveOneLength (day_lists self.now) }
         requires room { length self.now.warm.now ≤ length rigs.old }
@@ -126,7 +126,7 @@ impl DayLists<'_> {
     }
 }
 
-/// The lamps' seconds at both readings, over the start of `readings`.
+/// Writes the lamps' seconds at both readings to the start of `readings`.
 pub fn put_readings(earlier: &[u32], later: &[u32], readings: &mut [Reading])
     requires alike { length later.now ≡ length earlier.now }
     requires room { length earlier.now ≤ length readings.old }

@@ -25,7 +25,7 @@ use recorded::chain::Why;
 use text::numbered::Numbered;
 use words::errors::Errors;
 
-/// Begins a log: what is kept before its first file, of the stored form that it belongs to.
+/// Returns the recorder of a log before its first file, for the stored form to which the log belongs. Refuses nothing.
 #[unsafe(no_mangle)]
 pub extern "C" fn pj_log_begun(form: &[u8]) -> Recorder
     ensures { result ≡ recorder_begun form.now }
@@ -104,7 +104,7 @@ pub extern "C" fn pj_log_opened(
     record(log, &Call::Opens(byte_of(place), random), out)
 }
 
-/// Writes the line of a receive at this place, which took these bytes. Errors, in this order: 2, 3.
+/// Writes the line of a receive at this place, which took these bytes, 2,046 at most. Errors, in this order: 2, 3.
 #[unsafe(no_mangle)]
 #[tactic(auto, using(crate::proofs::Unsayable::receives_written, crate::proofs::Unsayable::receives_kept))]
 pub extern "C" fn pj_log_received(
@@ -122,7 +122,7 @@ pub extern "C" fn pj_log_received(
     record(log, &Call::Receives(byte_of(place), bytes), out)
 }
 
-/// Writes the line of so many seconds that passed. Errors, in this order: 2, 3.
+/// Writes the line of the passing of `seconds` seconds. Errors, in this order: 2, 3.
 #[unsafe(no_mangle)]
 pub extern "C" fn pj_log_passed(log: &mut Recorder, seconds: u32, out: &mut [u8]) -> Written
     ensures says { result
@@ -159,7 +159,7 @@ pub extern "C" fn pj_log_fault(log: &mut Recorder, mark: bool, out: &mut [u8]) -
     record(log, &Call::Fault(mark), out)
 }
 
-/// Writes the line of six error digits that were set. Errors, in this order: 2, 3.
+/// Writes the line of six error digits that were set, each 0 to 2. Errors, in this order: 2, 3.
 #[unsafe(no_mangle)]
 #[tactic(auto, using(crate::proofs::Unsayable::reports_written, crate::proofs::Unsayable::reports_kept))]
 pub extern "C" fn pj_log_errors(log: &mut Recorder, digits: &[u8], out: &mut [u8]) -> Written
@@ -172,7 +172,7 @@ pub extern "C" fn pj_log_errors(log: &mut Recorder, digits: &[u8], out: &mut [u8
     record(log, &Call::Errors(six_of(digits)), out)
 }
 
-/// Writes the line of a lamp, counted from 0, that was enabled or disabled. Errors, in this order: 2, 3.
+/// Writes the line of a lamp, numbered from 0, that was enabled or disabled. Errors, in this order: 2, 3.
 #[unsafe(no_mangle)]
 #[tactic(auto, using(crate::proofs::Unsayable::enables_written, crate::proofs::Unsayable::enables_kept))]
 pub extern "C" fn pj_log_mark(
@@ -260,9 +260,9 @@ fn play_entry(
     }
 }
 
-/// Makes a line of a log again, which is given without its LF, and writes the reply. Errors, in this order, with which
-/// record, log and reply memory stay: 1, 2; 3 for a line that does not belong where the log stands; that of the call
-/// which the line says; 3 for an opening that would get another place.
+/// Makes the call of a line of a log again, and writes the reply to the start of `reply`. The line has no LF. Errors,
+/// in this order, with which record, log and reply memory stay: 1, 2; 3 for a line that does not belong at this point
+/// of the log; that of the call of the line; 3 for an opening that would get another place.
 #[unsafe(no_mangle)]
 #[tactic(auto, unfolding(crate::specs::Logs::line_played))]
 pub extern "C" fn pj_log_play(

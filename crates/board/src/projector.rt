@@ -15,7 +15,7 @@ use record::types::Device;
 use setup::wanted::{Class, Names, Wanted};
 use text::numbered;
 
-/// Sets the host's record up, and tells the number: where it is refused, the record is the blank one.
+/// Sets up the host's record, and returns the number: 0, 3 or 8. If it is refused, the record is the blank one.
 pub fn set_up_in(device: &mut Device, wanted: &Wanted<'_>) -> u32
     ensures number { result ≡ (ours.set_up (wanted_settings wanted.now)).number }
     ensures device { device.new ≡ (ours.set_up (wanted_settings wanted.now)).device }
@@ -23,7 +23,7 @@ pub fn set_up_in(device: &mut Device, wanted: &Wanted<'_>) -> u32
     numbered::number_of(setup::set_up_in(device, wanted))
 }
 
-/// Set-up of Class 1 into the record: 3, then 8.
+/// Sets up a Class 1 projector in the record. Errors, in this order, with the blank record: 3, 8.
 #[unsafe(no_mangle)]
 pub extern "C" fn pj_set_up_in_place<'a>(
     device: &mut Device,
@@ -60,7 +60,8 @@ pub extern "C" fn pj_set_up_in_place<'a>(
     )
 }
 
-/// Set-up of Class 2 into the record: the names one after the other, each of its length. 3, then 8.
+/// Sets up a Class 2 projector in the record. The inputs' names come one after the other, each of its length. Errors,
+/// in this order, with the blank record: 3, 8.
 #[unsafe(no_mangle)]
 pub extern "C" fn pj_set_up_2_in_place<'a>(
     device: &mut Device,
@@ -108,7 +109,7 @@ pub extern "C" fn pj_set_up_2_in_place<'a>(
     )
 }
 
-/// Whether the record is legal.
+/// Returns whether the record is legal. Refuses nothing.
 #[unsafe(no_mangle)]
 pub extern "C" fn pj_legal_in_place(device: &Device) -> bool
     ensures { result ≡ is_legal device.now }
@@ -116,7 +117,8 @@ pub extern "C" fn pj_legal_in_place(device: &Device) -> bool
     device.is_legal()
 }
 
-/// A new connection, greeted: 1, 2 and 6 in that order.
+/// Opens a connection at the lowest closed place and writes the greeting to the start of `out`. Errors, in this order:
+/// 1, 2, 6.
 #[unsafe(no_mangle)]
 pub extern "C" fn pj_open_in_place(device: &mut Device, random: u32, out: &mut [u8]) -> Opening
     ensures says { result ≡ opening_of (lent_told (ours.opening device.old random out.old))
@@ -127,7 +129,7 @@ pub extern "C" fn pj_open_in_place(device: &mut Device, random: u32, out: &mut [
     Opening::from(calls::open(device, random, out))
 }
 
-/// The connection at a place closed: 1, 3 and 4 in that order.
+/// Closes the connection at a place. Errors, in this order: 1, 3, 4.
 #[unsafe(no_mangle)]
 pub extern "C" fn pj_close_in_place(device: &mut Device, place: usize) -> u32
     ensures number { result ≡ (ours.closing device.old place).number }
@@ -136,7 +138,8 @@ pub extern "C" fn pj_close_in_place(device: &mut Device, place: usize) -> u32
     numbered::number_of(calls::close(device, place))
 }
 
-/// Bytes from the network at a place: 1, 2, 3 and 4 in that order.
+/// Takes bytes from the network at a place, up to and including the first CR, and writes the reply to the start of
+/// `out`. Errors, in this order, also for no bytes: 1, 2, 3, 4.
 #[unsafe(no_mangle)]
 pub extern "C" fn pj_receive_in_place(
     device: &mut Device,
@@ -151,7 +154,7 @@ pub extern "C" fn pj_receive_in_place(
     Receiving::from(calls::receive(device, place, bytes, out))
 }
 
-/// The fault mark: 1.
+/// Sets or clears the fault mark. Returns 0, or 1 (`PJ_NOT_LEGAL`).
 #[unsafe(no_mangle)]
 #[tactic(auto, using(crate::proofs::Gives::number_as, crate::proofs::Gives::device_as))]
 pub extern "C" fn pj_set_fault_in_place(device: &mut Device, mark: bool) -> u32
@@ -161,7 +164,7 @@ pub extern "C" fn pj_set_fault_in_place(device: &mut Device, mark: bool) -> u32
     numbered::number_of(device.set_fault(mark))
 }
 
-/// The six error digits: 1 and 3 in that order.
+/// Sets the six error digits, each 0 to 2. Errors, in this order: 1, 3.
 #[unsafe(no_mangle)]
 #[tactic(auto, using(crate::proofs::Gives::number_as, crate::proofs::Gives::device_as))]
 pub extern "C" fn pj_set_errors_in_place(device: &mut Device, digits: &[u8]) -> u32
@@ -171,7 +174,7 @@ pub extern "C" fn pj_set_errors_in_place(device: &mut Device, digits: &[u8]) -> 
     numbered::number_of(device.set_errors(digits))
 }
 
-/// A lamp's enabled mark: 1, 3 and 7 in that order.
+/// Sets or clears the enabled mark of a lamp, numbered from 0. Errors, in this order: 1, 3, 7.
 #[unsafe(no_mangle)]
 #[tactic(auto, using(crate::proofs::Gives::number_as, crate::proofs::Gives::device_as))]
 pub extern "C" fn pj_set_mark_in_place(device: &mut Device, lamp: usize, enabled: bool) -> u32
@@ -181,7 +184,7 @@ pub extern "C" fn pj_set_mark_in_place(device: &mut Device, lamp: usize, enabled
     numbered::number_of(device.set_mark(lamp, enabled))
 }
 
-/// So many seconds pass: 1.
+/// Lets `seconds` seconds pass. Returns 0, or 1 (`PJ_NOT_LEGAL`).
 #[unsafe(no_mangle)]
 #[tactic(auto, using(crate::proofs::Gives::number_as, crate::proofs::Gives::device_as))]
 pub extern "C" fn pj_pass_in_place(device: &mut Device, seconds: u32) -> u32

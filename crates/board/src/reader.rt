@@ -11,7 +11,7 @@ use codes::readings::{FlatGreeting, FlatReading};
 use controller::reading;
 use pjlink::greeting::Greeting;
 
-/// What a projector greets with.
+/// Reads a greeting, with its CR. Error: 10.
 #[unsafe(no_mangle)]
 pub extern "C" fn pj_read_greeting(line: &[u8]) -> FlatGreeting
     ensures { result ≡ flat_greeting (ours.read_greeting line.now) }
@@ -19,7 +19,7 @@ pub extern "C" fn pj_read_greeting(line: &[u8]) -> FlatGreeting
     FlatGreeting::from(Greeting::read(line))
 }
 
-/// What a reply to the command says; what is no command is 3 at once.
+/// Reads the reply to a command, with its CR. Errors, in this order: 3 for what is no command, 10, 11, 12.
 #[tactic(auto, using(controller::proofs::ReadShort::reading_short))]
 #[unsafe(no_mangle)]
 pub extern "C" fn pj_read_reply(k: Coded, line: &[u8]) -> FlatReading

@@ -10,7 +10,7 @@ use record::refusal::Refusal;
 use record::types::Device;
 use text::numbered::Numbered;
 
-/// What receiving gives beside the record: its number, the bytes taken, the length of the reply.
+/// What receiving returns besides the record: its number, the bytes taken, the length of the reply.
 #[repr(C)]
 #[derive(Clone, Copy)]
 pub struct Receiving {
@@ -18,11 +18,11 @@ pub struct Receiving {
     pub number: u32,
     /// Bytes taken: up to and including the first CR, or all; 0 with a refusal.
     pub taken: usize,
-    /// Bytes of the reply; 0 where none is due, and with a refusal.
+    /// Bytes of the reply; 0 if none is due, and with a refusal.
     pub length: usize,
 }
 
-/// What opening gives beside the record: its number, the length of the greeting, the place.
+/// What opening returns besides the record: its number, the length of the greeting, the place.
 #[repr(C)]
 #[derive(Clone, Copy)]
 pub struct Opening {
@@ -30,11 +30,11 @@ pub struct Opening {
     pub number: u32,
     /// Bytes of the greeting; 0 with a refusal.
     pub length: usize,
-    /// Where it was opened, 0 to 3; 0 with a refusal.
+    /// The place of the new connection, 0 to 3; 0 with a refusal.
     pub place: usize,
 }
 
-/// What receiving gives by value.
+/// What receiving returns by value.
 #[repr(C)]
 #[derive(Clone, Copy)]
 pub struct Received {
@@ -42,13 +42,13 @@ pub struct Received {
     pub number: u32,
     /// Bytes taken: up to and including the first CR, or all; 0 with a refusal.
     pub taken: usize,
-    /// Bytes of the reply; 0 where none is due, and with a refusal.
+    /// Bytes of the reply; 0 if none is due, and with a refusal.
     pub length: usize,
     /// The changed record; with a refusal the one that was given.
     pub device: Device,
 }
 
-/// What opening gives by value.
+/// What opening returns by value.
 #[repr(C)]
 #[derive(Clone, Copy)]
 pub struct Opened {
@@ -56,13 +56,13 @@ pub struct Opened {
     pub number: u32,
     /// Bytes of the greeting; 0 with a refusal.
     pub length: usize,
-    /// Where it was opened, 0 to 3; 0 with a refusal.
+    /// The place of the new connection, 0 to 3; 0 with a refusal.
     pub place: usize,
     /// The changed record; with a refusal the one that was given.
     pub device: Device,
 }
 
-/// What a panel's call gives: its number, and the panel (`pj_panel_changed`).
+/// What a panel's call returns by value: its number, and the panel (`pj_panel_changed`).
 #[repr(C)]
 #[derive(Clone, Copy)]
 pub struct PanelChanged {
@@ -72,7 +72,7 @@ pub struct PanelChanged {
     pub panel: Panel,
 }
 
-/// What a panel's command gives: its number, the length of its line, and the panel (`pj_panel_sent`).
+/// What a panel's command returns by value: its number, the length of its line, and the panel (`pj_panel_sent`).
 #[repr(C)]
 #[derive(Clone, Copy)]
 pub struct PanelSent {
@@ -84,7 +84,7 @@ pub struct PanelSent {
     pub panel: Panel,
 }
 
-/// What hearing a line gives beside the panel: its number, what the line was, and what it says (`pj_heard`).
+/// What hearing a line returns besides the panel: its number, what the line was, and its reading (`pj_heard`).
 #[repr(C)]
 #[derive(Clone, Copy)]
 pub struct PanelHeard {
@@ -92,11 +92,11 @@ pub struct PanelHeard {
     pub number: u32,
     /// What the line was, 1 to 6, by `enum pj_heard_kind`; 0 with a refusal.
     pub kind: u8,
-    /// What it says, where it was read as a reply; else all zero.
+    /// Its reading, if it was read as a reply; else all zero.
     pub reading: FlatReading,
 }
 
-/// What set-up, loading, closing, passing time and the host's three calls give by value.
+/// What set-up, loading, closing, passing time and the host's three calls return by value.
 #[repr(C)]
 #[derive(Clone, Copy)]
 pub struct Changed {
@@ -106,7 +106,7 @@ pub struct Changed {
     pub device: Device,
 }
 
-/// The outcome of receiving in numbers; of a refusal its number, and all else 0.
+/// The outcome of receiving in numbers; for a refusal its number, and all else 0.
 impl From<Result<calls::Received, Refusal>> for Receiving {
     ghost from_gives = { λ outcome told. told ≡ receiving_of (receiving_told outcome) };
 
@@ -126,7 +126,7 @@ impl From<Result<calls::Received, Refusal>> for Receiving {
     }
 }
 
-/// The outcome of opening in numbers; of a refusal its number, and all else 0.
+/// The outcome of opening in numbers; for a refusal its number, and all else 0.
 impl From<Result<calls::Opened, Refusal>> for Opening {
     ghost from_gives = { λ outcome told. told ≡ opening_of (opening_told outcome) (opened_place outcome) };
 

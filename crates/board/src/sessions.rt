@@ -18,13 +18,13 @@ use record::connection::SHUT;
 use record::types::{Device, PLACES};
 use text::numbered;
 
-/// What passing time gives beside the record: its number, and the places that it closed.
+/// What passing time returns besides the record: its number, and the places that it closed.
 #[repr(C)]
 #[derive(Clone, Copy)]
 pub struct Passing {
     /// 0, or the number of the refusal: 1 (RULES, The numbers a call gives).
     pub number: u32,
-    /// Bit p, of value 2 to the p: the connection at place p was not closed before, and is now. 0 with a refusal.
+    /// Bit p, of value 2 to the p: this call closed the connection at place p. 0 with a refusal.
     pub closed: u32,
 }
 
@@ -77,8 +77,8 @@ fn closing_number(device: &Device, place: usize, random: u32) -> u32
 }
 
 /// Takes bytes from the network for the connection at this place that was opened with this random number, as
-/// `pj_receive_in_place` does. Errors, in this order, also for no bytes: 1, 2, 3; 4 where the connection there is
-/// closed, or was opened with another number.
+/// `pj_receive_in_place` does. Errors, in this order, also for no bytes: 1, 2, 3; 4 if the connection there is closed,
+/// or was opened with another number.
 #[unsafe(no_mangle)]
 pub extern "C" fn pj_receive_session_in_place(
     device: &mut Device,
@@ -102,8 +102,8 @@ pub extern "C" fn pj_receive_session_in_place(
     Receiving::from(on_legal::receive(device, place, bytes, out))
 }
 
-/// Closes the connection at this place that was opened with this random number. Errors, in this order: 1, 3; 4 where
-/// the connection there is closed, or was opened with another number.
+/// Closes the connection at this place that was opened with this random number. Errors, in this order: 1, 3; 4 if the
+/// connection there is closed, or was opened with another number.
 #[unsafe(no_mangle)]
 pub extern "C" fn pj_close_session_in_place(device: &mut Device, place: usize, random: u32) -> u32
     ensures number { result ≡ (session_closed device.old place random).number }
@@ -128,7 +128,7 @@ fn bit_of(was: bool, device: &Device, place: usize, bit: u32) -> u32
     }
 }
 
-/// Lets so many seconds pass, as `pj_pass_in_place` does, and returns the places whose connection that closed. Error:
+/// Lets `seconds` seconds pass, as `pj_pass_in_place` does, and returns the places whose connection this closed. Error:
 /// 1.
 #[unsafe(no_mangle)]
 pub extern "C" fn pj_pass_telling_in_place(device: &mut Device, seconds: u32) -> Passing

@@ -4,7 +4,7 @@ ghost use Rattle.ours.specs.Board.{ours};
 
 use digest::Digest;
 
-/// The MD5 digest of the bytes (RFC 1321).
+/// Returns the MD5 digest of the bytes (RFC 1321). Refuses nothing.
 #[unsafe(no_mangle)]
 pub extern "C" fn pj_md5(bytes: &[u8]) -> Digest
     ensures { result.bytes ≡ ours.md5 bytes.now }

@@ -91,7 +91,7 @@ pub fn the_header_names_the_numbers()
 {}
 
 /// The numbers of the writer and of the reader of a command by its code are the first row of the table that applies
-/// (RULES, The numbers a call gives). What is no command is 3; where the number is not 0, nothing is written or meant.
+/// (RULES, The numbers a call gives). What is no command is 3; if the number is not 0, nothing is written or meant.
 pub fn a_refusal_has_its_number_only()
     ensures write_number { (m : Option Command) (secured : Bool) (random : ℕ) (password : List ℕ) (room : ℕ)
         → (written_by m secured random password room).number
@@ -110,8 +110,8 @@ pub fn a_refusal_has_its_number_only()
         → coded_command k ≡ None → read_by (coded_command k) l ≡ no_reading 3 }
 {}
 
-/// Of a set-up: the setting told is 0 exactly where set-up gives 0; where it gives 3 it is the first that is out of its
-/// range, and where it gives 8 the password.
+/// The setting returned for a set-up is 0 exactly if set-up gives 0. If set-up gives 3, it is the first setting out of
+/// its range; if set-up gives 8, the password.
 pub fn the_setting_told_goes_with_the_number()
     ensures accepted_where_0 { (w : Wanted)
         → setting_number (setting_told (set_up w)) ≡ 0 → (set_up_given (set_up w)).number ≡ 0 }
@@ -130,7 +130,7 @@ pub fn a_place_more_is_not_compared()
         → (r ≡ not_compared) × (m ≡ out) }
 {}
 
-/// Two results that meet the promise of a call are equal, lent memory included.
+/// Two results that meet the promise of a call are equal, written bytes included.
 pub fn one_result()
     ensures command_written { (k : Coded) (secured : Bool) (random : ℕ) (password out : List ℕ)
         (r s : Written) (m n : List ℕ)
@@ -163,9 +163,9 @@ pub fn one_result()
         → r ≡ setting_number (setting_told (set_up w)) → s ≡ setting_number (setting_told (set_up w)) → r ≡ s }
 {}
 
-/// A session's own bytes get what receiving gives, and its closing what closing gives. What names another one, or one
-/// where none is, changes nothing, whatever the record and the bytes: its number is the first row's, so 4 where the
-/// record is legal, the memory long enough, and the place one that there is (RULES, The C face).
+/// A session's own bytes get what receiving gives, and its closing what closing gives. A call that names another
+/// session, or one where there is none, changes nothing, for any record and bytes: its number is the first row's, so 4
+/// if the record is legal, the memory long enough, and the place exists (RULES, The C face).
 #[tactic(auto, using(crate::proofs::SessionsTold::naming))]
 pub fn a_session_is_served_alone()
     ensures own_bytes { (d : Device) (p r : ℕ) (bytes out : List ℕ) → is_session d p r ≡ true

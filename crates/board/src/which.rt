@@ -18,8 +18,8 @@ fn number_of(checked: Result<(), SetUpError>) -> u32
     }
 }
 
-/// Of a set-up of Class 1: 0 where it gives 0; the place, 1 to 9, of the first setting that is out of its range where
-/// it gives 3; the password's where it gives 8 (RULES, The legal record).
+/// Returns which setting a Class 1 set-up refuses: 0 if it gives 0; the place, 1 to 9, of the first setting out of its
+/// range if it gives 3; the password's if it gives 8 (RULES, The legal record).
 #[unsafe(no_mangle)]
 #[tactic(auto, using(crate::proofs::WhichSetting::checked))]
 pub extern "C" fn pj_which_setting<'a>(
@@ -52,7 +52,8 @@ pub extern "C" fn pj_which_setting<'a>(
     number_of(wanted.check())
 }
 
-/// The same of a set-up of Class 2: 0, or a place of 1 to 12.
+/// Returns which setting a Class 2 set-up refuses: 0 if it gives 0; the place, 1 to 12, of the first setting out of its
+/// range if it gives 3; the password's if it gives 8.
 #[unsafe(no_mangle)]
 #[tactic(auto, using(crate::proofs::WhichSetting::checked))]
 pub extern "C" fn pj_which_setting_2<'a>(

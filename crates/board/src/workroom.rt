@@ -49,7 +49,7 @@ fn untold(number: u32) -> PanelHeard
     }
 }
 
-/// The panel of no projector, into the host's.
+/// Fills the host's record with the panel of no projector. Refuses nothing.
 #[unsafe(no_mangle)]
 pub extern "C" fn pj_panel_none_in_place(panel: &mut Panel) -> u32
     ensures number { result ≡ (ours_panel.none).number }
@@ -59,7 +59,7 @@ pub extern "C" fn pj_panel_none_in_place(panel: &mut Panel) -> u32
     0
 }
 
-/// A projector more: 1, then 3.
+/// Adds a projector to the panel. Errors, in this order: 1, 3.
 #[unsafe(no_mangle)]
 pub extern "C" fn pj_panel_add_in_place(panel: &mut Panel, password: &[u8]) -> u32
     ensures number { result ≡ (ours_panel.add panel.old password.now).number }
@@ -68,7 +68,7 @@ pub extern "C" fn pj_panel_add_in_place(panel: &mut Panel, password: &[u8]) -> u
     numbered::number_of(panel.add(password))
 }
 
-/// A command to a projector: 1, 2, 3 and 9 in that order.
+/// Writes the line of a command to a projector to the start of `out`. Errors, in this order: 1, 2, 3, 9.
 #[unsafe(no_mangle)]
 pub extern "C" fn pj_panel_command_in_place(
     panel: &mut Panel,
@@ -84,7 +84,7 @@ pub extern "C" fn pj_panel_command_in_place(
     Written::from(panel.send(projector, k, out))
 }
 
-/// The step on a line from a projector: 1, then 3.
+/// Steps the panel on a line from a projector, with its CR. Errors, in this order: 1, 3.
 #[unsafe(no_mangle)]
 pub extern "C" fn pj_panel_line_in_place(panel: &mut Panel, projector: usize, line: &[u8]) -> u32
     ensures number { result ≡ (ours_panel.hear panel.old projector line.now).number }
@@ -96,7 +96,7 @@ pub extern "C" fn pj_panel_line_in_place(panel: &mut Panel, projector: usize, li
     }
 }
 
-/// The step on a line from a projector, and what the line was: 1, then 3.
+/// Steps the panel on a line from a projector, with its CR, and returns what the line was. Errors, in this order: 1, 3.
 #[unsafe(no_mangle)]
 pub extern "C" fn pj_panel_hear_in_place(
     panel: &mut Panel,
@@ -113,7 +113,7 @@ pub extern "C" fn pj_panel_hear_in_place(
     }
 }
 
-/// The connection to a projector is gone: 1, then 3.
+/// Records that the connection to a projector is gone. Errors, in this order: 1, 3.
 #[unsafe(no_mangle)]
 pub extern "C" fn pj_panel_lost_in_place(panel: &mut Panel, projector: usize) -> u32
     ensures number { result ≡ (ours_panel.lose panel.old projector).number }
@@ -122,7 +122,7 @@ pub extern "C" fn pj_panel_lost_in_place(panel: &mut Panel, projector: usize) ->
     numbered::number_of(panel.lose(projector))
 }
 
-/// The panel of no projector, by value.
+/// Returns the panel of no projector, by value. Refuses nothing.
 #[unsafe(no_mangle)]
 pub extern "C" fn pj_panel_none() -> PanelChanged
     ensures { result ≡ panel_changed_of ours_panel.none }
@@ -133,7 +133,7 @@ pub extern "C" fn pj_panel_none() -> PanelChanged
     }
 }
 
-/// A projector more, by value: 1, then 3.
+/// Adds a projector to the panel, by value. Errors, in this order: 1, 3.
 #[unsafe(no_mangle)]
 pub extern "C" fn pj_panel_add(p: Panel, password: &[u8]) -> PanelChanged
     ensures { result ≡ panel_changed_of (ours_panel.add p password.now) }
@@ -143,7 +143,7 @@ pub extern "C" fn pj_panel_add(p: Panel, password: &[u8]) -> PanelChanged
     PanelChanged { number, panel }
 }
 
-/// A command to a projector, by value: 1, 2, 3 and 9 in that order.
+/// Writes the line of a command to a projector to the start of `out`, by value. Errors, in this order: 1, 2, 3, 9.
 #[unsafe(no_mangle)]
 pub extern "C" fn pj_panel_command(
     p: Panel,
@@ -164,7 +164,7 @@ pub extern "C" fn pj_panel_command(
     }
 }
 
-/// The step on a line from a projector, by value: 1, then 3.
+/// Steps the panel on a line from a projector, with its CR, by value. Errors, in this order: 1, 3.
 #[unsafe(no_mangle)]
 pub extern "C" fn pj_panel_line(p: Panel, projector: usize, line: &[u8]) -> PanelChanged
     ensures { result ≡ panel_changed_of (ours_panel.hear p projector line.now) }
@@ -174,7 +174,7 @@ pub extern "C" fn pj_panel_line(p: Panel, projector: usize, line: &[u8]) -> Pane
     PanelChanged { number, panel }
 }
 
-/// The connection to a projector is gone, by value: 1, then 3.
+/// Records that the connection to a projector is gone, by value. Errors, in this order: 1, 3.
 #[unsafe(no_mangle)]
 pub extern "C" fn pj_panel_lost(p: Panel, projector: usize) -> PanelChanged
     ensures { result ≡ panel_changed_of (ours_panel.lose p projector) }

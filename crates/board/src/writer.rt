@@ -14,17 +14,18 @@ use controller::writing;
 use controller::writing::{COMMAND_ROOM, Unwritten};
 use text::numbered::Numbered;
 
-/// What writing a command or a form gives: its number, and the length of what is written (`pj_written`).
+/// What writing a command, a form or a line of a log returns: its number, and the length of what is written
+/// (`pj_written`).
 #[repr(C)]
 #[derive(Clone, Copy)]
 pub struct Written {
-    /// 0, or the number of the refusal: 2 or 3, of storing 1 or 2 (RULES, The numbers a call gives).
+    /// 0, or the number of the refusal (RULES, The numbers a call gives).
     pub number: u32,
-    /// Bytes that were written, of a line with its CR; 0 with a refusal.
+    /// Bytes written, a line's CR or LF included; 0 with a refusal.
     pub length: usize,
 }
 
-/// In numbers what a call gives that writes so many bytes, or refuses.
+/// The result in numbers of a call that writes so many bytes, or refuses.
 impl<E: Numbered> From<Result<usize, E>> for Written {
     ghost from_gives = { λ outcome told. told ≡ writing_of (written_told E.number outcome) };
 
@@ -49,7 +50,8 @@ fn none_written(room: usize) -> Written
     Written::from(Err(Unwritten::OutOfRange))
 }
 
-/// The line of a command: 2, then 3, also for what is no command.
+/// Writes the line of a command to the start of `out`, led by the digest of `random` and `password` if `secured`.
+/// Errors, in this order: 2; 3 for what is no command, and if `secured` for what is no password.
 #[unsafe(no_mangle)]
 pub extern "C" fn pj_write(
     k: Coded,
