@@ -16,13 +16,13 @@ pub enum Stop<'a> {
     Version,
     /// The program knows no such word.
     Unknown(&'a str),
-    /// It ends where a file's name is wanted after this word.
+    /// It ends where a file's name must follow this word.
     Alone(&'a str),
     /// It has this word twice.
     Twice(&'a str),
-    /// It has this word, for standard input, where the form's file is wanted.
+    /// It has this word, for standard input, as the form's file.
     NoForm(&'a str),
-    /// It has this word where a day and a time of day are wanted.
+    /// It has this word as a day and a time of day.
     NoMoment(&'a str),
     /// There is no memory for the words.
     NoMemory,
@@ -64,9 +64,9 @@ enum Use {
 /// What a command line asks for.
 #[derive(Drop)]
 pub struct Command<'a> {
-    /// Whether for a page.
+    /// Whether it asks for a page.
     pub page: bool,
-    /// When the log began, if that is said.
+    /// When the log began, if that is given.
     pub began: Option<Moment>,
     /// The file of the stored form that the log begins with; none for the sample set-up.
     pub form: Option<&'a str>,
@@ -287,7 +287,7 @@ impl<'a> Reading<'a> {
     }
 }
 
-/// What the words of a command line ask for, the program's name not among them; `has_page` where the program knows
+/// Returns what the words of a command line ask for, without the program's name; `has_page` if the program knows
 /// `--page`. The first word that ends it decides.
 #[tactic(auto, unfolding(crate::specs::Asked::asked_by, crate::specs::Asked::read_on))]
 pub fn command_of<'a, S: AsStr>(

@@ -1,4 +1,4 @@
-//! Reading a reply, told the command that it answers.
+//! Reading the reply to a given command.
 ghost use Rattle.std.proofs.Common.{arith};
 ghost use Rattle.std.specs.Prelude.{◌≡◌};
 ghost use Rattle.controller.specs.Reading.{outcome_of, reading_outcome_number, read_reply, read_as};
@@ -20,11 +20,11 @@ pub enum Reading<'a> {
 /// Why a line says nothing to a command (RULES, The numbers a call gives).
 #[derive(Clone, Copy)]
 pub enum Misread {
-    /// 10: it has not the form of a reply of the command's class.
+    /// 10: it does not have the form of a reply of the command's class.
     NotALine,
     /// 11: it answers another command.
     OtherCommand,
-    /// 12: its parameter is none that the command allows.
+    /// 12: its parameter is not allowed for the command.
     NotAllowed,
 }
 
@@ -42,8 +42,8 @@ impl Numbered for Misread {
     }
 }
 
-/// What the line, with its CR, says to the command: the ERRA line, then the form, then the body, then the parameter
-/// (RULES, Controller).
+/// Reads what a line, with its CR, says to the command. Tests, in this order: the ERRA line; the form, else `NotALine`;
+/// the body, else `OtherCommand`; the parameter, else `NotAllowed` (RULES, Controller).
 pub fn read_reply(c: Command, line: &[u8]) -> Result<Reading<'_>, Misread>
     ensures { read_as result ≡ read_reply c line.now }
 {

@@ -14,7 +14,8 @@ ghost use Rattle.controller.specs.declared.reading.Misread.{Misread};
 ghost use Rattle.controller.specs.Reading.{read_as, read_reply, meaning, outcome_alone};
 ghost use Rattle.controller.specs.Reading.{not_a_line, other_command, disallowed};
 
-/// Two results that meet the promise of a call are equal, lent memory included; two replies that are read say the same.
+/// Two results that meet the promise of a call are equal, written bytes included; two replies that are read say the
+/// same.
 #[tactic(auto, using(text::proofs::OneResult::one_result))]
 pub fn one_result()
     ensures command_written { (c : Command) (secured : Bool) (random : ℕ) (password out : List ℕ)
@@ -26,7 +27,7 @@ pub fn one_result()
         → read_as r ≡ read_reply c l → read_as s ≡ read_reply c l → read_as r ≡ read_as s }
 {}
 
-/// Power-on as it is written into 168 bytes, and what 167 bytes give: 2, and nothing written (RULES, Controller).
+/// Power-on as it is written into 168 bytes, and the result for 167 bytes: 2, and nothing written (RULES, Controller).
 #[tactic(auto, using(crate::proofs::Examples::worked_commands))]
 pub fn commands_are_worked_out()
     ensures power_on { written_command (PowerSet true) false 0 [] 168

@@ -10,15 +10,15 @@ use text::numbered::Numbered;
 use words::codec::Line;
 use words::{codec, texts};
 
-/// Room for the longest line of a command, led by a digest.
+/// Room for the longest line of a command, led by a digest, in bytes.
 pub const COMMAND_ROOM: usize = 168;
 
-/// Why a command is not written. The lent memory is then as it was.
+/// Why a command is not written. The buffer is then as it was.
 #[derive(Clone, Copy)]
 pub enum Unwritten {
-    /// 2: the lent memory is too short for a command's line.
+    /// 2: the buffer is too short for a command's line.
     NoRoom,
-    /// 3: what is no command, and where a digest is asked for no password.
+    /// 3: it is no command, or a digest is asked for with no password.
     OutOfRange,
 }
 
@@ -53,8 +53,8 @@ fn led_by(secured: bool, random: u32, password: &[u8]) -> Line
     line
 }
 
-/// The command's line from the start of the lent memory, led by the digest where one is asked for: so many bytes.
-/// Refused: `NoRoom`, then `OutOfRange`.
+/// Writes the command's line to the start of `out`, led by the digest of `random` and `password` if `secured`. Returns
+/// its length in bytes. Errors, in this order: `NoRoom`, `OutOfRange`.
 #[tactic(auto, unfolding(crate::specs::Writing::written_command))]
 pub fn write_command(
     c: Command,

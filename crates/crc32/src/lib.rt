@@ -1,4 +1,4 @@
-//! CRC-32 as zlib, gzip and PNG have it (RFC 1952, 8), a text in whatever parts.
+//! CRC-32 as zlib, gzip and PNG have it (RFC 1952, 8), of a text in any parts.
 #![tactic(auto)]
 
 mod table;
@@ -10,7 +10,7 @@ ghost use Rattle.crc32.specs.Crc.{crc32_of, crc32_on};
 // All 32 bits.
 const ONES: u32 = 0xffffffff;
 
-/// The CRC-32 of a text and of `s` behind it, where that of the text is `sum`; 0 is that of no bytes.
+/// Returns the CRC-32 of a text followed by `s`, where `sum` is the CRC-32 of the text; 0 is that of no bytes.
 #[tactic(auto, unfolding(crate::specs::Crc::crc32_on), using(crate::proofs::GoesOn::remainder_steps))]
 pub fn crc32_on(sum: u32, s: &[u8]) -> u32
     ensures { result ≡ crc32_on sum s.now }
@@ -30,7 +30,7 @@ pub fn crc32_on(sum: u32, s: &[u8]) -> u32
     ONES ^ r
 }
 
-/// The CRC-32 of `s`.
+/// Returns the CRC-32 of `s`.
 #[tactic(auto, unfolding(crate::specs::Crc::crc32_on, crate::specs::Crc::crc32_of))]
 pub fn crc32(s: &[u8]) -> u32
     ensures { result ≡ crc32_of s.now }

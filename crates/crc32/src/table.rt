@@ -642,7 +642,7 @@ fn tables() -> &'static [[u32; 256]; 16]
     &TABLES
 }
 
-/// The remainder after a byte.
+/// Returns the remainder after a byte.
 #[tactic(auto, using(crate::proofs::ByTable::by_table))]
 pub fn after_byte(r: u32, b: u8) -> u32
     ensures { result ≡ after_byte r b }
@@ -651,7 +651,7 @@ pub fn after_byte(r: u32, b: u8) -> u32
     (r >> 8) ^ tables()[0][low as usize]
 }
 
-/// The remainder after four bytes. The lowest has all 32 bits to go, the highest eight.
+/// Returns the remainder after four bytes. The lowest has all 32 bits to go, the highest eight.
 pub fn after_four(r: u32, a: u8, b: u8, c: u8, d: u8) -> u32
     ensures { result ≡ remainder_on r (a ∷ b ∷ c ∷ d ∷ []) }
 {
@@ -663,7 +663,7 @@ pub fn after_four(r: u32, a: u8, b: u8, c: u8, d: u8) -> u32
         ^ t[3][(x % 256) as usize]
 }
 
-/// The remainder after sixteen bytes. The first has all 128 bits to go, the last eight.
+/// Returns the remainder after sixteen bytes. The first has all 128 bits to go, the last eight.
 pub fn after_sixteen(r: u32, s: &[u8; 16]) -> u32
     ensures { result ≡ remainder_on r s.now }
 {

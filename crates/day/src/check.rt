@@ -108,7 +108,8 @@ fn spent(plan: &[Placement], rigs: &[Rig]) -> Option<usize>
     None
 }
 
-/// Checks a plan against the four rules, in their order.
+/// Checks a plan against the four rules, in their order. Errors: `OutOfRange` before any rule, then the first rule that
+/// is broken.
 pub fn check_day(plan: &[Placement], rigs: &[Rig]) -> Result<(), CheckError>
     ensures { VerdictHolds rigs.now plan.now result }
 {

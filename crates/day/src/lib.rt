@@ -26,11 +26,11 @@ pub const WARM_OR_COOL_MOST: u32 = 600;
 /// A job: its lines burn from its start on.
 #[derive(Clone, Copy, Debug, PartialEq, Eq)]
 pub struct Job {
-    /// The second of the day at which it starts, from 0 on.
+    /// The second of the day at which it starts, from 0.
     pub start: u32,
     /// Its seconds, at least 1; start plus length is at most `DAY_END`.
     pub length: u32,
-    /// The rigs that it may use: bit k is set for rig k. A bit of no rig is passed over.
+    /// The rigs that it may use: bit k is set for rig k. A bit of no rig is ignored.
     pub allowed: u8,
 }
 
@@ -50,7 +50,7 @@ pub struct Rig {
 pub struct Placement {
     /// The job that is placed, whether or not it may use the rig.
     pub job: Job,
-    /// The number of the rig, which may be none of the day's.
+    /// The number of the rig, from 0, which may be none of the day's.
     pub rig: u8,
 }
 

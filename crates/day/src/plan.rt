@@ -60,7 +60,7 @@ impl Plan {
         self.count += 1;
     }
 
-    /// The placements, one a job.
+    /// Returns the placements, one for each job.
     pub fn placements(&self) -> &[Placement]
         ensures { result.now ≡ self.now }
     {
@@ -137,7 +137,8 @@ fn is_day(jobs: &[Job], rigs: &[Rig]) -> bool
     jobs.len() <= JOBS_MOST && rigs.len() <= RIGS_MOST && are_jobs(jobs) && are_rigs(rigs)
 }
 
-/// Places the jobs one after the other, each on its lowest rig.
+/// Places the jobs one after the other, each on the lowest rig that keeps every rule with those already placed. Errors,
+/// in this order: `OutOfRange`, `NoRig`.
 pub fn plan_day(jobs: &[Job], rigs: &[Rig]) -> Result<Plan, PlanError>
     ensures { PlanHolds jobs.now rigs.now result }
 {

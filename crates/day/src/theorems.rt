@@ -13,7 +13,7 @@ use crate::check::{CheckError, check_day};
 use crate::plan::{Plan, PlanError, plan_day};
 use crate::{DAY_END, JOBS_MOST, Job, Placement, RIGS_MOST, Rig, WARM_OR_COOL_MOST};
 
-/// What the checker tells holds of the plan, and what holds it tells: so exactly one verdict holds.
+/// The checker's verdict holds of the plan, and a verdict that holds is the checker's: so exactly one verdict holds.
 #[tactic(auto, using(crate::proofs::OneVerdict::one_verdict))]
 pub fn the_verdict_told_holds(plan: &[Placement], rigs: &[Rig]) -> Result<(), CheckError>
     ensures told_holds { VerdictHolds rigs.now plan.now result }
@@ -24,7 +24,8 @@ pub fn the_verdict_told_holds(plan: &[Placement], rigs: &[Rig]) -> Result<(), Ch
     check_day(plan, rigs)
 }
 
-/// What the planner answers holds of the jobs and rigs, and what holds it answers: so exactly one answer holds.
+/// The planner's answer holds of the jobs and rigs, and an answer that holds is the planner's: so exactly one answer
+/// holds.
 #[tactic(auto, using(crate::proofs::OnePlan::one_plan))]
 pub fn the_plan_answered_holds(jobs: &[Job], rigs: &[Rig]) -> Result<Plan, PlanError>
     ensures told_holds { PlanHolds jobs.now rigs.now result }
@@ -35,7 +36,7 @@ pub fn the_plan_answered_holds(jobs: &[Job], rigs: &[Rig]) -> Result<Plan, PlanE
     plan_day(jobs, rigs)
 }
 
-/// What the planner plans the checker accepts.
+/// The checker accepts what the planner plans.
 #[tactic(auto, using(crate::proofs::OnePlan::planned_accepted))]
 pub fn a_plan_is_accepted()
     ensures { (jobs : List Job) (rigs : List Rig) (plan : List Placement)

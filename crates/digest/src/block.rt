@@ -20,8 +20,8 @@ fn add(p: Buffer, q: Buffer) -> Buffer
     }
 }
 
-/// The buffer after one block. The rest of the crate goes by this contract alone, so that another way through a block
-/// moves nothing else.
+/// Returns the buffer after one block. The rest of the crate uses this contract alone, so that another way through a
+/// block changes nothing else.
 pub fn block(s: &[u8], q: Buffer) -> Buffer
     requires { length s.now ≡ 64 }
     ensures { result ≡ block_of s.now q }
@@ -32,7 +32,7 @@ pub fn block(s: &[u8], q: Buffer) -> Buffer
     add(q, p)
 }
 
-/// Every whole block of s.
+/// Returns the buffer after every whole block of `s`.
 pub fn blocks(s: &[u8], q: Buffer) -> Buffer
     ensures { result ≡ whole_blocks s.now q }
 {

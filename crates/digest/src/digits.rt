@@ -19,7 +19,7 @@ fn two(x: u8) -> [u8; 2]
     [digit(w, 0x10), digit(w, 1)]
 }
 
-/// The eight digits of a number, the highest first.
+/// Returns the eight digits of a number, the highest first.
 pub fn eight(x: u32) -> [u8; 8]
     ensures { result ≡ hex_digits 8 x }
 {
@@ -35,7 +35,7 @@ pub fn eight(x: u32) -> [u8; 8]
     ]
 }
 
-/// The digits of 16 bytes.
+/// Returns the digits of 16 bytes.
 pub fn all(b: &[u8; 16]) -> [u8; 32]
     ensures { result ≡ hex_of b.now }
 {
@@ -59,7 +59,7 @@ fn worth(b: u8) -> u32
     0
 }
 
-/// The number whose digits are s; a byte that is none counts as 0.
+/// Returns the number with the digits `s`; a byte that is no digit counts as 0.
 pub fn value(s: &[u8]) -> u32
     requires { length s.now ≤ 8 }
     ensures { result ≡ hex_value s.now }

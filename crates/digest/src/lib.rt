@@ -68,7 +68,7 @@ fn finish(s: &[u8], bits: u64, q: Buffer) -> Digest
     tail::last(&s[from..], bits, p).digest()
 }
 
-/// The MD5 digest of a message of any length (RFC 1321).
+/// Returns the MD5 digest of a message of any length (RFC 1321).
 #[tactic(auto, using(crate::proofs::Blocks::md5_from_start))]
 pub fn md5(s: &[u8]) -> Digest
     ensures { result.bytes ≡ md5_of s.now }
@@ -92,21 +92,21 @@ fn md5_after(head: [u8; 8], s: &[u8]) -> Digest
     finish(&s[56..], wrapping_add_u64(tail::bit_length(s.len()), 64), q)
 }
 
-/// A digest in lowercase hexadecimal digits, two a byte.
+/// Returns a digest in lowercase hexadecimal digits, two a byte.
 pub fn hex(d: Digest) -> [u8; 32]
     ensures { result ≡ hex_of d.bytes }
 {
     digits::all(&d.bytes)
 }
 
-/// The eight lowercase hexadecimal digits of a number, the highest first.
+/// Returns the eight lowercase hexadecimal digits of a number, the highest first.
 pub fn hex8(x: u32) -> [u8; 8]
     ensures { result ≡ hex_digits 8 x }
 {
     digits::eight(x)
 }
 
-/// The number of at most eight hexadecimal digits; a byte that is no digit counts as 0.
+/// Returns the number of at most eight hexadecimal digits; a byte that is no digit counts as 0.
 pub fn hex_value(s: &[u8]) -> u32
     requires fits { length s.now ≤ 8 }
     ensures { result ≡ hex_value s.now }
@@ -114,8 +114,8 @@ pub fn hex_value(s: &[u8]) -> u32
     digits::value(s)
 }
 
-/// What a controller that knows the password leads its first line with (PJLink 1.04, 5.1): the digest of the random
-/// number's eight digits and the password, in hex.
+/// Returns what leads the first line of a controller that knows the password (PJLink 1.04, 5.1): the digest of the
+/// random number's eight digits followed by the password, in hex.
 pub fn leading_digest(random: u32, password: &[u8]) -> [u8; 32]
     ensures { result ≡ leading_digest random password.now }
 {

@@ -5,7 +5,7 @@ ghost use Rattle.digest.specs.Md5.{whole_blocks};
 
 use crate::{Buffer, block};
 
-/// The bits of n bytes, of which the lowest 64 bits count (RFC 1321, 3.2). Cut before it is multiplied, so that nothing
+/// Returns the bits of `n` bytes, modulo 2^64 (RFC 1321, 3.2). `n` is cut before it is multiplied, so that nothing
 /// overflows.
 pub fn bit_length(n: usize) -> u64
     ensures { result ≡ bit_length n }
@@ -13,7 +13,8 @@ pub fn bit_length(n: usize) -> u64
     (n as u64) % 0x2000_0000_0000_0000 * 8
 }
 
-/// The block or two that hold what is left of a message, and its padding, whose last eight bytes are the length.
+/// Returns the buffer after the last block or two: the rest of a message and its padding, whose last eight bytes are
+/// the length in bits.
 #[tactic(auto, using(crate::proofs::Padded::padded_out))]
 pub fn last(rest: &[u8], bits: u64, q: Buffer) -> Buffer
     requires { length rest.now < 64 }

@@ -13,7 +13,7 @@ pub fn published_digests_come_out()
     ensures { TestSuite }
 {}
 
-/// RFC 1321, 3.1: the zeros bring a message's length to 448 bits modulo 512, and no more of them than that takes.
+/// RFC 1321, 3.1: the zeros bring a message's length to 448 bits modulo 512, and are no more than that takes.
 #[tactic(auto, unfolding(crate::specs::Padding::zeros_after))]
 pub fn zeros_reach_448_bits()
     ensures reached { (n : ℕ) → (n + 1 + zeros_after n) % 64 ≡ 56 }

@@ -68,7 +68,7 @@ fn form_sum(device: &Device) -> u32
     }
 }
 
-/// The sample set-up, and the sum of the form that is stored of it.
+/// Returns the sample set-up, and the sum of its stored form.
 pub fn sample() -> Begun
     ensures device { result.device ≡ sample_device }
     ensures legal { is_legal result.device ≡ true }
@@ -94,7 +94,8 @@ fn loaded(bytes: &[u8]) -> Result<Begun, NotBegun>
     }
 }
 
-/// By what a reader of a form has left. An error of the reader is given, whatever had come before it.
+/// Returns the device of the form that is left in a reader. Errors: `Unread` with the reader's error, after any bytes;
+/// `Refused` with why the form does not load.
 pub fn read_from<R: Read + Drop>(mut from: R, alloc: Global) -> Result<Begun, NotBegun>
     ensures begun { IsBegun result }
     ensures by_form { IfSome (R.remaining from) (λ form. IsReadBy form result) }
@@ -107,7 +108,8 @@ pub fn read_from<R: Read + Drop>(mut from: R, alloc: Global) -> Result<Begun, No
     loaded(&bytes)
 }
 
-/// By the form in the file with that name; without one the sample set-up.
+/// Returns the device of the form in the file with that name; without a name the sample set-up. Errors as for
+/// [`read_from`].
 pub fn begin_by(rt: &HostRuntime, name: Option<&str>) -> Result<Begun, NotBegun>
     ensures { IsBegun result }
 {

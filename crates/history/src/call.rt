@@ -35,8 +35,8 @@ fn are_errors(digits: &Errors) -> bool
 }
 
 impl Call<'_> {
-    /// Whether a line can say it: there is such a place or lamp, at most 2,046 bytes are received, and the error digits
-    /// are 0 to 2.
+    /// Whether a line can say it: the place or lamp exists, at most 2,046 bytes are received, and the error digits are
+    /// 0 to 2.
     #[inline(always)]
     pub fn is_sayable(&self) -> bool
         ensures { result ≡ is_sayable (call_seen self.now) }

@@ -17,9 +17,9 @@ pub const SHOWN_MOST: usize = 128;
 pub struct Header<'a> {
     /// The number of the file in the chain, from 1.
     pub file: u32,
-    /// The sum of all that came before: the stored form, then the files before this one.
+    /// The sum of everything before: the stored form, then the files before this one.
     pub sum: u32,
-    /// When the file was begun, as the host tells it: 1 to 35 characters `!` to `~` (RFC 3339 is meant).
+    /// When the file was begun, as the host says: 1 to 35 characters `!` to `~` (RFC 3339 is meant).
     pub time: Option<&'a [u8]>,
 }
 
@@ -28,7 +28,7 @@ pub struct Header<'a> {
 pub struct Stated<'a> {
     /// How many lines came before, since the header.
     pub lines: u32,
-    /// The sum of all that came before.
+    /// The sum of everything before.
     pub sum: u32,
     /// Power and seconds, as `replay` prints them: `power 1 lamps 3600`.
     pub shown: &'a [u8],

@@ -31,7 +31,7 @@ fn two(n: u32, hundreds: u32) -> [u8; 2]
     [tens()[i], ones()[i]]
 }
 
-/// The ten lowest digits of n, the highest first.
+/// Returns the ten lowest digits of `n`, the highest first.
 pub fn ten(n: u32) -> [u8; 10]
     ensures { result ≡ lowest 10 n }
 {

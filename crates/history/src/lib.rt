@@ -1,5 +1,5 @@
 //! The history of a board as a log (RULES, History of a board): the lines of a header, of a call that can change a
-//! record and of what a record shows, their reading, and the recorder.
+//! record and of what a record shows, how they are read, and the recorder.
 #![tactic(auto)]
 
 pub mod call;

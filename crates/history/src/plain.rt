@@ -47,7 +47,7 @@ fn are_sixteens(s: &[u8]) -> bool
     all
 }
 
-/// Whether each of them is. The last eight or sixteen may lie over those before them.
+/// Whether each of these bytes is printable. The last eight or sixteen may be tested over those before them.
 #[inline(always)]
 pub fn are_printable(s: &[u8]) -> bool
     ensures { result ≡ list_all is_printable s.now }

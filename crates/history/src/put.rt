@@ -30,7 +30,7 @@ pub fn is_plain(s: &[u8]) -> bool
     plain::are_printable(s)
 }
 
-/// Whether the bytes are one line of a controller, which is said as text.
+/// Whether the bytes are one line of a controller, which is written as text.
 #[tactic(auto, unfolding(crate::specs::Lines::is_command_line))]
 #[inline(always)]
 pub fn is_command_line(bytes: &[u8]) -> bool
@@ -160,7 +160,7 @@ fn bytes(w: &mut Writer<'_>, place: u8, bytes: &[u8])
     hex(w, bytes);
 }
 
-/// Puts the line of a call, without its LF.
+/// Writes the line of a call, without its LF.
 #[tactic(auto, unfolding(crate::specs::Lines::call_text), using(crate::proofs::Writing::steps))]
 #[inline(always)]
 pub fn call(w: &mut Writer<'_>, call: &Call<'_>)
@@ -223,7 +223,7 @@ fn time(w: &mut Writer<'_>, time: Option<&[u8]>)
     }
 }
 
-/// Puts what a line says, without its LF.
+/// Writes the line of an entry, without its LF.
 #[tactic(auto, unfolding(crate::specs::Entries::entry_text), using(crate::proofs::Writing::steps))]
 #[inline(always)]
 pub fn entry(w: &mut Writer<'_>, entry: &Entry<'_>)

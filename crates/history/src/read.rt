@@ -341,8 +341,8 @@ fn stated_in(s: &[u8]) -> Option<Entry<'_>>
     }
 }
 
-/// What a line says, without its LF, if it says anything. The bytes that it says were received lie in the room, which
-/// is to be empty.
+/// Reads what a line, without its LF, says, if it says anything. The bytes that it says were received go into `room`,
+/// which must be empty.
 #[tactic(auto, unfolding(crate::specs::Entries::entry_in))]
 pub fn read<'a>(line: &'a [u8], room: &'a mut Bytes) -> Option<Entry<'a>>
     requires { room.old.items ≡ [] }

@@ -22,10 +22,10 @@ use lent::Writer;
 use record::refusal::Refusal;
 use record::types::Device;
 
-/// The memory that any line fits in, its LF included.
+/// The memory that any line fits in, its LF included, in bytes.
 pub const LINE_ROOM: usize = 4097;
 
-/// What is kept from line to line: plain numbers, which a host may keep wherever it likes.
+/// The state from line to line: plain numbers, which a host may keep anywhere.
 #[repr(C)]
 #[derive(Clone, Copy)]
 pub struct Recorder {
@@ -33,7 +33,7 @@ pub struct Recorder {
     pub file: u32,
     /// How many lines the file has, its header not counted.
     pub lines: u32,
-    /// The CRC-32 of all that came before: the stored form, and the chain so far.
+    /// The CRC-32 of everything before: the stored form, and the chain so far.
     pub sum: u32,
 }
 
@@ -80,8 +80,8 @@ impl Recorder {
         }
     }
 
-    /// For a reader of a history, which keeps the same numbers as its recorder: goes on past a line that was read. The
-    /// line is given without its LF, and says the entry.
+    /// For a reader of a history, which keeps the same numbers as its recorder: counts a line that was read and adds it
+    /// to the sum. The line has no LF, and says the entry.
     pub fn read_past(&mut self, entry: &Entry<'_>, line: &[u8])
         requires room { cannot_follow self.old (entry_seen entry.now) ≡ false }
         ensures { self.new ≡ read_past self.old (entry_seen entry.now) line.now }
@@ -90,7 +90,8 @@ impl Recorder {
         self.count(entry, crc32::crc32_on(text, b"\n"));
     }
 
-    /// Nothing is recorded yet. The form is that of the device, which was set up, or loaded from it.
+    /// Returns a recorder that has recorded nothing. `form` is the stored form of the device that was set up, or loaded
+    /// from it.
     pub fn new(form: &[u8]) -> Recorder
         ensures file { result.file ≡ 0 }
         ensures lines { result.lines ≡ 0 }
@@ -126,10 +127,9 @@ impl Recorder {
         Ok(count)
     }
 
-    /// Records that a file begins: its header, with the time that the host gives. Returns the length of the line, which
-    /// fills the start of the memory; its rest stays. Errors, in this order, with which the recorder and all of the
-    /// memory stay: `NoRoom` under 4,097 bytes of memory; `OutOfRange` for a time that no header can have, and past
-    /// file 4,294,967,295.
+    /// Records that a file begins, with its start time, if any. Returns the length of the header line, which fills the
+    /// start of `out`; the rest of `out` stays. Errors, in this order, with which the recorder and all of `out` stay:
+    /// `NoRoom` under 4,097 bytes; `OutOfRange` for a time that no header can have, and past file 4,294,967,295.
     #[tactic(auto, unfolding(crate::specs::Recording::recorded_by, crate::specs::Recording::recorder_after))]
     pub fn file(&mut self, time: Option<&[u8]>, out: &mut [u8]) -> Result<usize, Refusal>
         ensures told { written_told refusal_number result ≡ told_written
@@ -154,10 +154,9 @@ impl Recorder {
         self.record(&Entry::Header(header), out)
     }
 
-    /// Records a call. Returns the length of its line, which fills the start of the memory; its rest stays. Errors, in
-    /// this order, with which the recorder and all of the memory stay: `NoRoom` under 4,097 bytes of memory;
-    /// `OutOfRange` for a call that no line can say ([`Call::is_sayable`]), before the first file, and past
-    /// 4,294,967,295 lines of a file.
+    /// Records a call. Returns the length of its line, which fills the start of `out`; the rest of `out` stays. Errors,
+    /// in this order, with which the recorder and all of `out` stay: `NoRoom` under 4,097 bytes; `OutOfRange` for a
+    /// call that no line can say ([`Call::is_sayable`]), before the first file, and past 4,294,967,295 lines of a file.
     #[inline(always)]
     pub fn call(&mut self, made: &Call<'_>, out: &mut [u8]) -> Result<usize, Refusal>
         ensures told { written_told refusal_number result
@@ -173,9 +172,9 @@ impl Recorder {
     }
 
     /// Records what a record shows: its power and seconds, with the count of lines and the sum so far. Returns the
-    /// length of the line, which fills the start of the memory; its rest stays. Errors, in this order, with which the
-    /// recorder and all of the memory stay: `NotLegal`; `NoRoom` under 4,097 bytes of memory; `OutOfRange` before the
-    /// first file, and past 4,294,967,295 lines of a file, and never for what a legal record shows.
+    /// length of the line, which fills the start of `out`; the rest of `out` stays. Errors, in this order, with which
+    /// the recorder and all of `out` stay: `NotLegal`; `NoRoom` under 4,097 bytes; `OutOfRange` before the first file,
+    /// and past 4,294,967,295 lines of a file, and never for what a legal record shows.
     #[tactic(auto, unfolding(crate::specs::Recording::stated_by, crate::specs::Recording::stated_after))]
     pub fn stated(&mut self, device: &Device, out: &mut [u8]) -> Result<usize, Refusal>
         ensures told { written_told refusal_number result

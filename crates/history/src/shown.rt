@@ -19,7 +19,7 @@ fn put_lamps<const N: usize>(lamps: &[u32], out: &mut ArrayVec<u8, N>)
     }
 }
 
-/// Puts what a device shows, as the last line of `replay` has it and a stated line: `power 1 lamps 3600`.
+/// Writes what a device shows, as in the last line of `replay` and in a stated line: `power 1 lamps 3600`.
 #[tactic(auto, using(crate::proofs::ShownFits::shown_lengths))]
 pub fn put_shown<const N: usize>(d: &Device, out: &mut ArrayVec<u8, N>)
     requires { array_vec_len out.old + device_shown_most ≤ N }

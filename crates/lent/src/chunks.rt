@@ -35,7 +35,8 @@ fn put_sixteens(out: &mut [u8], at: usize, src: &[u8])
     }
 }
 
-/// All of `src` into `out`, from the place `at` on. The last eight or sixteen may lie over those before them.
+/// Copies all of `src` into `out`, from the place `at` on. The last eight or sixteen bytes may be copied over those
+/// before them.
 #[inline(always)]
 pub fn put(out: &mut [u8], at: usize, src: &[u8])
     requires { at + length src.now ≤ length out.old }

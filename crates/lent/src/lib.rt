@@ -1,4 +1,4 @@
-//! Memory that a caller lends, written from its start on: one thing after the other.
+//! A caller's buffer, written from its start on, one thing after the other.
 #![tactic(auto)]
 
 mod chunks;
@@ -6,18 +6,18 @@ mod chunks;
 ghost use Rattle.std.specs.Prelude.{◌≡◌, ◌∷◌, [], ◌+◌, ◌^◌, ◌<◌, ◌≤◌, length};
 ghost use Rattle.lent.specs.Puts.{Puts};
 
-/// Writes to lent memory, each thing after what stands there. What is past the end of the memory is counted and not
-/// written, so that a writer of no memory tells how long something is.
+/// Writes to a buffer, each thing after what was written before. Bytes past the end of the buffer are counted and not
+/// written, so that a writer of an empty buffer measures a length.
 #[derive(Drop)]
 pub struct Writer<'a> {
-    /// The memory that is lent.
+    /// The buffer.
     pub out: &'a mut [u8],
-    /// How many bytes have been put.
+    /// How many bytes were written or counted.
     pub at: usize,
 }
 
 impl<'a> Writer<'a> {
-    /// Nothing is written yet.
+    /// Returns a writer that has written nothing.
     pub fn new(out: &'a mut [u8]) -> Writer<'a>
         ensures lent { result.out.ghost_name ≡ out.entry.ghost_name }
         ensures memory { result.out.now ≡ out.old }
@@ -26,14 +26,14 @@ impl<'a> Writer<'a> {
         Writer { out, at: 0 }
     }
 
-    /// How many bytes have been put.
+    /// Returns how many bytes were written or counted.
     pub fn count(&self) -> usize
         ensures { result ≡ self.now.at }
     {
         self.at
     }
 
-    /// Puts these bytes.
+    /// Writes these bytes.
     #[tactic(auto, using(crate::proofs::Writing::sets_past, crate::proofs::Writing::sets_fit))]
     pub fn bytes(&mut self, s: &[u8])
         requires { self.old.at + length s.now < 2 ^ 64 }
@@ -46,7 +46,7 @@ impl<'a> Writer<'a> {
         self.at += s.len();
     }
 
-    /// Puts these bytes, for which there is room.
+    /// Writes these bytes, for which there is room.
     #[inline(always)]
     pub fn fitting(&mut self, s: &[u8])
         requires { self.old.at + length s.now ≤ length self.old.out.now }
@@ -56,7 +56,7 @@ impl<'a> Writer<'a> {
         self.at += s.len();
     }
 
-    /// Puts one byte.
+    /// Writes one byte.
     pub fn byte(&mut self, b: u8)
         requires { self.old.at + 1 < 2 ^ 64 }
         ensures { Puts self.old self.new (b ∷ []) }

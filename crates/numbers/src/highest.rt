@@ -2,7 +2,7 @@
 ghost use Rattle.std.specs.Prelude.{◌≡◌, ◌+◌, ◌≤◌, length, take, drop};
 ghost use Rattle.numbers.specs.HighestFirst.{highest_first, number_in};
 
-/// The number of the two bytes from the place p on.
+/// Returns the number of the two bytes from the place `p` on, highest byte first.
 pub fn two_at(s: &[u8], p: usize) -> u32
     requires { p + 2 ≤ length s.now }
     ensures { result ≡ number_in (take 2 (drop p s.now)) }
@@ -10,14 +10,14 @@ pub fn two_at(s: &[u8], p: usize) -> u32
     u16::from_be_bytes([s[p], s[p + 1]]) as u32
 }
 
-/// The number of four bytes.
+/// Returns the number of four bytes, highest byte first.
 pub fn four_of(bytes: &[u8; 4]) -> u32
     ensures { result ≡ number_in bytes.now }
 {
     u32::from_be_bytes(*bytes)
 }
 
-/// The two lowest bytes of a number.
+/// Returns the two lowest bytes of a number, the highest first.
 #[tactic(auto, unfolding(crate::specs::HighestFirst::highest_first))]
 pub fn two_bytes(x: u32) -> [u8; 2]
     ensures { result ≡ highest_first 2 x }
@@ -26,7 +26,7 @@ pub fn two_bytes(x: u32) -> [u8; 2]
     [high, low]
 }
 
-/// The four bytes of a number.
+/// Returns the four bytes of a number, the highest first.
 #[tactic(auto, using(crate::proofs::HighestFirst::four_highest))]
 pub fn four_bytes(x: u32) -> [u8; 4]
     ensures { result ≡ highest_first 4 x }

@@ -30,7 +30,7 @@ fn put_figures(n: u64, out: &mut Figures)
     }
 }
 
-/// The digits of n, at the end of `out` (RULES, Commands).
+/// Writes the decimal digits of `n` to the end of `out`, with no leading zero (RULES, Commands).
 #[tactic(auto, using(crate::proofs::Digits::long_at_most_20))]
 pub fn put_long<const N: usize>(n: u64, out: &mut ArrayVec<u8, N>)
     requires { array_vec_len out.old + length (long_digits n) ≤ N }
@@ -43,7 +43,7 @@ pub fn put_long<const N: usize>(n: u64, out: &mut ArrayVec<u8, N>)
     }
 }
 
-/// The same of a u32.
+/// Writes the decimal digits of `n` to the end of `out`, with no leading zero.
 #[tactic(auto, using(crate::proofs::Digits::digits_long))]
 pub fn put_number<const N: usize>(n: u32, out: &mut ArrayVec<u8, N>)
     requires { array_vec_len out.old + length (digits n) ≤ N }
@@ -59,7 +59,7 @@ pub fn is_digit(b: u8) -> bool
     b'0' <= b && b <= b'9'
 }
 
-/// The number that all of s spells, in at most ten digits; none where a byte is no digit.
+/// Returns the number that all of `s` spells, in at most ten digits; `None` if a byte is no digit.
 pub fn read_digits(s: &[u8]) -> Option<u64>
     requires { length s.now ≤ 10 }
     ensures { result ≡ read_digits s.now }
@@ -74,7 +74,8 @@ pub fn read_digits(s: &[u8]) -> Option<u64>
     Some(v)
 }
 
-/// The number that all of s spells: 0 to 99999, in one to five digits, leading zeros included (RULES, Controller).
+/// Returns the number that all of `s` spells: 0 to 99999, in one to five digits, leading zeros included (RULES,
+/// Controller); else `None`.
 #[tactic(auto, unfolding(crate::specs::Decimal::read_number))]
 pub fn read_number(s: &[u8]) -> Option<u32>
     ensures { result ≡ read_number s.now }

@@ -10,7 +10,7 @@ pub fn one_result()
     ensures number_written { (out l m : List ℕ) (n : ℕ) → l ≡ out ++ digits n → m ≡ out ++ digits n → l ≡ m }
 {}
 
-/// A number that is written is read, with zeros before it or not (RULES, Controller), and it is written without one:
+/// A number that is written is read, with leading zeros or without (RULES, Controller), and it is written without one:
 /// 48 is the digit 0.
 pub fn what_is_written_is_read()
     ensures read_back { (n : ℕ) → n < 100000 → read_number (digits n) ≡ Some n }
@@ -19,8 +19,8 @@ pub fn what_is_written_is_read()
     ensures no_leading_zero { (n : ℕ) → 1 ≤ n → n < 2 ^ 32 → slice_index (digits n) 0 ≢ 48 }
 {}
 
-/// Numbers worked out (RULES, Lamps and Controller): what is written of each; what is read, zeros before it or not, to
-/// five digits in all; and what is none: six digits, none, a letter.
+/// Computed numbers (RULES, Lamps and Controller): what is written of each; what is read, with leading zeros or
+/// without, to five digits in all; and what is no number: six digits, no digits, a letter.
 #[tactic(auto, using(crate::proofs::Examples::worked_numbers))]
 pub fn numbers_are_worked_out()
     ensures written { map digits (0 ∷ 7 ∷ 10 ∷ 99999 ∷ 4294967295 ∷ [])

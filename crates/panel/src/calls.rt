@@ -18,7 +18,7 @@ use controller::writing::COMMAND_ROOM;
 use words::texts;
 
 impl Entry {
-    /// A projector with that password: its greeting is awaited, nothing is known, no strays.
+    /// Returns the entry of a projector with that password: its greeting is awaited, nothing is known, no strays.
     pub fn new(password: Password) -> Entry
         ensures { result ≡ entry_of password no_talk nothing_shown 0 }
     {
@@ -44,7 +44,7 @@ impl Entry {
 }
 
 impl Panel {
-    /// The panel of no projector.
+    /// Returns the panel of no projector.
     pub fn new() -> Panel
         ensures { result ≡ ours_panel.none.panel }
     {
@@ -54,8 +54,8 @@ impl Panel {
         }
     }
 
-    /// A projector more, numbered by how many there were. Refused: `NotLegal`, then `OutOfRange` for a password that is
-    /// not 0 to 32 letters and digits and for a ninth projector.
+    /// Adds a projector, numbered by how many there were. Errors, in this order: `NotLegal`; `OutOfRange` for a
+    /// password that is not 0 to 32 letters and digits, and for a ninth projector.
     #[tactic(auto, unfolding(crate::specs::PanelCalls::added_to), using(words::proofs::TextsTold::password_long))]
     pub fn add(&mut self, password: &[u8]) -> Result<(), Refusal>
         ensures number { outcome_number panel_refusal_number result ≡ (ours_panel.add self.old password.now).number }
@@ -72,9 +72,9 @@ impl Panel {
         Ok(())
     }
 
-    /// A command to a projector: its line is written from the start of the lent memory, and is so long. Refused:
-    /// `NotLegal`, `NoRoom` for less than 168 bytes, `OutOfRange` for no such projector and for no command, `NotReady`
-    /// before the greeting or over another command, in that order.
+    /// Writes the line of a command to a projector to the start of `out`, and returns its length in bytes. Errors, in
+    /// this order: `NotLegal`; `NoRoom` for less than 168 bytes; `OutOfRange` for no such projector and for no command;
+    /// `NotReady` before the greeting or over another command.
     #[tactic(auto, using(crate::proofs::PanelsTold::projectors_there), unfolding(crate::specs::PanelCalls::command_at))]
     pub fn send(&mut self, projector: usize, coded: Coded, out: &mut [u8]) -> Result<usize, Refusal>
         ensures number { outcome_number panel_refusal_number result
@@ -103,8 +103,8 @@ impl Panel {
         Ok(self.entries[projector].send(coded, command, out))
     }
 
-    /// A line from a projector, with its CR: the step on its entry, and what the line was. Refused: `NotLegal`, then
-    /// `OutOfRange` for no such projector.
+    /// Steps the entry of a projector on its line, with its CR, and returns what the line was. Errors, in this order:
+    /// `NotLegal`; `OutOfRange` for no such projector.
     #[tactic(auto, using(crate::proofs::PanelsTold::few_projectors), unfolding(crate::specs::PanelCalls::stepped_at))]
     pub fn hear<'a>(&mut self, projector: usize, line: &'a [u8]) -> Result<Heard<'a>, Refusal>
         ensures number { outcome_number panel_refusal_number result
@@ -122,7 +122,8 @@ impl Panel {
         Ok(self.entries[projector].hear(line))
     }
 
-    /// The connection to a projector is gone. Refused: `NotLegal`, then `OutOfRange` for no such projector.
+    /// Records that the connection to a projector is gone. Errors, in this order: `NotLegal`; `OutOfRange` for no such
+    /// projector.
     #[tactic(auto, using(crate::proofs::PanelsTold::few_projectors), unfolding(crate::specs::PanelCalls::lost_at))]
     pub fn lose(&mut self, projector: usize) -> Result<(), Refusal>
         ensures number { outcome_number panel_refusal_number result ≡ (ours_panel.lose self.old projector).number }

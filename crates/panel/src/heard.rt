@@ -9,7 +9,7 @@ use controller::reading::{Misread, Reading};
 pub enum Heard<'a> {
     /// Its greeting, which is accepted.
     Greeting,
-    /// No greeting, where one is awaited: malformed.
+    /// No greeting, though one is awaited: malformed.
     NoGreeting,
     /// Late: no command is under way.
     Late,
@@ -19,7 +19,7 @@ pub enum Heard<'a> {
 }
 
 impl Heard<'_> {
-    /// What it was, by `enum pj_heard_kind`: 1 the greeting, 2 an accepted reply, 3 ERRA, 4 late, 5 foreign, 6
+    /// Returns its kind by `enum pj_heard_kind`: 1 the greeting, 2 an accepted reply, 3 ERRA, 4 late, 5 foreign, 6
     /// malformed.
     pub fn kind(&self) -> u8
         ensures { result ≡ heard_kind (Some (heard_by_code self.now)) }

@@ -13,7 +13,7 @@ impl Password {
         bytes: [0; PASSWORD_ROOM],
     };
 
-    /// A password in its room.
+    /// Returns a password in its room.
     pub fn of(word: &[u8]) -> Password
         requires { length word.now ≤ password_room }
         ensures { result ≡ password_of word.now }

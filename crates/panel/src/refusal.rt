@@ -4,14 +4,14 @@ ghost use Rattle.panel.specs.Refusals.{panel_refusal_number};
 
 use text::numbered::Numbered;
 
-/// Why a call on a panel is refused. The panel, and the memory lent for a line, are then as they were.
+/// Why a call on a panel is refused. The panel, and the buffer for a line, are then as they were.
 #[derive(Clone, Copy)]
 pub enum Refusal {
     /// 1: the panel is not legal.
     NotLegal,
-    /// 2: the lent memory is too short for a command's line.
+    /// 2: the buffer is too short for a command's line.
     NoRoom,
-    /// 3: a projector or a command that there is not, a password out of its range, a ninth projector.
+    /// 3: no such projector, no command, a password out of its range, a ninth projector.
     OutOfRange,
     /// 9: a command before the projector's greeting, or over another.
     NotReady,

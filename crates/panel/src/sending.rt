@@ -11,8 +11,8 @@ use pjlink::command::Command;
 use text::flag;
 
 impl Entry {
-    /// The line of the command, which the code stands for, from the start of the lent memory, led by the digest where
-    /// it is the first after a secured greeting. The command is then under way. Its line's length.
+    /// Writes the line of the command, which has this code, to the start of `out`, led by the digest if it is the first
+    /// after a secured greeting. The command is then under way. Returns the length of the line.
     #[tactic(auto, unfolding(crate::specs::Stepping::command_sent))]
     pub(crate) fn send(&mut self, coded: Coded, command: Command, out: &mut [u8]) -> usize
         requires { self.old.password.len ≤ password_room }

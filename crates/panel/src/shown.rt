@@ -16,7 +16,7 @@ use words::lamp::LampHours;
 use words::power::Power;
 
 impl Entry {
-    /// All is unknown.
+    /// Makes all readings unknown.
     pub(crate) fn show_nothing(&mut self)
         ensures { self.new ≡ with_shown self.old nothing_shown }
     {
@@ -57,7 +57,7 @@ impl Entry {
         self.lit = flag::flags(&lit);
     }
 
-    /// What an accepted reply says is shown: a power, an input or lamps; anything else changes nothing.
+    /// Shows the reading of an accepted reply: a power, an input or lamps. Any other reply changes nothing.
     pub(crate) fn show(&mut self, reply: &Reply<'_>)
         ensures { self.new ≡ with_shown self.old (showing (shown_of self.old) (said_by reply.now)) }
     {

@@ -36,7 +36,7 @@ impl Entry {
         self.strays = one_more(self.strays);
     }
 
-    /// The connection is gone: a new greeting is awaited, and what is known stays.
+    /// Records that the connection is gone: a new greeting is awaited, and what is known stays.
     pub(crate) fn lose(&mut self)
         ensures { self.new ≡ lost_entry self.old }
     {
@@ -107,7 +107,8 @@ impl Entry {
         Heard::Reply(reading)
     }
 
-    /// A line from the projector, with its CR, and what it was. One with no command under way is late.
+    /// Steps on a line from the projector, with its CR, and returns what it was. A line with no command under way is
+    /// late.
     #[tactic(auto, unfolding(crate::specs::Stepping::heard_line, crate::specs::Hearing::line_heard))]
     pub(crate) fn hear<'a>(&mut self, line: &'a [u8]) -> Heard<'a>
         ensures entry { self.new ≡ heard_line self.old line.now }

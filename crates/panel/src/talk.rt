@@ -40,14 +40,14 @@ pub enum Awaits {
 }
 
 impl Entry {
-    /// The projector asks for a digest.
+    /// Whether the projector asks for a digest.
     pub fn is_secured(&self) -> bool
         ensures { result ≡ is_secured_talk (talk_of self.now) }
     {
         self.greeting == GREETED_SECURED
     }
 
-    /// The talk begins anew: no digest was sent, and no command is under way.
+    /// Begins a connection: no digest was sent, and no command is under way.
     pub fn begin(&mut self, greeted: Greeted)
         ensures { self.new ≡ with_talk self.old (talk_begun greeted) }
     {
@@ -63,7 +63,7 @@ impl Entry {
         self.command = NO_COMMAND;
     }
 
-    /// What is awaited of the projector.
+    /// Returns what is awaited of the projector.
     pub fn awaits(&self) -> Awaits
         ensures { result ≡ awaits_of self.now }
     {

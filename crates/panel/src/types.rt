@@ -6,23 +6,23 @@ use codes::command::Coded;
 /// The room of a password (`pj_text`).
 pub const PASSWORD_ROOM: usize = 64;
 
-/// Projectors of a panel at most.
+/// The most projectors of a panel.
 pub const PANEL_MOST: usize = 8;
 
-/// Lamps that are shown of a projector at most.
+/// The most lamps that are shown of a projector.
 pub const LAMPS_MOST: usize = 8;
 
-/// Hours of a lamp at most.
+/// The most hours of a lamp.
 pub const HOURS_MOST: u32 = 99_999;
 
-/// Where the count of strays stops.
+/// The count of strays stops here.
 pub const STRAYS_MOST: u32 = 65_535;
 
-/// A password in its room: what is not used is zero.
+/// A password in its room: the unused part is zero.
 #[repr(C)]
 #[derive(Clone, Copy)]
 pub struct Password {
-    /// How many characters it has, 0 to 32; 0 where the projector has none (RULES, Passwords).
+    /// The number of its characters, 0 to 32; 0 if the projector has none (RULES, Passwords).
     pub len: usize,
     /// ASCII letters and digits at the start, and zero after them.
     pub bytes: [u8; PASSWORD_ROOM],
@@ -32,7 +32,7 @@ pub struct Password {
 #[repr(C)]
 #[derive(Clone, Copy)]
 pub struct Entry {
-    /// The one that the projector was set up with; 1 to 7 characters are taken too.
+    /// The password that the projector was set up with; 1 to 7 characters are taken too.
     pub password: Password,
     /// The greeting that it has sent: 0 none yet, 1 `PJLINK 0`, 2 `PJLINK 1` (`enum pj_awaited`).
     pub greeting: u8,
@@ -40,23 +40,23 @@ pub struct Entry {
     pub random: u32,
     /// A flag: the digest was sent since that greeting; 0 with any but `PJLINK 1`.
     pub led: u8,
-    /// A flag: a command was sent whose reply is awaited; 0 without a greeting.
+    /// A flag: a command was sent and its reply is awaited; 0 without a greeting.
     pub under_way: u8,
     /// That command, as it was given; else all three 0.
     pub command: Coded,
-    /// A flag: a reply told the power, and no ERRA has made all unknown since.
+    /// A flag: a reply gave the power, and no ERRA has made all unknown since.
     pub power_known: u8,
-    /// A flag: a reply told the chosen input, and no ERRA has made all unknown since.
+    /// A flag: a reply gave the chosen input, and no ERRA has made all unknown since.
     pub input_known: u8,
-    /// A flag: a reply told the lamps, and no ERRA has made all unknown since.
+    /// A flag: a reply gave the lamps, and no ERRA has made all unknown since.
     pub lamps_known: u8,
-    /// 0 off, 1 on, 2 cooling, 3 warm-up; 0 where it is not known.
+    /// 0 off, 1 on, 2 cooling, 3 warm-up; 0 if it is not known.
     pub power: u8,
-    /// The type of the chosen input, 1 to 6; 0 where it is not known.
+    /// The type of the chosen input, 1 to 6; 0 if it is not known.
     pub input_type: u8,
-    /// The number of the chosen input, 1 to 35; 0 where it is not known.
+    /// The number of the chosen input, 1 to 35; 0 if it is not known.
     pub input_number: u8,
-    /// How many lamps it has, 1 to 8; 0 where they are not known.
+    /// How many lamps it has, 1 to 8; 0 if they are not known.
     pub lamp_count: usize,
     /// The whole hours of each lamp, at most 99,999; 0 past the count.
     pub hours: [u32; LAMPS_MOST],
@@ -66,7 +66,7 @@ pub struct Entry {
     pub strays: u32,
 }
 
-/// The panel (`pj_panel`): its projectors stand from the first entry on.
+/// The panel (`pj_panel`): its projectors are the first entries.
 #[repr(C)]
 #[derive(Clone, Copy)]
 pub struct Panel {
@@ -76,7 +76,7 @@ pub struct Panel {
     pub entries: [Entry; PANEL_MOST],
 }
 
-/// The room of a command where none is under way.
+/// The value of a command if none is under way.
 pub const NO_COMMAND: Coded = Coded {
     code: 0,
     first: 0,

@@ -1,11 +1,11 @@
 // What a program says of itself.
 
-/// What a program says of itself. Each text ends with LF.
+/// The texts of a program about itself. Each ends with LF.
 #[derive(Clone, Copy)]
 pub struct About {
     /// Its name.
     pub name: &'static str,
-    /// How it is called, in one line.
+    /// Its usage, in one line.
     pub usage: &'static str,
     /// What `--help` writes after that line.
     pub help: &'static str,

@@ -9,13 +9,13 @@ use std::io::Read;
 
 /// Where files of a log are opened by their names.
 pub trait Opens {
-    /// What is read of one.
+    /// An opened file of a log.
     type Source: Read + Drop;
 
-    /// The bytes of the file with that name, where they are known.
+    /// The bytes of the file with that name, if they are known.
     ghost log_bytes: { Self → List ℕ → Option (List ℕ) };
 
-    /// Opens one, at its start.
+    /// Opens the file with that name, at its start.
     fn open_log(&self, name: &str) -> io::Result<Self::Source>
         ensures { IfOk result (λ source. Self.Source.remaining source ≡ log_bytes self.now name.now) };
 }
@@ -32,7 +32,7 @@ pub struct Joined<'a, 'w, O: Opens> {
 }
 
 impl<'a, 'w, O: Opens> Joined<'a, 'w, O> {
-    /// These files, from the start of the first.
+    /// Returns these files joined, from the start of the first.
     pub fn new(opens: &'a O, names: &'a [&'w str]) -> Joined<'a, 'w, O>
         ensures { join_known (source_left O.Source.remaining result.source)
             (joined_bytes (O.log_bytes result.opens.now) (names_seen result.later.now))
@@ -46,7 +46,7 @@ impl<'a, 'w, O: Opens> Joined<'a, 'w, O> {
         }
     }
 
-    /// The file that is read, or was read last.
+    /// Returns the name of the file that is read, or was read last.
     pub fn name(&self) -> &'w str {
         self.name
     }

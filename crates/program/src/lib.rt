@@ -1,5 +1,5 @@
-//! What `replay` and `burnt` do alike (RULES, The programs): a command line answered, a form and logs read, output
-//! written or saved in a file, failures told in words, and the status with which a program ends.
+//! What `replay` and `burnt` have in common (RULES, The programs): answering a command line, reading a form and logs,
+//! writing output or saving it in a file, reporting failures in words, and the status of a program.
 #![tactic(auto)]
 
 pub mod about;

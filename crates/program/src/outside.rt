@@ -9,17 +9,17 @@ use std::{fs, io};
 use textio::streams::Stream;
 use textio::writer::{ByteSink, Writer};
 
-/// What a program reaches beside its two output streams.
+/// What a program uses besides its two output streams.
 pub trait Outside: Opens {
-    /// What is read of a form.
+    /// An opened form.
     type Form: Read + Drop;
-    /// What is written of an output's file.
+    /// An output's file.
     type Sink: ByteSink;
 
-    /// The bytes of the form in the file with that name, where they are known.
+    /// The bytes of the form in the file with that name, if they are known.
     ghost form_bytes: { Self → List ℕ → Option (List ℕ) };
 
-    /// What an output's file has where it is begun, where that is known.
+    /// The bytes of an output's file when it is begun, if they are known.
     ghost fresh: { Self → Option (List ℕ) };
 
     /// The file with that name has these bytes.
@@ -33,11 +33,11 @@ pub trait Outside: Opens {
     fn create(&self, name: &str) -> io::Result<Self::Sink>
         ensures { IfOk result (λ sink. Self.Sink.contents sink ≡ fresh self.now) };
 
-    /// Puts what was written in the place of the file with that name, beside which it was begun.
+    /// Puts the output's file in the place of the file with that name, beside which it was begun.
     fn keep(&self, name: &str, sink: Self::Sink) -> io::Result<()>
         ensures { OnOk result (IfSome (Self.Sink.contents sink) (λ text. stands self.now name.now text)) };
 
-    /// Takes away what was written.
+    /// Removes the output's file.
     fn discard(&self, sink: Self::Sink);
 }
 
@@ -48,7 +48,7 @@ pub struct System<'a> {
     shown: Shown,
 }
 
-/// Standard input, or a file of a log; how far it is read is shown at a terminal.
+/// Standard input, or a file of a log; reading it shows progress at a terminal.
 #[derive(Drop)]
 pub struct Input<'a> {
     from: From,
@@ -129,7 +129,7 @@ impl ByteSink for Saved {
 const TRIES: u32 = 1000;
 
 impl<'a> System<'a> {
-    /// Those of this process, which has begun just now.
+    /// Returns the files of this process, which has just begun.
     pub fn of(rt: &'a HostRuntime) -> System<'a> {
         System {
             rt,

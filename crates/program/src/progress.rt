@@ -9,13 +9,13 @@ const SECONDS_MOST: u64 = 16;
 
 const LF: u8 = b'\n';
 
-/// Whether a program's progress is shown, and since when it runs.
+/// Whether a program's progress is shown, and since when the program runs.
 #[derive(Clone, Copy)]
 pub struct Shown {
     begun: Option<Instant>,
 }
 
-/// How far a file of a log is read.
+/// How far a file of a log has been read.
 #[derive(Drop)]
 pub struct Progress<'a> {
     rt: &'a HostRuntime,
@@ -29,7 +29,7 @@ pub struct Progress<'a> {
 }
 
 impl Shown {
-    /// From now on, where standard error is a terminal.
+    /// Returns what is shown from now on: progress, if standard error is a terminal.
     pub fn of(rt: &HostRuntime) -> Shown {
         let begun = if rt.stderr().is_terminal() {
             Instant::now(rt).ok()
@@ -41,7 +41,7 @@ impl Shown {
 }
 
 impl<'a> Progress<'a> {
-    /// Of a file with that name, and that length where it is known.
+    /// Returns the progress of a file with that name, and that length if it is known.
     pub fn of(rt: &'a HostRuntime, shown: Shown, name: &str, length: Option<u64>) -> Progress<'a> {
         Progress {
             rt,
@@ -54,7 +54,7 @@ impl<'a> Progress<'a> {
         }
     }
 
-    /// These bytes were read.
+    /// Counts these bytes as read, and reports progress if it is due.
     pub fn read(&mut self, bytes: &[u8]) {
         let Some(begun) = self.shown.begun else {
             return;

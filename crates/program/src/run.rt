@@ -354,8 +354,8 @@ fn answer<P: Telling, S: AsStr, O: Outside, W: ByteSink, E: ByteSink>(
     }
 }
 
-/// Answers a command line, of which these are the words, the program's name not among them, or the error that came in
-/// their place: what is told goes to `to` or into a file, what is said to `errors`.
+/// Answers a command line with these words, without the program's name, or with the error in their place. The report
+/// goes to `to` or into a file, messages to `errors`. Returns the status.
 pub fn run<P: Telling, S: AsStr, O: Outside, W: ByteSink, E: ByteSink>(
     program: &P,
     about: &About,
@@ -389,7 +389,7 @@ pub fn run<P: Telling, S: AsStr, O: Outside, W: ByteSink, E: ByteSink>(
     }
 }
 
-/// Answers the process's own command line, with its files and streams.
+/// Answers the process's own command line, with its files and streams. Returns the status.
 pub fn on_system<P: Telling>(rt: &HostRuntime, program: &P, about: &About) -> Status {
     let words: io::Result<Vec<String>> = env::args(rt).and_then(|all| Ok(
         all.skip(1).collect(rt.alloc())?,

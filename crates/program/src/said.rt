@@ -15,7 +15,7 @@ use std::io::{Error, ErrorKind};
 use textio::forms::fill;
 use textio::writer::{ByteSink, put};
 
-/// Why a read or a write failed: a colon, a space and words, or nothing where the system says no more.
+/// Returns why a read or a write failed: a colon, a space and words, or nothing if the system gives no reason.
 pub fn cause(error: &Error) -> &'static str
     ensures { result.now ≡ cause_of error.now }
 {
@@ -54,7 +54,7 @@ fn put_four<E: ByteSink>(
     put(to, last.as_bytes())
 }
 
-/// That a file cannot be read.
+/// Writes that a file cannot be read.
 pub fn say_unread<E: ByteSink>(to: &mut E, name: &str, cause: &str) -> io::Result<()>
     ensures { WritesText E.fails_with (E.contents to.old) (E.contents to.new) result
         (unread_text name.now cause.now) }
@@ -62,7 +62,7 @@ pub fn say_unread<E: ByteSink>(to: &mut E, name: &str, cause: &str) -> io::Resul
     put_four(to, name, ": cannot be read", cause, "\n")
 }
 
-/// That a file, or standard output, cannot be written.
+/// Writes that a file, or standard output, cannot be written.
 pub fn say_unwritten<E: ByteSink>(to: &mut E, name: &str, cause: &str) -> io::Result<()>
     ensures { WritesText E.fails_with (E.contents to.old) (E.contents to.new) result
         (unwritten_text name.now cause.now) }
@@ -70,7 +70,7 @@ pub fn say_unwritten<E: ByteSink>(to: &mut E, name: &str, cause: &str) -> io::Re
     put_four(to, name, ": cannot be written", cause, "\n")
 }
 
-/// That a log is longer than can be counted.
+/// Writes that a log is longer than can be counted.
 pub fn say_endless<E: ByteSink>(to: &mut E, name: &str) -> io::Result<()>
     ensures { WritesText E.fails_with (E.contents to.old) (E.contents to.new) result (endless_text name.now) }
 {
@@ -83,7 +83,7 @@ pub fn say_endless<E: ByteSink>(to: &mut E, name: &str) -> io::Result<()>
     )
 }
 
-/// That the form in a file does not load, with the number that says why.
+/// Writes that the form in a file does not load, with the number that says why.
 pub fn say_refused<E: ByteSink>(to: &mut E, name: &str, number: u32) -> io::Result<()>
     ensures { WritesText E.fails_with (E.contents to.old) (E.contents to.new) result
         (refused_text name.now number) }
@@ -92,7 +92,7 @@ pub fn say_refused<E: ByteSink>(to: &mut E, name: &str, number: u32) -> io::Resu
     fill(to, "#)\n", &[number as u64])
 }
 
-/// Which line of a log does not belong to it, and why.
+/// Writes which line of a log does not belong to it, and why.
 pub fn say_stray<E: ByteSink>(to: &mut E, line: &StrayLine) -> io::Result<()>
     ensures { WritesText E.fails_with (E.contents to.old) (E.contents to.new) result
         (stray_warning (stray_seen line.now)) }
@@ -103,7 +103,7 @@ pub fn say_stray<E: ByteSink>(to: &mut E, line: &StrayLine) -> io::Result<()>
     put(to, b"; what is written is of the lines before it\n")
 }
 
-/// What of a log of the first kind was not played: lines that are not understood, calls that are refused.
+/// Writes what of a log of the first kind was not played: lines that are not understood, calls that are refused.
 pub fn say_unplayed<E: ByteSink>(to: &mut E, unplayed: &Unplayed) -> io::Result<()>
     ensures { WritesText E.fails_with (E.contents to.old) (E.contents to.new) result (unplayed_text unplayed.now) }
 {
@@ -112,8 +112,8 @@ pub fn say_unplayed<E: ByteSink>(to: &mut E, unplayed: &Unplayed) -> io::Result<
     put(to, &text)
 }
 
-/// Why a command line asks for nothing, and in a second line how the program is called; nothing of the help, of
-/// the version and where there is no memory.
+/// Writes why a command line is not served, and in a second line the usage; nothing for the help, for the version and
+/// if there is no memory.
 pub fn say_stop<E: ByteSink>(to: &mut E, stop: &Stop<'_>, usage: &str) -> io::Result<()>
     ensures { WritesText E.fails_with (E.contents to.old) (E.contents to.new) result (stop_text stop.now usage.now) }
 {

@@ -4,11 +4,11 @@ ghost use Rattle.std.specs.Prelude.{◌≡◌};
 /// How a program ended.
 #[derive(Clone, Copy)]
 pub enum Status {
-    /// The whole log was read, and all that is told of it was written; or the help or the version was.
+    /// The whole log was read, and the whole report written; or the help or the version was.
     Done,
     /// A form, a file of the log, standard output or the output's file failed.
     Failed,
-    /// The command line asks for nothing that the program knows.
+    /// The command line is not understood.
     Usage,
     /// A line of the log did not belong to it.
     Strayed,
@@ -17,7 +17,7 @@ pub enum Status {
 impl Status {
     ghost use Rattle.program.specs.Status.{status_code};
 
-    /// The status that the system gets.
+    /// Returns the status for the system.
     pub fn code(self) -> u8
         ensures { result ≡ status_code self }
     {

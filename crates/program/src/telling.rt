@@ -19,7 +19,7 @@ use textio::writer::ByteSink;
 /// How a log ended that was read to its end.
 #[derive(Clone, Copy)]
 pub struct Ending {
-    /// The first line of a history that did not belong to it, if one did not, which the output says too.
+    /// The first line of a history that did not belong to it, if any, which the output names too.
     pub stray: Option<StrayLine>,
     /// What of a log of the first kind was not played.
     pub unplayed: Unplayed,
@@ -27,7 +27,7 @@ pub struct Ending {
 
 /// A program over logs.
 pub trait Telling {
-    /// What it tells of a log that begins with a record, for what a command line asks for.
+    /// What it reports of a log that begins with a record, for a command line.
     ghost told: { Self → AskedFor → Begun → List ℕ → List ℕ };
 
     /// How such a log ends.
@@ -36,7 +36,7 @@ pub trait Telling {
     /// Such a log is too long, or lets more seconds pass than can be counted.
     ghost is_too_much: { List ℕ → Type 0 };
 
-    /// What it tells of the log that a reader has left goes to a sink, as it comes.
+    /// Writes the report of the log that is left in a reader to a sink, as it comes.
     fn tell<R: ByteSource, W: ByteSink>(
         &self,
         begun: &Begun,

@@ -1,6 +1,6 @@
-//! What is told to a person, in one table each: what the numbers say that calls give (RULES, The numbers a call gives),
-//! what the settings of a set-up are called, and of which version and kit archive and programs are. The programs print
-//! these texts, and the archive lends them to C, with a NUL after them.
+//! Texts for people, in one table each: the meaning of each number that a call gives (RULES, The numbers a call gives),
+//! the name of each setting of a set-up, and the version and kit of archive and programs. The programs print these
+//! texts, and C gets them from the archive, with a NUL after each.
 #![tactic(auto)]
 
 pub mod about;

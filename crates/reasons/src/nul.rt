@@ -2,7 +2,7 @@
 ghost use Rattle.std.specs.Prelude.{◌≡◌, ℕ, List};
 ghost use Rattle.reasons.specs.Reasons.{in_c};
 
-/// The text before the NUL.
+/// Returns the text before the NUL.
 pub fn before_nul(text: &'static str) -> &'static str
     ensures { (s : List ℕ) → text.now ≡ in_c s → result.now ≡ s }
 {

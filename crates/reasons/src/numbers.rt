@@ -4,7 +4,7 @@ ghost use Rattle.reasons.specs.Reasons.{number_text, in_c};
 
 use crate::nul;
 
-/// What a number says, with a NUL after it: a few words with no full stop and no LF, ASCII.
+/// Returns the meaning of a number, with a NUL after it: a few words of ASCII with no full stop and no LF.
 pub fn number_text_in_c(number: u32) -> &'static str
     ensures { result.now ≡ in_c (number_text number) }
 {
@@ -30,7 +30,7 @@ pub fn number_text_in_c(number: u32) -> &'static str
     }
 }
 
-/// What a number says.
+/// Returns the meaning of a number.
 pub fn number_text(number: u32) -> &'static str
     ensures { result.now ≡ number_text number }
 {

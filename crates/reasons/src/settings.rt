@@ -4,7 +4,8 @@ ghost use Rattle.reasons.specs.Reasons.{setting_text, in_c};
 
 use crate::nul;
 
-/// What the setting of a number is called, with a NUL after it: a few words with no full stop and no LF, ASCII.
+/// Returns the name of the setting with a number, with a NUL after it: a few words of ASCII with no full stop and no
+/// LF.
 pub fn setting_text_in_c(setting: u32) -> &'static str
     ensures { result.now ≡ in_c (setting_text setting) }
 {
@@ -26,7 +27,7 @@ pub fn setting_text_in_c(setting: u32) -> &'static str
     }
 }
 
-/// What the setting of a number is called.
+/// Returns the name of the setting with a number.
 pub fn setting_text(setting: u32) -> &'static str
     ensures { result.now ≡ setting_text setting }
 {

@@ -29,9 +29,9 @@ pub enum Why {
     Unended,
     /// It says nothing: it is not one that a recorder writes.
     SaysNothing,
-    /// It is the header of another file than the next, or stands before the first header.
+    /// It is the header of another file than the next, or comes before the first header.
     OtherFile,
-    /// It has another sum than all that came before it.
+    /// It has another sum than that of everything before it.
     OtherSum,
     /// It states another count of lines since the header, or is one more than there can be.
     OtherCount,
@@ -114,10 +114,10 @@ fn misfit(log: &Recorder, device: &Device, entry: &Entry<'_>) -> Option<Why>
     }
 }
 
-/// What a line says, which is given without its LF, if it stands where the reader is. The bytes that it says were
-/// received lie in the room, which is to be empty. Errors: `SaysNothing`; of a header `OtherFile` where it is not that
-/// of the next file, then `OtherSum`; of another line `OtherFile` before the first header, and `OtherCount` where no
-/// line more can be counted; of a stated line also `OtherCount`, then `OtherSum`, then `OtherState`.
+/// Reads what a line, without its LF, says, if it belongs where the reader is. The bytes that it says were received go
+/// into `room`, which must be empty. Errors, in this order: `SaysNothing`; for a header `OtherFile` if it is not that
+/// of the next file, then `OtherSum`; for another line `OtherFile` before the first header, and `OtherCount` if no
+/// further line can be counted; for a stated line also `OtherCount`, then `OtherSum`, then `OtherState`.
 pub fn entry<'a>(
     log: &Recorder,
     device: &Device,
@@ -145,11 +145,11 @@ fn stray(stray: Stray) -> Why
     }
 }
 
-/// Makes again what a line says, as [`entry`] gave it there: a call is made, and the line, which is given without its
-/// LF, is counted and added to the sum. Returns the length of the reply, which fills the start of the memory; 0 for a
-/// header or a stated line. Errors: `Refused` with why a call is refused, which leaves all as it was; `OtherPlace` for
-/// an opening that gets another place than its line says: the record is then as the opening left it, the reply in the
-/// memory, and the three numbers as they were.
+/// Makes the entry of a line again, as [`entry`] gave it there: makes its call, counts the line, which has no LF, and
+/// adds it to the sum. Returns the length of the reply, which fills the start of `reply`; 0 for a header or a stated
+/// line. Errors: `Refused` with why the call is refused, which leaves all as it was; `OtherPlace` for an opening that
+/// gets another place than its line says: the record is then as the opening left it, the reply in the memory, and the
+/// three numbers as they were.
 #[tactic(auto, using(crate::proofs::Chained::stands_follow))]
 pub fn make(
     log: &mut Recorder,

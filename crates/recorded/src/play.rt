@@ -102,7 +102,7 @@ fn play_legal(
     }
 }
 
-/// Makes a call of a history again. Returns the length of its reply, which fills the start of the memory. Errors:
+/// Makes a call of a history again. Returns the length of its reply, which fills the start of `reply`. Errors:
 /// `Refused` with why the call is refused, which leaves record and memory as they were; `OtherPlace` for an opening
 /// that gets another place than its line says: the record is then as the opening left it.
 pub fn play(t: &mut Tested, call: &Call<'_>, reply: &mut [u8; REPLY_ROOM]) -> Result<usize, Stray>

@@ -8,7 +8,7 @@ use crate::chain::Why;
 use arrayvec::ArrayVec;
 use text::numbered::Numbered;
 
-/// The most bytes of what is said of a line that does not belong: its number has twenty digits at most.
+/// The most bytes of the text on a line that does not belong: its number has twenty digits at most.
 pub const STRAY_MOST: usize = 64;
 
 /// What is said of a line that does not belong.
@@ -57,7 +57,7 @@ fn put_words(why: &Why, out: &mut StrayText)
 }
 
 impl StrayLine {
-    /// Puts what is said of the line, without LF: `! line 5: no line end`.
+    /// Writes the text on the line, without LF: `! line 5: no line end`.
     #[tactic(auto, using(crate::proofs::Followed::stray_lengths), unfolding(crate::specs::Following::stray_text))]
     pub fn put(&self, out: &mut StrayText)
         requires { out.old.items ≡ [] }

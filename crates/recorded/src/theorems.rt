@@ -19,8 +19,8 @@ ghost use Rattle.recorded.specs.Chain.{Followed, followed, AllHold};
 ghost use Rattle.recorded.specs.Hosts.{HostStep, begins, host_log, step_calls, host_left, AreKept, HaveRoom};
 ghost use Rattle.recorded.specs.Hosts.{AreTypedSteps};
 
-/// What is recorded of any calls from any record on, played back from that record, gives the record that the calls
-/// gave, the replies that they were given, and demand 3's history of the calls.
+/// What is recorded of any calls from any record on, replayed from that record, gives the record that the calls gave,
+/// the replies that they got, and demand 3's history of the calls.
 pub fn recorded_calls_play_back()
     ensures device { (d : Device) (cs : List Call) → played d (recorded d cs) ≡ Some (run ours d cs) }
     ensures replied { (d : Device) (cs : List Call) → replies_played d (recorded d cs) ≡ replies_of d cs }
@@ -28,16 +28,14 @@ pub fn recorded_calls_play_back()
         → history ours d w (map played_call (recorded d cs)) ≡ history ours d w cs }
 {}
 
-/// A receive that is handed only the bytes that it takes gives the very same, so that these are all that is recorded
-/// of it.
+/// A receive that gets only the bytes that it takes gives the very same, so that these are all that is recorded of it.
 pub fn what_is_taken_is_enough()
     ensures { (d : Device) (p : ℕ) (bs m : List ℕ) → (ours.receive d p bs m).number ≡ 0
         → ours.receive d p (take (ours.receive d p bs m).taken bs) m ≡ ours.receive d p bs m }
 {}
 
-/// Each call that is served can be said by a line, if it takes 2,046 bytes at most: the recorder refuses none for what
-/// it is; so it records each, given room for a line, while lines can be counted, once there is a file, or from the
-/// header of one on.
+/// A line can say each served call that takes 2,046 bytes at most. So the recorder records each, given room for a line,
+/// while lines can be counted, from the header of a file on.
 pub fn served_calls_can_be_said()
     ensures said { (d : Device) (cs : List Call) → AreTypedCalls cs → TakeFew d cs
         → Sayable (map call (recorded d cs)) }
@@ -51,9 +49,9 @@ pub fn served_calls_can_be_said()
         → (r : Recorder) → r.file < number_most → length ss < number_most → AreKept r d ((begins t, n) ∷ ss) }
 {}
 
-/// What the recorder writes of these calls, with whatever headers and stated lines between them, plays back as they
-/// were: its bytes say them, and give the same record, replies and history. What is left of it where it was cut, at any
-/// byte, plays back as a front of the calls.
+/// What the recorder writes of these calls, with any headers and stated lines between them, replays as they were: its
+/// bytes say them, and give the same record, replies and history. The rest of it, cut at any byte, replays as a front
+/// of the calls.
 pub fn what_is_written_plays_back(form: &[u8])
     ensures whole { (asked : List (Asked × ℕ)) → AreTyped asked → (d : Device) (cs : List Call)
         → entry_calls (entries_recorded (recorder_begun form.now) asked) ≡ recorded d cs
@@ -65,10 +63,10 @@ pub fn what_is_written_plays_back(form: &[u8])
         × PlaysAs d (take k cs) (take n (bytes_recorded (recorder_begun form.now) asked)) }
 {}
 
-/// What a host records is believed to its end. It makes any calls, on any record, and records each served one; it
-/// begins files and states what the record shows when it likes; and the recorder has refused none of the calls. Then
-/// each line that it wrote belongs, and a reader who began where the host began has its three numbers, its record and
-/// its replies; and the log plays back as the calls were. Cut at any byte, so does a front of the steps.
+/// A reader accepts what a host records to its end. The host makes any calls, on any record, and records each served
+/// one; it begins files and states what the record shows at any time; and the recorder has refused none of the calls.
+/// Then each line that it wrote belongs, and a reader who began where the host began has its three numbers, its record
+/// and its replies; and the log replays as the calls were. Cut at any byte, so does a front of the steps.
 pub fn what_a_host_records_is_believed()
     ensures whole { (r : Recorder) (d : Device) (ss : List (HostStep × ℕ)) → r.lines < 2 ^ 32 → r.sum < 2 ^ 32
         → AreTypedSteps ss → AreKept r d ss

@@ -19,10 +19,10 @@ use textio::lines::Failure;
 use textio::reader::{ByteSource, Reader};
 use textio::writer::ByteSink;
 
-/// The log that a reader has left, of either kind, played from a device, which need not be legal, and of which the
-/// stored form has this sum. What its lines are answered, the line of power and lamps, and which line of a history does
-/// not belong, go to a sink. Returns that line, if there is one, and what of a log of the first kind was not played.
-/// What is printed is handed on before each read, which may wait.
+/// Replays the log that is left in a reader, of either kind, from a device, which need not be legal, and whose stored
+/// form has this sum. Writes the answers to its lines, the line of power and lamps, and which line of a history does
+/// not belong to `to`, and flushes it before each read, which may wait. Returns that line, if any, and what of a log of
+/// the first kind was not played.
 pub fn replay_log<R: ByteSource, W: ByteSink>(
     begun: Device,
     sum: u32,

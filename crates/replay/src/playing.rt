@@ -24,8 +24,8 @@ use textio::lines::Failure;
 use textio::writer;
 use textio::writer::ByteSink;
 
-/// A history as it is played: its record, tested where the history began; where its reader stands; how many of its
-/// lines belong; and the first that does not, after which none is played.
+/// A history that is replayed: its record, tested where the history began; the reader's state; how many of its lines
+/// belong; and the first that does not, after which none is played.
 #[derive(Drop)]
 pub struct HistoryPlayer {
     tested: Tested,
@@ -36,7 +36,8 @@ pub struct HistoryPlayer {
 }
 
 impl HistoryPlayer {
-    /// Before a history that begins with a device, which need not be legal, and of which the form has this sum.
+    /// Returns the player before a history that begins with a device, which need not be legal, and whose form has this
+    /// sum.
     pub fn new(device: Device, sum: u32) -> HistoryPlayer
         ensures device { result.tested.device ≡ device }
         ensures log { result.log ≡ chain_begun sum }
@@ -56,7 +57,7 @@ impl HistoryPlayer {
         }
     }
 
-    /// The first line that did not belong, if one did not.
+    /// Returns the first line that did not belong, if any.
     pub fn stray(&self) -> Option<StrayLine>
         ensures { result ≡ self.now.stray }
     {

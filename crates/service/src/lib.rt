@@ -17,21 +17,21 @@ pub const TABLE_MOST: usize = 64;
 pub struct Reading {
     /// Seconds at the earlier reading, any 32-bit number.
     pub earlier: u32,
-    /// Seconds at the later reading, any 32-bit number; below the earlier where the lamp went backwards.
+    /// Seconds at the later reading, any 32-bit number; below the earlier if the lamp went backwards.
     pub later: u32,
 }
 
 /// Why readings are not compared.
 #[derive(Clone, Copy, Debug, PartialEq, Eq)]
 pub enum CompareError {
-    /// There are more of them than a table has.
+    /// There are more readings than a table has places.
     TooMany,
-    /// The list for the differences has fewer places.
+    /// The list for the differences has fewer places than there are readings.
     NoRoom,
 }
 
 impl Reading {
-    /// The later seconds minus the earlier: below 0 where the lamp went backwards, as one does that was exchanged.
+    /// Returns the later seconds minus the earlier: negative if the lamp went backwards, as a replaced lamp does.
     pub fn difference(self) -> i64
         ensures { result ≡ difference_of self }
     {
@@ -54,8 +54,8 @@ fn first_backwards(readings: &[Reading]) -> Option<usize>
     readings.iter().position(|r| r.later < r.earlier)
 }
 
-/// Writes each lamp's difference, from the first place of `out` on, and gives the first lamp that went backwards, if
-/// one did. Later places of `out` stay as they were, and all of them where the readings are not compared.
+/// Writes each lamp's difference to the start of `out`, and returns the first lamp that went backwards, if any. Later
+/// places of `out` stay as they were; with an error all of them stay. Errors, in this order: `TooMany`, `NoRoom`.
 pub fn compare(readings: &[Reading], out: &mut [i64]) -> Result<Option<usize>, CompareError>
     ensures told { ComparedHolds readings.now (length out.old) result }
     ensures written { OnOk result (out.new ≡ differences readings.now ++ drop (length readings.now) out.old) }

@@ -8,8 +8,8 @@ ghost use Rattle.service.specs.declared.CompareError.{CompareError};
 
 use crate::{CompareError, Reading, TABLE_MOST, compare};
 
-/// What is told of readings holds, and what holds is told: the place is the lowest one where the lamp went backwards,
-/// and none is told exactly where it went backwards nowhere.
+/// The answer holds of the readings, and an answer that holds is the one returned: the place is the lowest one where
+/// the lamp went backwards, and there is none exactly if no lamp went backwards.
 #[tactic(auto, using(crate::proofs::OneAnswer::one_answer))]
 pub fn the_answer_told_holds(
     readings: &[Reading],
@@ -29,7 +29,7 @@ pub fn one_result()
         → ComparedAs rs out b m → ComparedAs rs out c n → (b ≡ c) × (m ≡ n) }
 {}
 
-/// A difference is exact: with the earlier seconds it comes to the later, and it is below 0 exactly where the lamp went
+/// A difference is exact: added to the earlier seconds it gives the later, and it is negative exactly if the lamp went
 /// backwards.
 #[tactic(auto, using(crate::proofs::Exact::earlier_and_difference, crate::proofs::Exact::negative_is_backwards))]
 pub fn a_difference_is_exact()

@@ -11,11 +11,11 @@ use record::types::{LINE_ROOM, Line};
 use record::views::Phase;
 use text::flag;
 
-/// What one call makes of the bytes it is handed, beside the line, which changes where it lies: how many come before
-/// CR, and whether it came.
+/// The result of passing bytes to a line, besides the line, which changes in place: how many come before CR, and
+/// whether it came.
 #[derive(Clone, Copy)]
 pub struct Passed {
-    /// Bytes before the first CR, or all where there is none.
+    /// Bytes before the first CR, or all if there is none.
     pub before: usize,
     /// Whether there is a CR.
     pub ended: bool,
@@ -52,7 +52,7 @@ fn collect(most: usize, l: &mut Line, more: &[u8])
     l.held = held + more.len();
 }
 
-/// The bytes up to the first CR, collected as the phase allows.
+/// Collects the bytes up to the first CR in the line, as the phase allows.
 pub fn gather(phase: Phase, l: &mut Line, bytes: &[u8]) -> Passed
     ensures line { l.new ≡ (gathered_from (held_most (phase_number phase)) l.old bytes.now).line }
     ensures before { result.before ≡ (gathered_from (held_most (phase_number phase)) l.old bytes.now).before }

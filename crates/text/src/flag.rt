@@ -4,14 +4,15 @@ ghost use Rattle.std.specs.Prelude.{◌≡◌, map};
 ghost use Rattle.std.specs.List.{list_all};
 ghost use Rattle.text.specs.Flags.{is_flag, is_raised, flag_of};
 
-/// Whether the byte is one of a legal record: 0 or 1.
+/// Whether the byte is a flag of a legal record: 0 or 1.
 pub fn is_flag(flag: u8) -> bool
     ensures { result ≡ is_flag flag }
 {
     flag <= 1
 }
 
-/// Whether each of these bytes is 0 or 1. No turn leaves early, so that sixteen bytes go at once.
+/// Whether each of these bytes is 0 or 1. The loop does not leave early, so that the compiler takes sixteen bytes at
+/// once.
 pub fn are_flags(flags: &[u8]) -> bool
     ensures { result ≡ list_all is_flag flags.now }
 {
@@ -29,14 +30,14 @@ pub fn is_raised(flag: u8) -> bool
     flag != 0
 }
 
-/// The flag that says so: 1 raised, 0 lowered.
+/// Returns the flag: 1 raised, 0 lowered.
 pub fn of(raised: bool) -> u8
     ensures { result ≡ flag_of raised }
 {
     if raised { 1 } else { 0 }
 }
 
-/// The flags that say so.
+/// Returns the flags: 1 raised, 0 lowered.
 #[tactic(auto, using(crate::proofs::FlagsTold::one_mapped, crate::proofs::FlagsTold::all_mapped))]
 pub fn flags<const N: usize>(raised: &[bool; N]) -> [u8; N]
     ensures { result ≡ map flag_of raised.now }
@@ -48,7 +49,7 @@ pub fn flags<const N: usize>(raised: &[bool; N]) -> [u8; N]
     flags
 }
 
-/// What each of these flags says.
+/// Returns whether each of these flags is raised.
 #[tactic(auto, using(crate::proofs::FlagsTold::one_mapped, crate::proofs::FlagsTold::all_mapped))]
 pub fn raised<const N: usize>(flags: &[u8; N]) -> [bool; N]
     ensures { result ≡ map is_raised flags.now }

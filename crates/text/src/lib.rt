@@ -10,8 +10,8 @@ ghost use Rattle.std.specs.Prelude.{◌≡◌, ◌≢◌, ◌+◌, ◌≤◌, �
 ghost use Rattle.std.proofs.lemmas.List.Edits.{sets};
 ghost use Rattle.text.specs.Scans.{same_by, itself, index_of};
 
-/// All of `src` into `out`, from the place `at` on. A byte at a time: the compiler cannot know that two lent memories
-/// lie apart, so `copy_from_slice` would be `memmove`, which the archive does not ask a host for.
+/// Copies all of `src` into `out`, from the place `at` on. It copies a byte at a time: the compiler cannot know that
+/// two buffers do not overlap, so `copy_from_slice` would be `memmove`, which the archive does not ask a host for.
 pub fn put(out: &mut [u8], at: usize, src: &[u8])
     requires { at + length src.now ≤ length out.old }
     ensures { out.new ≡ sets out.old at src.now }
@@ -36,7 +36,7 @@ pub fn same(a: &[u8], b: &[u8]) -> bool
     true
 }
 
-/// The place of the first b in s, or the length of s where there is none.
+/// Returns the place of the first `b` in `s`, or the length of `s` if there is none.
 pub fn find(s: &[u8], b: u8) -> usize
     ensures place { result ≡ index_of b s.now }
     ensures before { All (λ x. x ≢ b) (take result s.now) }

@@ -10,11 +10,11 @@ pub trait Numbered: Copy {
     fn number(self) -> u32
         ensures { result ≡ number self };
 
-    /// It is not that of a call which is served.
+    /// It is never 0, the number of a served call.
     ghost refuses: { (why : Self) → number why ≢ 0 };
 }
 
-/// The number of a call that gives nothing else: 0 where it is served, and only there.
+/// Returns the number of a call that returns nothing else: 0 exactly if it is served.
 pub fn number_of<E: Numbered>(outcome: Result<(), E>) -> u32
     ensures number { result ≡ outcome_number E.number outcome }
     ensures refused { IfErr outcome (λ why. result ≢ 0) }

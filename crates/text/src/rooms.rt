@@ -4,11 +4,11 @@ ghost use Rattle.std.specs.Prelude.{◌≡◌, ◌==◌, ◌≤◌, Bool, length
 ghost use Rattle.std.specs.List.{list_all};
 ghost use Rattle.text.specs.Rooms.{used_part, filled_room};
 
-/// What stands at a place that is not used: zero, of whatever type.
+/// The value of an unused place: zero, for each type.
 pub trait Blank {
     ghost blank: { Self → Bool };
 
-    /// Whether this is what stands there.
+    /// Whether this is the value of an unused place.
     fn is_blank(&self) -> bool
         ensures { result ≡ blank self.now };
 }
@@ -29,7 +29,8 @@ impl Blank for u32 {
     }
 }
 
-/// Whether each of these places is blank. No turn leaves early, so that sixteen bytes go at once.
+/// Whether each of these places is blank. The loop does not leave early, so that the compiler takes sixteen bytes at
+/// once.
 pub fn are_blank<T: Blank>(places: &[T]) -> bool
     ensures { result ≡ list_all T.blank places.now }
 {
@@ -40,7 +41,7 @@ pub fn are_blank<T: Blank>(places: &[T]) -> bool
     blank
 }
 
-/// What is used of a room, `n` items of it: none where it has no such room, or where what is unused is not blank.
+/// Returns the used part of a room, `n` items; `None` if the room is smaller, or if the rest is not blank.
 #[tactic(auto, using(crate::proofs::RoomsTold::used_by_tests))]
 pub fn used<T: Blank, const N: usize>(room: &[T; N], n: usize) -> Option<&[T]>
     ensures { option_map (λ s. s.now) result ≡ used_part T.blank N room.now n }
@@ -56,7 +57,7 @@ pub fn used<T: Blank, const N: usize>(room: &[T; N], n: usize) -> Option<&[T]>
     Some(items)
 }
 
-/// The room that holds these items, and `blank` at each place after them.
+/// Returns a room with these items at its start, and `blank` at each place after them.
 #[tactic(auto, using(crate::proofs::RoomsTold::rest_kept))]
 pub fn kept<T: Copy, const N: usize>(items: &[T], blank: T) -> [T; N]
     requires { length items.now ≤ N }
@@ -67,7 +68,7 @@ pub fn kept<T: Copy, const N: usize>(items: &[T], blank: T) -> [T; N]
     room
 }
 
-/// The first `n` places of a room, or all.
+/// Returns the first `n` places of a room, or all.
 pub fn first<T, const N: usize>(room: &[T; N], n: usize) -> &[T]
     ensures value { result.now ≡ take n room.now }
     ensures within { length result.now ≤ N }

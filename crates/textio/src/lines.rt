@@ -14,7 +14,7 @@ use std::io::Error;
 /// A line that was read.
 #[derive(Clone, Copy)]
 pub struct Line {
-    /// So many of its bytes, without its LF, stand at the start of the memory.
+    /// How many of its bytes, without its LF, are at the start of the buffer.
     pub held: usize,
     /// Whether an LF ended it. The last line of a log may have none.
     pub ended: bool,
@@ -25,9 +25,9 @@ pub struct Line {
 pub enum Failure {
     /// The source gave an error; a line that had begun is no line.
     Read(Error),
-    /// The sink of what is printed gave an error.
+    /// The sink of the output gave an error.
     Write(Error),
-    /// A number of 64 bits counts no more lines, or no more bytes of a line.
+    /// A 64-bit number counts no more lines, or no more bytes of a line.
     TooLong,
 }
 
@@ -64,7 +64,7 @@ fn take_shown<R: ByteSource>(from: &mut Reader<R>, line: &mut [u8], at: usize) -
     Ok(Shown::Part(place))
 }
 
-/// What waits at a sink is handed on where no byte is read ahead, so that a read comes next, which may wait.
+/// Flushes the sink if no byte is read ahead: the next read may wait.
 pub fn flush_before_read<R: ByteSource, W: ByteSink>(from: &Reader<R>, to: &mut W) -> io::Result<()>
     ensures keeps { Keeps (W.contents to.old) (W.contents to.new) }
     ensures err { IfErr result W.fails_with }
@@ -76,9 +76,9 @@ pub fn flush_before_read<R: ByteSource, W: ByteSink>(from: &Reader<R>, to: &mut 
     Ok(())
 }
 
-/// The next line without its LF, from the start of the lent memory: its length, if there is one, and whether an LF
-/// ended it. Of a line that is longer than that memory only so much is kept. A read may wait, so what waits at the sink
-/// of what is printed is handed on before each.
+/// Reads the next line, without its LF, into the start of `line`. Returns how many bytes were stored and whether an LF
+/// ended the line; `None` at the end of the source. Of a line that is longer than the buffer only the part that fits is
+/// stored. Flushes `to` before each read, which may wait. Errors: `Failure`.
 pub fn next_line<R: ByteSource, W: ByteSink>(
     from: &mut Reader<R>,
     to: &mut W,

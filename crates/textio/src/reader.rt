@@ -6,16 +6,16 @@ ghost use Rattle.std.specs.declared.io.Error.{Error};
 
 use std::io;
 
-/// Where bytes come from. It says what std's `Read` does of the bytes, and beside it which errors come.
+/// A source of bytes. It promises what std's `Read` promises of the bytes, and also which errors it gives.
 pub trait ByteSource {
-    /// The bytes that reads give from here on, where they are known.
+    /// The bytes that later reads give, if they are known.
     ghost remaining: { Self → Option (List ℕ) };
 
     /// The errors that reads give.
     ghost fails_with: { Error → Type 0 };
 
-    /// Reads bytes into the front of `buf`, and gives their count: 0 at the end, or where `buf` is empty. After an
-    /// error none is lost.
+    /// Reads bytes into the front of `buf`, and returns their count: 0 at the end, or if `buf` is empty. An error loses
+    /// no byte.
     fn read(&mut self, buf: &mut [u8]) -> io::Result<usize>
         ensures bound { ReadsAtMost result buf.new }
         ensures bytes { ReadConsumes (remaining self.old) (remaining self.new) result buf.new }
@@ -24,7 +24,7 @@ pub trait ByteSource {
 
 const ROOM: usize = 65536;
 
-/// A source, and the bytes that are read from it and not yet taken: those from `start` to `end`.
+/// A source with a buffer: the bytes from `start` to `end` are read and not yet consumed.
 #[derive(Drop)]
 pub struct Reader<R> {
     inner: R,
@@ -38,7 +38,7 @@ pub struct Reader<R> {
 impl<R: ByteSource> Reader<R> {
     ghost use Rattle.textio.specs.Ahead.{ahead_of, left_in};
 
-    /// The source, with nothing read ahead.
+    /// Returns a reader of the source, with nothing read ahead.
     pub fn new(inner: R) -> Reader<R>
         ensures { left_in R.remaining result ≡ R.remaining inner }
     {
@@ -50,21 +50,21 @@ impl<R: ByteSource> Reader<R> {
         }
     }
 
-    /// Whether no byte is read ahead, so that the next line asks for a read, which may wait.
+    /// Whether no byte is read ahead, so that the next line needs a read, which may wait.
     pub fn is_empty(&self) -> bool
         ensures { IsTrue result ↔ (length (ahead_of self.now) ≡ 0) }
     {
         self.start == self.end
     }
 
-    /// The bytes that are read ahead.
+    /// Returns the bytes that are read ahead.
     pub fn ahead(&self) -> &[u8]
         ensures { result.now ≡ ahead_of self.now }
     {
         &self.bytes[self.start..self.end]
     }
 
-    /// Reads where no byte is read ahead. If none is after it, the source is at its end.
+    /// Reads from the source if no byte is read ahead. If there is none after it, the source is at its end.
     pub fn fill(&mut self) -> io::Result<()>
         ensures keeps { Keeps (left_in R.remaining self.old) (left_in R.remaining self.new) }
         ensures end { OnOk result (length (ahead_of self.new) ≡ 0 → IsAtEnd (left_in R.remaining self.new)) }
@@ -80,7 +80,7 @@ impl<R: ByteSource> Reader<R> {
         Ok(())
     }
 
-    /// Takes bytes that are read ahead.
+    /// Drops the first `amount` bytes that are read ahead.
     #[tactic(auto, using(crate::proofs::Known::prepend_known_taken, crate::proofs::Known::range_later))]
     pub fn consume(&mut self, amount: usize)
         requires { amount ≤ length (ahead_of self.old) }

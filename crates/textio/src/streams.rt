@@ -8,7 +8,7 @@ use crate::writer::ByteSink;
 use std::io;
 use std::io::{Error, ErrorKind, Read, Write};
 
-/// A reader or a writer of std's; which errors it gives is not known.
+/// A reader or a writer of std's. Which errors it gives is not known.
 #[derive(Drop)]
 pub struct Stream<T>(pub T);
 

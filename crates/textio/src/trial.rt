@@ -7,14 +7,14 @@ use crate::writer::ByteSink;
 use std::io;
 use std::io::{Error, ErrorKind};
 
-/// At most `most` bytes a read, and one at least; after `until` bytes the next read fails, if it comes to that.
+/// A source for tests: it gives 1 to `most` bytes a read, and fails after `until` bytes.
 #[derive(Drop)]
 pub struct Pieces {
-    /// What is still to be read.
+    /// The bytes still to be read.
     pub log: &'static [u8],
-    /// The most bytes of a read; 0 is as 1.
+    /// The most bytes of a read; 0 counts as 1.
     pub most: usize,
-    /// So many bytes more are read before a read fails.
+    /// How many more bytes are read before a read fails.
     pub until: usize,
 }
 
@@ -38,7 +38,7 @@ impl ByteSource for Pieces {
 
 const ROOM: usize = 64;
 
-/// Takes at most one byte more than `spare` a write, and fails where it has `room` bytes; 64 are the most.
+/// A sink for tests: it takes at most `spare` + 1 bytes a write, and fails when it has `room` bytes, 64 at most.
 #[derive(Drop)]
 pub struct Taken {
     bytes: [u8; ROOM],
@@ -50,7 +50,7 @@ pub struct Taken {
 }
 
 impl Taken {
-    /// Before anything is written.
+    /// Returns an empty sink.
     pub fn new(spare: usize, room: usize) -> Taken
         ensures empty { (result.count ≡ 0) × (result.flushed ≡ 0) }
         ensures limits { (result.spare ≡ spare) × (result.room ≡ room) }
@@ -64,21 +64,21 @@ impl Taken {
         }
     }
 
-    /// What it has got.
+    /// Returns the bytes that it has got.
     pub fn text(&self) -> &[u8]
         ensures { result.now ≡ take self.now.count self.now.bytes }
     {
         &self.bytes[..self.count]
     }
 
-    /// So many bytes of it had come when it was last flushed.
+    /// Returns how many of its bytes had come when it was last flushed.
     pub fn flushed(&self) -> usize
         ensures { result ≡ self.now.flushed }
     {
         self.flushed
     }
 
-    /// It has so much room from now on.
+    /// Changes its room.
     pub fn set_room(&mut self, room: usize)
         ensures { self.new ≡ record self.old { room = room } }
     {

@@ -8,19 +8,19 @@ ghost use Rattle.std.specs.declared.io.Error.{Error};
 use crate::memory;
 use std::io;
 
-/// Where bytes go. It says what std's `Write` does of the bytes, and beside it which errors come, and that some byte is
-/// taken where none does.
+/// A sink of bytes. It promises what std's `Write` promises of the bytes, and also which errors it gives, and that a
+/// write of some bytes takes at least one.
 pub trait ByteSink {
-    /// The bytes that it has got, where they are known.
+    /// The bytes that it has got, if they are known.
     ghost contents: { Self → Option (List ℕ) };
 
-    /// Of these, the bytes that wait in it, and are not handed on.
+    /// Of these, the bytes that are buffered in it, and not yet passed on.
     ghost waiting: { Self → List ℕ };
 
     /// The errors that it gives.
     ghost fails_with: { Error → Type 0 };
 
-    /// Takes bytes from the front of `buf`, and gives their count: 0 only where `buf` is empty. With an error it takes
+    /// Takes bytes from the front of `buf`, and returns their count: 0 only if `buf` is empty. With an error it takes
     /// none.
     fn write(&mut self, buf: &[u8]) -> io::Result<usize>
         ensures bound { WritesAtMost result buf.now }
@@ -28,7 +28,7 @@ pub trait ByteSink {
         ensures bytes { WriteAppends (contents self.old) (contents self.new) result buf.now }
         ensures err { IfErr result fails_with };
 
-    /// Hands on what waits.
+    /// Flushes buffered output.
     fn flush(&mut self) -> io::Result<()>
         ensures keeps { Keeps (contents self.old) (contents self.new) }
         ensures none_waits { OnOk result (waiting self.new ≡ []) }
@@ -52,7 +52,7 @@ fn hand_on<W: ByteSink>(to: &mut W, bytes: &[u8]) -> (usize, io::Result<()>)
     (done, Ok(()))
 }
 
-/// Writes all the bytes; where that fails, the sink has got a front of them.
+/// Writes all the bytes; if that fails, the sink has got a front of them.
 pub fn put<W: ByteSink>(to: &mut W, bytes: &[u8]) -> io::Result<()>
     ensures { WritesText W.fails_with (W.contents to.old) (W.contents to.new) result bytes.now }
 {
@@ -62,7 +62,7 @@ pub fn put<W: ByteSink>(to: &mut W, bytes: &[u8]) -> io::Result<()>
 
 const ROOM: usize = 65536;
 
-/// A sink, and the bytes from `start` to `end` that it has yet to get.
+/// A sink with a buffer: the bytes from `start` to `end` are not yet passed on to it.
 #[derive(Drop)]
 pub struct Writer<W> {
     inner: W,
@@ -76,7 +76,7 @@ pub struct Writer<W> {
 impl<W: ByteSink> Writer<W> {
     ghost use Rattle.textio.specs.Waiting.{held_by};
 
-    /// The sink, with nothing waiting for it.
+    /// Returns a writer of the sink, with an empty buffer.
     pub fn new(inner: W) -> Writer<W>
         ensures { held_by W.contents result ≡ W.contents inner }
     {

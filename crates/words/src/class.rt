@@ -16,7 +16,7 @@ pub enum ClassNumber {
 }
 
 impl ClassNumber {
-    /// 1 or 2.
+    /// Returns 1 or 2.
     pub fn number(self) -> u8
         ensures { result ≡ class_as_number self }
     {
@@ -26,7 +26,7 @@ impl ClassNumber {
         }
     }
 
-    /// Its character in a line.
+    /// Returns its character in a line.
     pub fn code(self) -> u8
         ensures { result ≡ class_code self }
     {

@@ -11,34 +11,34 @@ pub const LINE_MOST: usize = 136;
 /// A line that is being written.
 pub type Line = ArrayVec<u8, LINE_MOST>;
 
-/// What a line can say at one place, with the bytes that say it.
+/// A value at one place of a line, with the bytes that say it.
 pub trait Wire: Copy {
     /// The values that can be said.
     ghost legal: { Self → Bool };
 
-    /// How our own side says them.
+    /// The bytes that our own side writes for a value.
     ghost text: { Self → List ℕ };
 
-    /// The bytes that say them, ours and others'.
+    /// The bytes that say a value, ours and others'.
     ghost writes: { Self → List ℕ → Type 0 };
 
-    /// The value at the front of bytes, and what follows it.
+    /// The value at the front of bytes, and the bytes after it.
     ghost read: { List ℕ → Option (Self × List ℕ) };
 
-    /// Puts the value at the end of the line.
+    /// Writes the value to the end of the line.
     fn put(self, out: &mut Line)
         requires { array_vec_len out.old + length (text self) ≤ LINE_MOST }
         ensures { out.new.items ≡ out.old.items ++ text self };
 
-    /// The value at the front of `s`, and what follows it.
+    /// Reads the value at the front of `s`, and returns it with the bytes after it.
     fn take(s: &[u8]) -> Option<(Self, &[u8])>
         ensures { taken_value result ≡ read s.now };
 
-    /// What says a value is read as it, and what is read said it.
+    /// A text that says a value is read as that value, and a text that is read says its value.
     ghost codec: { Codec Ends legal text writes read };
 }
 
-/// The value that all of `s` says.
+/// Returns the value that all of `s` says.
 pub fn parse<T: Wire>(s: &[u8]) -> Option<T>
     ensures { result ≡ whole_value T.read s.now }
 {
@@ -48,7 +48,7 @@ pub fn parse<T: Wire>(s: &[u8]) -> Option<T>
     }
 }
 
-/// The value that the first byte names, and what follows that byte.
+/// Returns the value that the first byte names, and the bytes after that byte.
 pub fn letter<T, F: Fn(u8) -> Option<T>>(s: &[u8], named: F) -> Option<(T, &[u8])>
     requires { F.IsAlwaysCallable named }
     ensures { (f : ℕ → Option T) → ((b : ℕ) (r : Option T) → F.post named b r → r ≡ f b)
@@ -58,7 +58,7 @@ pub fn letter<T, F: Fn(u8) -> Option<T>>(s: &[u8], named: F) -> Option<(T, &[u8]
     Some((named(b)?, rest))
 }
 
-/// Puts bytes as they are.
+/// Writes bytes as they are to the end of the line.
 pub fn put_all(s: &[u8], out: &mut Line)
     requires { array_vec_len out.old + length s.now ≤ LINE_MOST }
     ensures { out.new.items ≡ out.old.items ++ s.now }

@@ -31,7 +31,7 @@ pub enum Source {
 pub struct Input {
     /// The type, its first character.
     pub source: Source,
-    /// The number, its second character: 1 to 9 for itself, in Class 2 also 10 to 35 for A to Z.
+    /// The number, its second character: 1 to 9, or 10 to 35 for A to Z (Class 2 only).
     pub number: u8,
 }
 
@@ -42,8 +42,8 @@ fn is_number_character(b: u8) -> bool
     ((b'1' <= b) & (b <= b'9')) | ((b'A' <= b) & (b <= b'Z'))
 }
 
-/// Whether two characters name an input of Class k: 11 and 59 do; 10 and 20 do not; 61 and 1A do of Class 2 only. Every
-/// k other than 1 is read as Class 2.
+/// Whether two characters name an input of class `k`: 11 and 59 do; 10 and 20 do not; 61 and 1A do in Class 2 only.
+/// Every `k` other than 1 is read as Class 2.
 pub fn is_input_text(k: u8, a: u8, b: u8) -> bool
     ensures { result ≡ is_input_text k a b }
 {
@@ -78,7 +78,7 @@ fn number_for(b: u8) -> u8
     10 + (b - b'A')
 }
 
-/// The input of either class that two characters name, or none.
+/// Returns the input of either class that two characters name, or `None`.
 #[tactic(auto, unfolding(crate::specs::Inputs::read_input))]
 pub fn read_input(a: u8, b: u8) -> Option<Input>
     ensures { result ≡ read_input a b }
@@ -91,7 +91,7 @@ pub fn read_input(a: u8, b: u8) -> Option<Input>
     Some(Input { source, number })
 }
 
-/// The input of one word.
+/// Returns the input that a word of two characters names, or `None`.
 #[tactic(auto, unfolding(crate::specs::Inputs::input_of))]
 pub fn input_of(w: &[u8]) -> Option<Input>
     ensures { result ≡ input_of w.now }
@@ -106,7 +106,7 @@ pub fn is_input(i: Input) -> bool
     1 <= i.number && i.number <= 35
 }
 
-/// The character of a source: its type, 1 to 6.
+/// Returns the character of a source: its type, 1 to 6.
 pub fn source_digit(s: Source) -> u8
     ensures { result ≡ source_digit s }
 {
@@ -120,7 +120,7 @@ pub fn source_digit(s: Source) -> u8
     }
 }
 
-/// The character of a number of 1 to 35: a digit up to 9, a letter from 10 on.
+/// Returns the character of a number of 1 to 35: a digit up to 9, a letter from 10 on.
 #[tactic(auto, unfolding(crate::specs::Sources::number_character))]
 pub fn number_character(n: u8) -> u8
     ensures { result ≡ number_character n }
@@ -131,14 +131,14 @@ pub fn number_character(n: u8) -> u8
     b'A' + (n - 10) % 26
 }
 
-/// The two characters of an input, the source's first.
+/// Returns the two characters of an input, the type's first.
 pub fn input_text(i: Input) -> [u8; 2]
     ensures { result ≡ input_text i }
 {
     [source_digit(i.source), number_character(i.number)]
 }
 
-/// The last decimal digit of a number, as a character.
+/// Returns the last decimal digit of a number, as a character.
 pub fn number_digit(n: u8) -> u8
     ensures { result ≡ number_digit n }
 {

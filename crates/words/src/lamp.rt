@@ -4,7 +4,7 @@ ghost use Rattle.words.specs.Laws.{lamp_codec};
 
 use crate::codec::{Line, Wire};
 
-/// What a projector tells of one lamp.
+/// What a projector answers for one lamp.
 #[derive(Clone, Copy, Default)]
 pub struct LampHours {
     /// Whole hours for which the lamp has burnt, 0 to 99999.

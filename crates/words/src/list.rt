@@ -7,7 +7,7 @@ ghost use Rattle.words.specs.Joined.{list_text, list_read};
 use crate::codec::{LINE_MOST, Line, Wire};
 use arrayvec::ArrayVec;
 
-/// Puts the things of `xs`, a space between any two.
+/// Writes the values of `xs` to the end of the line, with a space between any two.
 pub fn put_list<T: Wire>(xs: &[T], out: &mut Line)
     requires { array_vec_len out.old + length (list_text T.text xs.now) ≤ LINE_MOST }
     ensures { out.new.items ≡ out.old.items ++ list_text T.text xs.now }
@@ -22,7 +22,7 @@ pub fn put_list<T: Wire>(xs: &[T], out: &mut Line)
     }
 }
 
-/// The things that all of `s` says, one to N of them.
+/// Returns the values that all of `s` says, one to `N` of them.
 pub fn parse_list<T: Wire + Default, const N: usize>(s: &[u8]) -> Option<ArrayVec<T, N>>
     ensures { option_map (λ v. v.items) result ≡ list_read T.read N s.now }
 {

@@ -7,16 +7,16 @@ ghost use Rattle.words.specs.Laws.{power_codec, switch_codec};
 
 use crate::codec::{self, Line, Wire};
 
-/// The power as a projector tells it.
+/// The power as a projector answers it.
 #[derive(Clone, Copy)]
 pub enum Power {
     /// The lamps are off.
     Off,
     /// The lamps burn.
     On,
-    /// The lamps have gone out and cool.
+    /// The lamps are off and cooling.
     Cooling,
-    /// The lamps have been switched on and warm up.
+    /// The lamps burn and warm up.
     WarmUp,
 }
 
@@ -63,7 +63,7 @@ impl Wire for Power {
     ghost codec = { power_codec };
 }
 
-/// The digit of what is on or off: 1 and 0.
+/// Returns the digit of a switch: 1 on, 0 off.
 pub fn switch_code(on: bool) -> u8
     ensures { result ≡ switch_code on }
 {

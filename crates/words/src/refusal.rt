@@ -21,7 +21,7 @@ pub enum Refusal {
 }
 
 impl Refusal {
-    /// The digit after ERR, 1 to 4.
+    /// Returns the digit after ERR, 1 to 4.
     pub fn number(self) -> u8
         ensures { result ≡ refusal_digit self }
     {

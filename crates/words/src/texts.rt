@@ -46,7 +46,7 @@ fn all_text(s: &[u8]) -> bool
     ok
 }
 
-/// 0 to `most` bytes, each 0x20 to 0xFF, and no refusal.
+/// Whether `s` is a text: 0 to `most` bytes, each 0x20 to 0xFF, and no refusal.
 #[tactic(auto, unfolding(crate::specs::Texts::is_text))]
 pub fn is_text(s: &[u8], most: usize) -> bool
     ensures { result ≡ is_text most s.now }
@@ -61,21 +61,21 @@ pub fn is_utf8(s: &[u8]) -> bool
     str::from_utf8(s).is_ok()
 }
 
-/// The rule of the projector's name, for set-up, legality and reader alike (RULES, Texts).
+/// Whether `s` can be the projector's name, for set-up, legality and reader alike (RULES, Texts).
 pub fn is_name(s: &[u8]) -> bool
     ensures { result ≡ is_name s.now }
 {
     is_text(s, NAME_MOST) && is_utf8(s)
 }
 
-/// The rule of maker, model, other information, serial number and version.
+/// Whether `s` can be maker, model, other information, serial number or version.
 pub fn is_info(s: &[u8]) -> bool
     ensures { result ≡ is_info s.now }
 {
     is_text(s, INFO_MOST)
 }
 
-/// The rule of an input's name (RULES, Class 2).
+/// Whether `s` can be an input's name (RULES, Class 2).
 pub fn is_input_name(s: &[u8]) -> bool
     ensures { result ≡ is_input_name s.now }
 {
@@ -93,7 +93,7 @@ fn all_alnum(s: &[u8]) -> bool
     ok
 }
 
-/// 0 to 32 ASCII letters and digits.
+/// Whether `s` is 0 to 32 ASCII letters and digits.
 #[tactic(auto, unfolding(crate::specs::Texts::is_password))]
 pub fn is_password(s: &[u8]) -> bool
     ensures { result ≡ is_password s.now }

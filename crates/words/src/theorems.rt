@@ -13,16 +13,16 @@ ghost use Rattle.words.specs.Inputs.{read_input, is_input, is_input_text, source
 ghost use Rattle.words.specs.declared.input.Input.{Input};
 ghost use Rattle.words.specs.declared.input.Source.TheVariants.{Rgb, Digital, Network, Internal};
 
-/// Bytes pass for UTF-8 exactly where they are characters of the table of RFC 3629's section 4, and exactly where they
-/// are what its section 3 makes of a list of scalar values; and that list is one.
+/// Bytes are accepted as UTF-8 exactly if they are characters of the table of RFC 3629, section 4, and exactly if they
+/// are the encoding by section 3 of a list of scalar values; and that list is unique.
 pub fn bytes_and_numbers_agree()
     ensures by_table { (s : List ℕ) → IsTrue (is_utf8 s) ↔ IsOctets s }
     ensures by_numbers { (s : List ℕ) → IsTrue (is_utf8 s) ↔ IsUtf8 s }
     ensures encodings_unique { (ms ns : List ℕ) → encode_utf8_all ms ≡ encode_utf8_all ns → ms ≡ ns }
 {}
 
-/// The table of types is followed: the two characters of an input stand for it, what two characters stand for is read
-/// of them, and no two other characters stand for an input (RULES, Inputs).
+/// The table of types is followed: the two characters of an input name it, the input that two characters name is read
+/// from them, and no two other characters name an input (RULES, Inputs).
 pub fn the_table_of_types_is_followed()
     ensures written { (i : Input) → is_input i ≡ true
         → input_for (source_digit i.source) (number_character i.number) ≡ Some i }
@@ -30,8 +30,8 @@ pub fn the_table_of_types_is_followed()
     ensures only { (a b : ℕ) (i : Input) → input_for a b ≡ Some i → input_text i ≡ a ∷ b ∷ [] }
 {}
 
-/// Inputs worked out (RULES, Inputs): two characters that name one of Class 1, or of Class 2, and such as name none;
-/// and the type and the number that two characters stand for.
+/// Computed inputs (RULES, Inputs): two characters that name one of Class 1, or of Class 2, and such as name none; and
+/// the type and the number that two characters name.
 #[tactic(auto, using(crate::proofs::Examples::worked_inputs))]
 pub fn inputs_are_worked_out()
     ensures class_1 { map (λ (s : List ℕ). is_input_text 1 (s at 0) (s at 1))
@@ -47,8 +47,8 @@ pub fn inputs_are_worked_out()
         ∷ Some (record { source = Digital; number = 11 }) ∷ [] }
 {}
 
-/// UTF-8 worked out (RULES, Texts): the examples of RFC 3629, section 7, bytes at the borders of its table, bytes
-/// beyond them, and numbers that are no character.
+/// Computed UTF-8 (RULES, Texts): the examples of RFC 3629, section 7, bytes at the borders of its table, bytes beyond
+/// them, and numbers that are no character.
 #[tactic(auto, using(crate::proofs::Utf8Examples::worked_utf8))]
 pub fn utf8_is_worked_out()
     ensures section_7 { map encode_utf8_all rfc_points ≡ rfc_octets }

@@ -1,4 +1,4 @@
-//! The workroom panel joined with our projector (RULES, Panel), stated over any panel and proved of ours (specs/,
+//! The workroom panel joined with our projector (RULES, Panel), stated for any panel and proved of ours (specs/,
 //! proofs/). The calls of `ours_panel` are the panel's own and those of C: their contracts are its fields.
 #![tactic(auto)]
 

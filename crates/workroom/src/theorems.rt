@@ -57,7 +57,8 @@ pub fn the_face_reads_back()
         ≡ flat_greeting (greeted_on (connection_at o.device (place_taken d room))) }
 {}
 
-/// Our panel keeps what RULES, Panel, asks of any, and shows what the projector meant, in any cuts: none is left out.
+/// Our panel keeps what RULES, Panel, asks of any, and shows what the projector meant, in any cuts: no requirement is
+/// left out.
 pub fn our_panel_keeps_its_demand()
     ensures panel { PanelDemand ours_panel }
     ensures shows_what_was_meant { ShowsWhatWasMeant ours_panel }
@@ -65,14 +66,15 @@ pub fn our_panel_keeps_its_demand()
         → (ns : List ℕ) × (cut_at ns (stream_of (p ∷ ps)) ≡ p ∷ ps) }
 {}
 
-/// Two panels that do what is asked can't be told apart, and ours is one of them.
+/// Two panels that do what is asked cannot be told apart, and ours is one of them.
 #[tactic(auto, using(crate::proofs::TwoPanels::ours_does, crate::proofs::TwoPanels::panels_alike))]
 pub fn panels_that_do_what_is_asked_are_alike()
     ensures ours_does_it { DoesWhatIsAsked ours_panel }
     ensures alike { (P Q : AnyPanel) → DoesWhatIsAsked P → DoesWhatIsAsked Q → PanelsAlike P Q }
 {}
 
-/// The wrong panels, each ours but for what the clause's name says of it: none keeps what it was made against.
+/// The wrong panels, each ours except for what the clause's name says: none meets the requirement that it was made
+/// against.
 pub fn wrong_panels_fall()
     ensures takes_a_foreign_reply { PanelDemand takes_foreign → ⊥ }
     ensures ends_on_a_malformed_line { PanelDemand ends_on_malformed → ⊥ }

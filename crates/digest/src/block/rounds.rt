@@ -76,7 +76,7 @@ fn constants() -> &'static [u32; 64]
     &CONSTANTS
 }
 
-/// The word and the constant of each operation on a block, added. Not inlined: where the compiler sees a sum and its
+/// Returns, for each operation on a block, its word plus its constant. Not inlined: if the compiler sees a sum and its
 /// operation together, it adds the constant last.
 #[inline(never)]
 pub fn sums(m: &[u8]) -> [u32; 64]
@@ -121,7 +121,7 @@ fn row(sums: &[u32; 64], i: u32, q: Buffer) -> Buffer
     operate(sums, i + 3, q)
 }
 
-/// Rounds 1 and 2. (All 64 operations in one function are more facts than a search looks at.)
+/// Rounds 1 and 2. (All 64 operations in one function have more facts than a search reads.)
 pub fn first_two(sums: &[u32; 64], q: Buffer) -> Buffer
     ensures { (xs : List ℕ) → AreSums xs sums.now → result ≡ operations 0 32 xs q }
 {
