@@ -1,28 +1,29 @@
-/* The control software of a ceiling projector: PJLink Class 1, version 1.04, and of Class 2 what docs/RULES.md has of it,
-   both sides, with the MD5 of RFC 1321. Class 2 was not checked against its specification, which was not at hand. The
-   archive is for processors of 64 bits alone.
+/* The control software of a ceiling projector: PJLink Class 1, version 1.04, and the part of Class 2 that docs/RULES.md
+   describes, both sides, with the MD5 of RFC 1321. Class 2 was not checked against its specification, which was not
+   available. The archive is for 64-bit processors only.
 
-   This declares what the archive libboard.a defines. `./archive` writes the archive for every processor of x86-64, whose
-   calls are those of the System V calling convention for AMD64, and `./archive aarch64` the one for every AArch64, by the
-   calling convention AAPCS64. `./archive x86-64-v2` and `./archive x86-64-v3` are faster and ask for a newer processor,
-   which no call tests: on another the host ends by an illegal instruction. The layout of the records is the same on all.
+   This declares what the archive libboard.a defines. `./archive` writes the archive for every x86-64 processor, with
+   the System V calling convention for AMD64; `./archive aarch64` writes the one for every AArch64 processor, with the
+   calling convention AAPCS64. `./archive x86-64-v2` and `./archive x86-64-v3` are faster and need a newer processor. No
+   call tests the processor: on an older one the host ends by an illegal instruction. The layout of the records is the
+   same in all of them.
 
-   Every call ends, keeps to the memory that it is lent, allocates nothing and keeps no state. The projector is a
-   record, pj_device, and the host keeps it. It lends the record to the calls `.._in_place`, which change it where it
-   lies. Each has its like by value, which takes the record, gives the changed one in its result, to be stored over the
-   one it had, and costs some copies of the record more. A host with several threads makes the calls on one record one
-   after the other.
+   Every call ends, stays inside the memory that it is given, allocates nothing and keeps no state. The projector is a
+   record, pj_device, which the host keeps. The calls `.._in_place` take a pointer to the record and change it in place.
+   Each has a form by value, which takes the record and returns the changed one, to be stored over the old one; this
+   costs some copies of the record. A host with several threads makes the calls on one record one after the other.
 
-   A call asks only what C cannot say:
-   - A pointer is good for its length, and one to a record for a record. It is never NULL, even with length 0: no memory
-     can be lent there, of no bytes either, and what a call does with it is not said, whatever an archive of today does.
-     A setting by name (pj_setup) may be NULL where its count is 0.
-   - A bool is 0 or 1. It is a parameter, which C makes so, or a result: no record has one. What a record has is a flag,
-     a byte. So any bytes at all may lie in a record or in a panel: every call then gives its one number, 1 where the
-     record is not legal.
-   - Memory that a call writes, be it reply memory, a result list or a record, overlaps nothing else that is lent to
-     that call. So what came and the reply need a buffer each.
-   No proof sees these broken. Of the calls that receive, a debug build tests the first and the last ("Debug builds").
+   A call requires only what C cannot express:
+   - A pointer is valid for its length, and a pointer to a record for a record. It is never NULL, even with length 0;
+     the result of a NULL pointer is unspecified, whatever an archive of today does. A setting by name (pj_setup) may be
+     NULL if its count is 0.
+   - A bool is 0 or 1. It is a parameter, which C makes so, or a result; no record has one. A record has flags, which
+     are bytes. So a record or a panel may have any bytes at all: every call then gives its one number, PJ_NOT_LEGAL if
+     the record is not legal.
+   - Memory that a call writes (reply memory, a result list or a record) overlaps no other memory of that call. So
+     received bytes and the reply need a buffer each.
+   No proof sees a violation of these. In the calls that receive, a debug build tests the first and the last ("Debug
+   builds").
 
    Text is bytes with a length, and no NUL ends it. A line ends with CR (0x0D) alone. */
 #ifndef CEILING_H
@@ -33,11 +34,12 @@
 #include <stdint.h>
 
 /* The version of this face. It changes with each change of a struct or a call; CHANGELOG.md says what changed. A host
-   that was written for one version can ask for it: #if CEILING_FACE != 13 .. #error. Header and archive have to be of
-   one version, and a host whose are not does not link: pj_face_13, below. */
+   that was written for one version can test it: #if CEILING_FACE != 13 .. #error. Header and archive must have the same
+   version; if they do not, the host does not link: pj_face_13, below. */
 #define CEILING_FACE 13
 
-/* What stands before each call: a compiler warns where its result is dropped, with the number or the record in it. */
+/* Precedes each call that returns something: a compiler warns if its result, with the number or the record in it, is
+   dropped. */
 #if defined(__cplusplus) && __cplusplus >= 201703L || defined(__STDC_VERSION__) && __STDC_VERSION__ >= 202311L
 #define CEILING_KEEP [[nodiscard]]
 #elif defined(__GNUC__)
@@ -53,14 +55,14 @@ extern "C" {
 #define CEILING_IS(fact) _Static_assert(fact, #fact)
 #endif
 
-/* The version of the face that the archive has. Refuses nothing. */
+/* Returns the version of the archive's face. Refuses nothing. */
 CEILING_KEEP
 uint32_t pj_face(void);
 
 /* The same, by a name that has the version in it; a host calls pj_face. Each object that is compiled with this header
-   needs the name, whether it makes calls or not, so that an archive of another version is not linked with it: "undefined
-   reference to `pj_face_13'". With GCC before 11 and clang before 13 a link that leaves sections out (--gc-sections) may
-   leave this one out, and with other compilers an optimiser may. */
+   needs the name, so an archive of another version does not link: "undefined reference to `pj_face_13'". With GCC
+   before 11 and clang before 13 a link that drops sections (--gc-sections) may drop this one, and with other compilers
+   an optimiser may. */
 CEILING_KEEP
 uint32_t pj_face_13(void);
 
@@ -77,10 +79,10 @@ uint32_t pj_face_13(void);
 static uint32_t (*const pj_face_needed)(void) CEILING_STAYS = pj_face_13;
 
 /* The number that a call gives: PJ_SERVED, or the first of the others that applies, in this order. Below, each call
-   says with which it refuses. With 1 to 9 the record that was given comes back, or stays as it was where it lies (from
-   pj_set_up, pj_set_up_2 and pj_load, with any number that is not 0, the blank record, all zero, which is not legal),
-   what is kept of a log stays, counts and lengths are 0, and no byte of the lent memory is written. With PJ_SERVED a
-   reply or a line fills the start of the lent memory for its length, and every later byte there is as it was. */
+   lists the numbers with which it refuses. With 1 to 9 the record is returned, or stays, as it was (pj_set_up,
+   pj_set_up_2 and pj_load give the blank record with any number that is not 0: all zero, and not legal), a pj_log
+   stays, counts and lengths are 0, and no byte of the other memory is written. With PJ_SERVED a reply or a line fills
+   the start of its memory for its length, and every later byte there stays as it was. */
 enum pj_number {
     PJ_SERVED = 0,
     PJ_NOT_LEGAL = 1,           /* the device record is not legal (pj_legal), or the panel's record is not */
@@ -159,8 +161,7 @@ enum pj_power {                 /* as POWR answers, and as it is read (PJ_READ_P
     PJ_POWER_WARM_UP = 3
 };
 
-/* The device record. A host reads it where it likes and changes it by the calls alone. Unused room is zero,
-   everywhere. */
+/* The device record. A host may read it, and changes it by the calls only. Unused room is zero, everywhere. */
 
 typedef struct {
     size_t len;
@@ -238,26 +239,27 @@ typedef struct {
 
 /* Makes the record of a Class 1 projector that is off, with every place closed. This, pj_set_up_2 or pj_load comes
    first, and once after each start of the board.
-   - Texts: the name to PJ_NAME_MOST bytes, maker, model and other information to PJ_INFO_MOST, each byte 0x20 to
-     0xFF; none of them is exactly ERR1, ERR2, ERR3 or ERR4. The name is well-formed UTF-8 too (RFC 3629): no overlong
-     form, no surrogate, nothing over U+10FFFF, and no character cut off at the end.
+   - Texts: the name to PJ_NAME_MOST bytes, maker, model and other information to PJ_INFO_MOST, each byte 0x20 to 0xFF;
+     none of them is exactly ERR1, ERR2, ERR3 or ERR4. The name is also well-formed UTF-8 (RFC 3629): no overlong form,
+     no surrogate, nothing over U+10FFFF, and no character cut off at the end.
    - The password: 0 to PJ_PASSWORD_MOST ASCII letters and digits, and not 1 to 7. Length 0 means no security.
    - Inputs: 1 to PJ_INPUTS_MOST, all different, two ASCII characters each, a type '1' to '5' (RGB, VIDEO, DIGITAL,
      STORAGE, NETWORK) and a number '1' to '9'; inputs_len counts the characters. The first one is chosen.
-   - Lamps: 0 to PJ_LAMPS_MOST, with the seconds that each has burnt, at most PJ_LAMP_MOST. The archive keeps
-     nothing: a host saves own.lamps where a loss of power leaves them (every minute, say) and hands them in here at
-     the next start. Each lamp's mark is set: a host that had cleared some clears them again, by pj_set_mark.
+   - Lamps: 0 to PJ_LAMPS_MOST, with the seconds that each has burnt, at most PJ_LAMP_MOST. The archive keeps nothing: a
+     host saves own.lamps where they survive a loss of power (every minute, say) and passes them here at the next start.
+     Each lamp's mark is set: a host that had cleared some clears them again, by pj_set_mark.
    - Warm-up and cooling: 1 to PJ_WARM_COOL_MOST seconds each.
-   Refuses a password of 1 to 7 letters and digits with PJ_SHORT_PASSWORD where all else is in range, and before that
-   anything else with PJ_OUT_OF_RANGE; pj_which_setting tells which it was. */
+   Refuses with PJ_OUT_OF_RANGE if anything is out of its range; then with PJ_SHORT_PASSWORD a password of 1 to 7
+   letters and digits. pj_which_setting returns which setting it was. */
 CEILING_KEEP
 pj_changed pj_set_up(const uint8_t *name, size_t name_len, const uint8_t *maker, size_t maker_len,
                      const uint8_t *model, size_t model_len, const uint8_t *other, size_t other_len,
                      const uint8_t *password, size_t password_len, const uint8_t *inputs, size_t inputs_len,
                      const uint32_t *lamps, size_t lamp_count, uint32_t warm, uint32_t cool);
 
-/* Makes the record of a Class 2 projector, as pj_set_up makes one of Class 1 but for what is said here. It answers
-   `%1` lines as one of Class 1 does, and CLSS with 2; and `%2` lines, which one of Class 1 swallows without a reply:
+/* Makes the record of a Class 2 projector, as pj_set_up makes one of Class 1, with the differences below. It answers
+   `%1` lines as one of Class 1 does, and CLSS with 2. It also answers `%2` lines, which one of Class 1 discards without
+   a reply:
 
        body   set                                      query                 answers
        INPT   an input of the list                     ?                     the input that is chosen
@@ -269,21 +271,20 @@ pj_changed pj_set_up(const uint8_t *name, size_t name_len, const uint8_t *maker,
        SVER                                            ?                     the software version
        INNM                                            ? and an input: ?31   the input's name
 
-   Every other body is ERR1 under `%2`, those of Class 1 too (CLSS, POWR, ..), and so is INST, SNUM or SVER with another
-   parameter than `?`. INPT, FREZ, SVOL, MVOL or INNM with a parameter that the table does not have is ERR2: so is
-   `SVOL ?`, as a level is not told. Then INPT, FREZ, SVOL and MVOL, set or query, are ERR4 under the fault mark, and
-   ERR3 unless the power is on. A level stops at 0 and at PJ_VOLUME_MOST, and a step that goes no further is OK too.
-   Nothing but FREZ changes the freeze, and nothing but a step a level: the host reads both off the record.
+   Every other body is ERR1 under `%2`, those of Class 1 too (CLSS, POWR, ..), and so is INST, SNUM or SVER with a
+   parameter other than `?`. INPT, FREZ, SVOL, MVOL or INNM with a parameter that the table does not have is ERR2,
+   including `SVOL ?`: a level has no query. Then INPT, FREZ, SVOL and MVOL, set or query, are ERR4 under the fault
+   mark, and ERR3 unless the power is on. A level stops at 0 and at PJ_VOLUME_MOST, and a step that goes no further is
+   OK too. Only FREZ changes the freeze, and only a step changes a level: the host reads both from the record.
    - Inputs: a type '1' to '6' (6 is INTERNAL) and a number '1' to '9' or a letter 'A' to 'Z', under `%1` too.
    - The serial number and the software version: to PJ_SERIAL_MOST bytes each, by the rule for maker and model.
    - A name for each input, in the inputs' order: the bytes of all of them one after the other, and the length of each.
-     A name has at most PJ_INPUT_NAME_MOST bytes, by the same rule; no UTF-8 is asked for. name_count counts names, and
+     A name has at most PJ_INPUT_NAME_MOST bytes, by the same rule; it need not be UTF-8. name_count counts names, and
      names_len bytes.
    The projector starts not frozen and with both levels at PJ_VOLUME_FIRST, as one of Class 1 does.
    Refuses with PJ_OUT_OF_RANGE what pj_set_up would, but inputs by the rule above; a serial number, a software version
-   or a name that is out of its range; other than one name an input; lengths that do not add up to names_len. Then,
-   where all of that is in range, a password of 1 to 7 letters and digits with PJ_SHORT_PASSWORD. pj_which_setting_2
-   tells which it was. */
+   or a name that is out of its range; other than one name for each input; lengths that do not add up to names_len. Then
+   with PJ_SHORT_PASSWORD a password of 1 to 7 letters and digits. pj_which_setting_2 returns which setting it was. */
 CEILING_KEEP
 pj_changed pj_set_up_2(const uint8_t *name, size_t name_len, const uint8_t *maker, size_t maker_len,
                        const uint8_t *model, size_t model_len, const uint8_t *other, size_t other_len,
@@ -309,17 +310,17 @@ enum pj_setting {               /* in the order in which pj_set_up and pj_set_up
                                    not add up to names_len */
 };
 
-/* Tells why pj_set_up refuses: of the same settings the first that is out of its range, an enum pj_setting. A password
-   of 1 to 7 letters and digits is in range for that, and is told where nothing else is wrong: PJ_SETTING_PASSWORD where
-   pj_set_up gives PJ_SHORT_PASSWORD. It is PJ_SETTING_NONE exactly where pj_set_up gives PJ_SERVED. It is for Class 1:
-   inputs that pj_set_up_2 alone takes are out of range here. Refuses nothing. */
+/* Returns why pj_set_up refuses the same settings: the first setting that is out of its range, an enum pj_setting. A
+   password of 1 to 7 letters and digits is in range here; it is returned as PJ_SETTING_PASSWORD if nothing else is
+   wrong, where pj_set_up gives PJ_SHORT_PASSWORD. The result is PJ_SETTING_NONE exactly if pj_set_up gives PJ_SERVED.
+   For Class 1: inputs that only pj_set_up_2 takes are out of range here. Refuses nothing. */
 CEILING_KEEP
 uint32_t pj_which_setting(const uint8_t *name, size_t name_len, const uint8_t *maker, size_t maker_len,
                           const uint8_t *model, size_t model_len, const uint8_t *other, size_t other_len,
                           const uint8_t *password, size_t password_len, const uint8_t *inputs, size_t inputs_len,
                           const uint32_t *lamps, size_t lamp_count, uint32_t warm, uint32_t cool);
 
-/* Tells why pj_set_up_2 refuses, as pj_which_setting does of pj_set_up: inputs are in range by the rule of Class 2, and
+/* Returns why pj_set_up_2 refuses, as pj_which_setting does for pj_set_up. Inputs are in range by the rule of Class 2;
    after the cooling come the serial number, the software version and the names, in this order. Refuses nothing. */
 CEILING_KEEP
 uint32_t pj_which_setting_2(const uint8_t *name, size_t name_len, const uint8_t *maker, size_t maker_len,
@@ -329,59 +330,59 @@ uint32_t pj_which_setting_2(const uint8_t *name, size_t name_len, const uint8_t 
                             const uint8_t *serial, size_t serial_len, const uint8_t *version, size_t version_len,
                             const uint8_t *names, size_t names_len, const size_t *name_lengths, size_t name_count);
 
-/* Opens a connection where a controller has connected, at the lowest place that is closed, and tells the place: the
+/* Opens a connection when a controller has connected, at the lowest place that is closed, and returns the place: the
    host names it in every later call for that socket. The reply is the greeting, and the host sends it. The random
-   number has to be unpredictable: draw it anew for each connection from the system's source. Where it can be foreseen,
-   or comes again, a digest that was overheard lets an outsider in. Without a password any number will do; a host that
-   names sessions, below, draws a new one all the same.
-   Refuses with PJ_NOT_LEGAL, PJ_NO_ROOM or PJ_NO_PLACE. */
+   number must be unpredictable: draw it anew for each connection from the system's source. If it can be predicted, or
+   repeats, an overheard digest lets an outsider in. Without a password any number will do; a host that names sessions,
+   below, draws a new one nevertheless.
+   Refuses, in this order, with PJ_NOT_LEGAL, PJ_NO_ROOM, PJ_NO_PLACE. */
 CEILING_KEEP
 pj_opened pj_open(pj_device d, uint32_t random, uint8_t *out, size_t out_len);
 
 /* Closes the connection at a place: the peer has gone, or the host ends it. What was collected of a line is dropped,
-   and the place is free. No other place is touched.
-   Refuses with PJ_NOT_LEGAL, PJ_OUT_OF_RANGE (a place of PJ_PLACES or more) or PJ_NOT_CONNECTED. */
+   and the place is free. No other place changes.
+   Refuses, in this order, with PJ_NOT_LEGAL, PJ_OUT_OF_RANGE (a place of PJ_PLACES or more), PJ_NOT_CONNECTED. */
 CEILING_KEEP
 pj_changed pj_close(pj_device d, size_t place);
 
-/* Hands in bytes from the network at a place, in whatever cuts they come, and serves the line that they end. It takes
-   the bytes up to and including the first CR, or all where there is none: the host sends the reply, if there is one,
-   to that place's peer, and calls again with the rest until all are taken. No other place's connection is touched.
-   Refuses with PJ_NOT_LEGAL, PJ_NO_ROOM, PJ_OUT_OF_RANGE (a place of PJ_PLACES or more) or PJ_NOT_CONNECTED, also where
-   no bytes are handed in. */
+/* Takes bytes from the network at a place, cut in any way, and serves the line that they end. It takes the bytes up to
+   and including the first CR, or all if there is none: the host sends the reply, if there is one, to that place's peer,
+   and calls again with the rest until all are taken. No other place's connection changes.
+   Refuses, in this order, with PJ_NOT_LEGAL, PJ_NO_ROOM, PJ_OUT_OF_RANGE (a place of PJ_PLACES or more),
+   PJ_NOT_CONNECTED, also if there are no bytes. */
 CEILING_KEEP
 pj_received pj_receive(pj_device d, size_t place, const uint8_t *bytes, size_t len, uint8_t *out, size_t out_len);
 
 /* Lets seconds pass, any number at once, for the projector and each of its places: enabled lamps burn, warm-up and
    cooling end, and a connection that is awaiting or failed is closed when its age reaches PJ_WAIT_MOST seconds. Nothing
-   is sent for that: where connections[place].phase is PJ_PHASE_CLOSED afterwards, the host closes that place's socket.
-   An open connection never times out, so an idle peer holds its place until the host calls pj_close. Count the seconds
-   by a clock that nobody sets (CLOCK_MONOTONIC), and keep what is left of a second for the next call.
+   is sent for that: if connections[place].phase is PJ_PHASE_CLOSED afterwards, the host closes that place's socket. An
+   open connection never times out, so an idle peer keeps its place until the host calls pj_close. Count the seconds by
+   a clock that nobody sets (CLOCK_MONOTONIC), and keep the rest of a second for the next call.
    Refuses with PJ_NOT_LEGAL. */
 CEILING_KEEP
 pj_changed pj_pass(pj_device d, uint32_t seconds);
 
-/* Replaces the fault mark, and nothing else: with it POWR, INPT and AVMT answer ERR4, and in Class 2 FREZ, SVOL and
-   MVOL too. Refuses with PJ_NOT_LEGAL. */
+/* Sets or clears the fault mark, and changes nothing else: with it POWR, INPT and AVMT answer ERR4, and in Class 2
+   FREZ, SVOL and MVOL too. Refuses with PJ_NOT_LEGAL. */
 CEILING_KEEP
 pj_changed pj_set_fault(pj_device d, bool mark);
 
-/* Replaces the six error digits that ERST answers, and nothing else: fan, lamp, temperature, cover, filter, other. A
-   digit is a number, 0 (none or not known), 1 (warning) or 2 (error), and not a character: 1, not '1'. (The inputs
-   of pj_set_up are characters.)
-   Refuses with PJ_NOT_LEGAL, then with PJ_OUT_OF_RANGE another count than PJ_ERRORS or a digit over 2. */
+/* Sets the six error digits that ERST answers, and changes nothing else: fan, lamp, temperature, cover, filter, other.
+   A digit is a number, 0 (none or not known), 1 (warning) or 2 (error), and not a character: 1, not '1'. (The inputs of
+   pj_set_up are characters.)
+   Refuses, in this order, with PJ_NOT_LEGAL, PJ_OUT_OF_RANGE (a count other than PJ_ERRORS, or a digit over 2). */
 CEILING_KEEP
 pj_changed pj_set_errors(pj_device d, const uint8_t *digits, size_t count);
 
-/* Sets or clears a lamp's mark, and nothing else: lamps are numbered from 0. In warm-up and power-on only a lamp with
-   its mark gains seconds and shows as lit. Setting a mark that is set, or clearing one that is clear, is served and
-   changes nothing.
-   Refuses with PJ_NOT_LEGAL, then with PJ_OUT_OF_RANGE a lamp that there is not and clearing the last mark that is
-   set, then with PJ_NOT_OFF where the power is not off: in warm-up, power-on and cooling. */
+/* Sets or clears a lamp's mark, and changes nothing else. Lamps are numbered from 0. In warm-up and power-on only a
+   lamp with its mark gains seconds and shows as lit. Setting a mark that is set, or clearing one that is clear, is
+   served and changes nothing.
+   Refuses, in this order, with PJ_NOT_LEGAL, PJ_OUT_OF_RANGE (a lamp that does not exist, or clearing the last mark
+   that is set), PJ_NOT_OFF (the power is not off: in warm-up, power-on and cooling). */
 CEILING_KEEP
 pj_changed pj_set_mark(pj_device d, size_t lamp, bool enabled);
 
-/* Tells whether the record is one that the other calls serve. Every record that a call gave with PJ_SERVED is; this
+/* Returns whether the record is one that the other calls serve. Every record that a call gave with PJ_SERVED is; this
    is for one that was stored elsewhere, and may have been damaged. Refuses nothing. */
 CEILING_KEEP
 bool pj_legal(pj_device d);
@@ -390,35 +391,36 @@ bool pj_legal(pj_device d);
    then eight sections, each after its count in one byte: name, maker, model, other information and password (count of
    bytes), inputs (count of inputs, two ASCII characters each), lamps (count of lamps, the seconds of each as four
    bytes), marks (count of lamps again, 0 or 1 for each as one byte); then warm-up and cooling as two bytes each; then
-   the class as one byte, 1 or 2. In Class 1 that is the last, and so is a byte that is no class. In Class 2 the serial
-   number, the software version and a name for each of the inputs follow, each text after its count of bytes in one
-   byte; the names themselves are not counted again. Every number has its highest byte first. One set-up with its marks
-   has one form. Version 2 ends with the cooling, and version 1 is as version 2 without the marks: both are read still,
-   as Class 1, and not written any more. */
+   the class as one byte, 1 or 2. In Class 1 this byte is the last, and so is a byte that is no class. In Class 2 the
+   serial number, the software version and a name for each of the inputs follow, each text after its count of bytes in
+   one byte; the names themselves are not counted again. Every number has its highest byte first. One set-up with its
+   marks has one form. Version 2 ends with the cooling, and version 1 is as version 2 without the marks: both are still
+   read, as Class 1, and no longer written. */
 
 typedef struct {
     uint32_t number;
     size_t length;                          /* of what was written: of a line with its CR */
 } pj_written;
 
-/* Writes the stored form of the record, of version 3, to the start of the lent memory: its settings, and each lamp's
-   seconds and mark as they are now. Power, mutes, freeze, levels, faults and connections are not stored. Store at every
-   stop, and as often as own.lamps would be saved. The form holds the password in clear: keep it as you keep a key. It
-   has no checksum: keep its MD5 beside it.
-   Refuses with PJ_NOT_LEGAL, then with PJ_NO_ROOM memory shorter than this form; PJ_FORM_MOST bytes always suffice. */
+/* Writes the stored form of the record, of version 3, to the start of `out`: its settings, and each lamp's seconds and
+   mark as they are now. Power, mutes, freeze, levels, faults and connections are not stored. Store at every stop, and
+   as often as own.lamps would be saved. The form holds the password in clear: protect it like a key. It has no
+   checksum: keep its MD5 with it.
+   Refuses, in this order, with PJ_NOT_LEGAL, PJ_NO_ROOM (memory shorter than this form; PJ_FORM_MOST bytes are always
+   enough). */
 CEILING_KEEP
 pj_written pj_store(pj_device d, uint8_t *out, size_t out_len);
 
-/* Makes the record of the projector whose stored form is lent: pj_set_up, or in Class 2 pj_set_up_2, with the settings
-   and the lamps' seconds in it, so off, with every place closed; the marks are the form's, and all set where it is of
-   version 1. Versions 1 and 2 are of Class 1. The bytes are the form's, all of them and no others.
-   Refuses with PJ_OTHER_VERSION, PJ_CUT_SHORT, PJ_LEFT_OVER or PJ_CONTENTS. */
+/* Makes the record of the projector of a stored form: pj_set_up, or in Class 2 pj_set_up_2, with the settings and the
+   lamps' seconds in it, so off, with every place closed. The marks are the form's; with version 1 all are set. Versions
+   1 and 2 are of Class 1. The bytes are the whole form and nothing else.
+   Refuses, in this order, with PJ_OTHER_VERSION, PJ_CUT_SHORT, PJ_LEFT_OVER, PJ_CONTENTS. */
 CEILING_KEEP
 pj_changed pj_load(const uint8_t *bytes, size_t len);
 
-/* The same calls on a record that is lent: each refuses as its like by value, with the same number, and serves as it
-   does; the record changes where it lies. A call that is refused leaves it as it was, but for set-up and loading, which
-   fill it, and leave the blank record there. A host's own calls are these. */
+/* The same calls in place. Each refuses as the call by value does, with the same number, and serves as it does; the
+   record changes in place. A call that is refused leaves the record as it was, except set-up and loading, which fill it
+   with the blank record. A host uses these calls. */
 
 typedef struct {
     uint32_t number;
@@ -484,22 +486,21 @@ CEILING_KEEP
 uint32_t pj_set_mark_in_place(pj_device *d, size_t lamp, bool enabled);
 
 /* Sessions: calls for a host with sockets. A connection is named by its place and the random number with which pj_open
-   opened it, and the host keeps both beside the socket. A place is closed by time, or by pj_close, and opened again:
-   bytes that come late, of the socket that stood there before, would be served as the new connection's, past its
-   password. With the number they are refused, and nothing changes. Sessions are told apart by their numbers alone: draw
-   a new one for each connection, without a password too. These calls have no like by value: the record of such a host
-   lies in one place. */
+   opened it, and the host keeps both with the socket. A place is closed by time, or by pj_close, and opened again. Late
+   bytes of the old socket of that place would then be served as the new connection's, past its password. With the
+   number they are refused, and nothing changes. Sessions differ by their numbers alone: draw a new one for each
+   connection, without a password too. These calls have no form by value: the record of such a host is in one place. */
 
 /* pj_receive, for the connection at that place which was opened with that random number.
-   Refuses with PJ_NOT_LEGAL, PJ_NO_ROOM, PJ_OUT_OF_RANGE (a place of PJ_PLACES or more) or PJ_NOT_CONNECTED (the
-   connection there is closed, or was opened with another number), also where no bytes are handed in. */
+   Refuses, in this order, with PJ_NOT_LEGAL, PJ_NO_ROOM, PJ_OUT_OF_RANGE (a place of PJ_PLACES or more),
+   PJ_NOT_CONNECTED (the connection there is closed, or was opened with another number), also if there are no bytes. */
 CEILING_KEEP
 pj_receiving pj_receive_session_in_place(pj_device *d, size_t place, uint32_t random, const uint8_t *bytes, size_t len,
                                          uint8_t *out, size_t out_len);
 
 /* pj_close, for the connection at that place which was opened with that random number: closing an old socket leaves the
    connection that took its place.
-   Refuses with PJ_NOT_LEGAL, PJ_OUT_OF_RANGE or PJ_NOT_CONNECTED, as above. */
+   Refuses, in this order, with PJ_NOT_LEGAL, PJ_OUT_OF_RANGE, PJ_NOT_CONNECTED, as above. */
 CEILING_KEEP
 uint32_t pj_close_session_in_place(pj_device *d, size_t place, uint32_t random);
 
@@ -508,26 +509,26 @@ typedef struct {
     uint32_t closed;                        /* bit p, 1 << p: time closed the connection at place p. 0 with a refusal */
 } pj_passing;
 
-/* pj_pass, which also tells the places whose connection it closed: the host closes their sockets, before it opens
+/* pj_pass, which also returns the places whose connection it closed: the host closes their sockets before it opens
    another connection.
    Refuses with PJ_NOT_LEGAL. */
 CEILING_KEEP
 pj_passing pj_pass_telling_in_place(pj_device *d, uint32_t seconds);
 
-/* The recorded log: the history of a board as lines of text, from which the record is made again, to the second, and the
-   programs `replay` and `burnt` tell of it (RULES, History of a board). The host records every call that can change the
-   record, at whatever place, once it is served: each call below writes the line that says it, and the host appends
-   these bytes to the log's file, before it sends the reply. A refused call is not recorded. docs/LINKING.md has the
-   recipe, "A recorded log".
+/* The recorded log: the history of a board as lines of text. From it the record is made again, to the second, and the
+   programs `replay` and `burnt` report on it (RULES, History of a board). The host records every call that can change
+   the record, at any place, once it is served: each call below writes its line, and the host appends these bytes to the
+   log's file before it sends the reply. A refused call is not recorded. docs/LINKING.md has the recipe, "A recorded
+   log".
 
    A log begins where a board begins, at a set-up or a load, and belongs to the stored form of that record, as pj_store
    writes it then. It is one file or several in a chain; the first line of each is its header (pj_log_file).
 
-   What a host keeps from line to line is pj_log. It may have any numbers; those of a log that goes on after a loss of
-   power come from its files, by pj_log_play. The calls change it where it lies, with PJ_SERVED alone.
+   A host keeps a pj_log from line to line. It may have any numbers; those of a log that continues after a loss of power
+   come from its files, by pj_log_play. The calls change it in place, and only with PJ_SERVED.
 
-   Bytes are logged as they came, digests among them: a log is to be kept like the stored form, which has the password
-   in clear. */
+   Bytes are logged as they came, digests among them: protect a log like the stored form, which has the password in
+   clear. */
 
 typedef struct {
     uint32_t file;                          /* number of the file in the chain, from 1; 0 before the first header */
@@ -535,75 +536,77 @@ typedef struct {
     uint32_t sum;                           /* CRC-32, as zlib has it, of the stored form and of every line so far */
 } pj_log;
 
-/* What is kept before the first file of a log, of the stored form to which it belongs. Refuses nothing. */
+/* Returns the pj_log before the first file of a log, for the stored form to which the log belongs. Refuses nothing. */
 CEILING_KEEP
 pj_log pj_log_begun(const uint8_t *form, size_t form_len);
 
-/* Writes a line to the start of the lent memory, its LF included; the length is that of the line. What the line says
-   was asked of no record: it is what the host hands in.
-   Each refuses first with PJ_NO_ROOM memory under PJ_LOG_ROOM bytes, then with PJ_OUT_OF_RANGE what it says itself, and
-   all but pj_log_file a log without a header (file 0) and one more line than a file can count, 4,294,967,295. */
+/* Each of these writes a line to the start of `out`, its LF included; the length is that of the line. The line is not
+   compared with any record: it is what the host passes.
+   Each refuses first with PJ_NO_ROOM if `out` is under PJ_LOG_ROOM bytes; then with PJ_OUT_OF_RANGE for what it says
+   itself, and all but pj_log_file for a log without a header (file 0) and for one more line than a file can count,
+   4,294,967,295. */
 
-/* The header of the next file: its number, the sum of all that came before, and when it was begun, as the host tells it
-   (RFC 3339 is meant: 2026-11-27T05:45:09Z); time_len 0 is none. It is the first line of each file, of the first one
-   right after pj_log_begun.
-   Refuses with PJ_NO_ROOM, then with PJ_OUT_OF_RANGE a time that is not 0 to 35 characters '!' to '~', and one more file
-   than a chain can count, 4,294,967,295. */
+/* Writes the header of the next file: its number, the sum of everything before, and when it was begun, as the host says
+   (RFC 3339 is meant: 2026-11-27T05:45:09Z); time_len 0 is no time. It is the first line of each file, for the first
+   file right after pj_log_begun.
+   Refuses, in this order, with PJ_NO_ROOM, PJ_OUT_OF_RANGE (a time that is not 0 to 35 characters '!' to '~', or one
+   more file than a chain can count, 4,294,967,295). */
 CEILING_KEEP
 pj_written pj_log_file(pj_log *log, const uint8_t *time, size_t time_len, uint8_t *out, size_t out_len);
 
-/* pj_open was served with this random number, and gave this place. Out of range is a place of PJ_PLACES or more. */
+/* Records that pj_open was served with this random number, and gave this place. Out of range is a place of PJ_PLACES or
+   more. */
 CEILING_KEEP
 pj_written pj_log_opened(pj_log *log, size_t place, uint32_t random, uint8_t *out, size_t out_len);
 
-/* pj_receive was served at this place, and took these bytes: the first `taken` of those handed in. Out of range is a
-   place of PJ_PLACES or more, and more than PJ_LOG_BYTES bytes: a host hands at most so many to one pj_receive, which
-   gives the same. */
+/* Records that pj_receive was served at this place, and took these bytes: the first `taken` of those passed. Out of
+   range is a place of PJ_PLACES or more, and more than PJ_LOG_BYTES bytes: a host passes at most so many to one
+   pj_receive, which gives the same. */
 CEILING_KEEP
 pj_written pj_log_received(pj_log *log, size_t place, const uint8_t *bytes, size_t len, uint8_t *out, size_t out_len);
 
-/* pj_pass was served with so many seconds. Those of several calls one after the other may be added up in one line, which
-   comes before the line of any other call and before a stated line. */
+/* Records that pj_pass was served with so many seconds. Those of several successive calls may be added up in one line,
+   which comes before the line of any other call and before a stated line. */
 CEILING_KEEP
 pj_written pj_log_passed(pj_log *log, uint32_t seconds, uint8_t *out, size_t out_len);
 
-/* pj_close was served at this place. A connection that time closed is not recorded: it closes again as time passes. Out
-   of range is a place of PJ_PLACES or more. */
+/* Records that pj_close was served at this place. A connection that time closed is not recorded: it closes again as
+   time passes. Out of range is a place of PJ_PLACES or more. */
 CEILING_KEEP
 pj_written pj_log_closed(pj_log *log, size_t place, uint8_t *out, size_t out_len);
 
-/* pj_set_fault was served with this mark. */
+/* Records that pj_set_fault was served with this mark. */
 CEILING_KEEP
 pj_written pj_log_fault(pj_log *log, bool mark, uint8_t *out, size_t out_len);
 
-/* pj_set_errors was served with these digits, numbers and not characters. Out of range is another count than PJ_ERRORS,
-   and a digit over 2. */
+/* Records that pj_set_errors was served with these digits, numbers and not characters. Out of range is a count other
+   than PJ_ERRORS, and a digit over 2. */
 CEILING_KEEP
 pj_written pj_log_errors(pj_log *log, const uint8_t *digits, size_t count, uint8_t *out, size_t out_len);
 
-/* pj_set_mark was served with this lamp, from 0, and this mark. (In the line lamps count from 1.) Out of range is a lamp
-   of PJ_LAMPS_MOST or more. */
+/* Records that pj_set_mark was served with this lamp, from 0, and this mark. (In the line lamps count from 1.) Out of
+   range is a lamp of PJ_LAMPS_MOST or more. */
 CEILING_KEEP
 pj_written pj_log_mark(pj_log *log, size_t lamp, bool enabled, uint8_t *out, size_t out_len);
 
-/* A stated line: how many lines came since the header, the sum of all before it, and the power and the seconds of each
-   lamp of the record, which is only read. Who plays the log compares it: a line that was lost, doubled or changed before
-   it is noticed there. State at midnight, say, and as the last line before a new file.
-   Refuses with PJ_NOT_LEGAL, then as above; nothing else is out of range. */
+/* Writes a stated line: how many lines came since the header, the sum of all before it, and the power and the seconds
+   of each lamp of the record, which is only read. A player of the log compares it, and so detects a line that was lost,
+   doubled or changed before it. State at midnight, say, and as the last line before a new file.
+   Refuses first with PJ_NOT_LEGAL, then as above; nothing else is out of range. */
 CEILING_KEEP
 pj_written pj_log_stated(pj_log *log, const pj_device *d, uint8_t *out, size_t out_len);
 
-/* Plays one line of a log, which is lent without its LF: the call that it says is made on the record again, and *log goes
-   on past the line. So a board starts again after a loss of power: from pj_load of the form and pj_log_begun of its
-   bytes, line by line through the files in their order, with what stands behind the last LF of the last file cut off.
-   The length is that of the reply, which fills the start of the reply memory and has been sent; it is 0 where none is
-   due, and for headers and stated lines, which are compared and change no record. Then every place that is not closed
-   has lost its socket: close it by pj_close, and record that.
-   Refuses with PJ_NOT_LEGAL; with PJ_NO_ROOM reply memory under PJ_REPLY_ROOM bytes; with PJ_OUT_OF_RANGE what is no line
-   of a log, also over 4,096 bytes, a header that has not the next number and the sum, any other line before the first
-   header, and a stated line with another count, sum, power or seconds; then as the call that the line says; then with
-   PJ_OUT_OF_RANGE an opening that would get another place than its line says. With any of these record, *log and reply
-   memory stay as they were, and the log does not belong to the form, or was damaged, from this line on. */
+/* Plays one line of a log, without its LF: makes its call on the record again, and counts the line in *log. So a board
+   starts again after a loss of power: from pj_load of the form and pj_log_begun of its bytes, line by line through the
+   files in their order, without what follows the last LF of the last file. The length is that of the reply, which fills
+   the start of the reply memory and has been sent. It is 0 if none is due, and for headers and stated lines, which are
+   compared and change no record. Afterwards every place that is not closed has lost its socket: close it by pj_close,
+   and record that.
+   Refuses, in this order, with PJ_NOT_LEGAL; PJ_NO_ROOM (reply memory under PJ_REPLY_ROOM bytes); PJ_OUT_OF_RANGE (what
+   is no line of a log, also over 4,096 bytes; a header that has not the next number and the sum; any other line before
+   the first header; a stated line with another count, sum, power or seconds); the number of the line's call;
+   PJ_OUT_OF_RANGE (an opening that would get another place than its line says). With any of these the record, *log and
+   reply memory stay as they were, and the log does not belong to the form, or was damaged, from this line on. */
 CEILING_KEEP
 pj_written pj_log_play(pj_log *log, pj_device *d, const uint8_t *line, size_t line_len, uint8_t *reply, size_t reply_len);
 
@@ -613,7 +616,7 @@ typedef struct {
     uint8_t bytes[16];
 } pj_digest;
 
-/* Computes the MD5 of RFC 1321 over any bytes. The other calls do so by themselves. Refuses nothing. */
+/* Returns the MD5 of RFC 1321 of any bytes. The other calls compute their digests themselves. Refuses nothing. */
 CEILING_KEEP
 pj_digest pj_md5(const uint8_t *bytes, size_t len);
 
@@ -651,15 +654,15 @@ typedef struct {                            /* numbers, not characters; what a c
     uint8_t code, first, second;
 } pj_command;
 
-/* Writes the command's line, to be sent to a projector. Where `secured`, the line is led by the digest of the random
-   number and the password; otherwise neither of the two is looked at. `secured` is for the first command of a
-   connection whose greeting was PJ_GREETING_SECURED, with the random number of that greeting, and for no later one:
-   PJLink 1.04, 5.3 says that a digest before later commands does no harm, but by the rule on the form of a line
-   the projector swallows such a line, and no reply comes (RULES, Connection).
+/* Writes the command's line, to be sent to a projector. If `secured`, the digest of the random number and the password
+   leads the line; otherwise the two are ignored. `secured` is for the first command of a connection whose greeting was
+   PJ_GREETING_SECURED, with the random number of that greeting, and for no later one: PJLink 1.04, 5.3 says that a
+   digest before later commands does no harm, but by the rule on the form of a line the projector discards such a line,
+   and no reply comes (RULES, Connection).
    The writer does not know the projector's class: an input of type 6 or with a letter is written under `%1` too, and a
    projector that does not list it answers ERR2. PJ_CLSS asks for the class.
-   Refuses with PJ_NO_ROOM, then with PJ_OUT_OF_RANGE what is no command and, where `secured`, a password that is not
-   0 to PJ_PASSWORD_MOST letters and digits; 1 to 7 are taken, since other projectors may have such a password. */
+   Refuses, in this order, with PJ_NO_ROOM, PJ_OUT_OF_RANGE (what is no command and, if `secured`, a password that is
+   not 0 to PJ_PASSWORD_MOST letters and digits; 1 to 7 are taken, since other projectors may have such a password). */
 CEILING_KEEP
 pj_written pj_write(pj_command c, bool secured, uint32_t random, const uint8_t *password, size_t password_len,
                     uint8_t *out, size_t out_len);
@@ -677,8 +680,8 @@ typedef struct {
     uint32_t random;
 } pj_greeting;
 
-/* Reads the line that a projector sends when it is connected to. The host collects bytes up to and including the CR,
-   as for a reply.
+/* Reads the line that a projector sends to a new connection. The host collects bytes up to and including the CR, as for
+   a reply.
    Refuses what is no greeting with PJ_NOT_A_LINE. */
 CEILING_KEEP
 pj_greeting pj_read_greeting(const uint8_t *line, size_t len);
@@ -709,21 +712,21 @@ typedef struct {                            /* what a kind does not use is zero 
     uint8_t text[PJ_NAME_ROOM];
 } pj_reading;
 
-/* Reads what the reply to a command says. The host collects bytes up to and including the CR and lends them with the
-   command that it sent. PJ_REPLY_ROOM bytes are enough: a reply that has no CR by then is none, and may be given up.
-   A lamp's hours are read in one to five digits, zeros in front included, as other makers' projectors write them.
-   A reply begins with the command's own class, `%1` or `%2`, or it is PJ_NOT_A_LINE. The projector's class is not known
-   here: an input of type 6 or with a letter is read under `%1` too, and CLSS as 1 or 2. ERR2 is allowed where a command
-   sets something, and to PJ_INNM, since a projector may say it of an input that it does not have.
-   Refuses what is no command with PJ_OUT_OF_RANGE, then the line with PJ_NOT_A_LINE, PJ_OTHER_COMMAND or
-   PJ_NOT_ALLOWED. */
+/* Reads the reply to a command. The host collects bytes up to and including the CR and passes them with the command
+   that it sent. PJ_REPLY_ROOM bytes are enough: a reply that has no CR by then is no reply, and may be given up.
+   A lamp's hours are read in one to five digits, leading zeros included, as other makers' projectors write them. A
+   reply begins with the command's own class, `%1` or `%2`, or it is PJ_NOT_A_LINE. The projector's class is not known
+   here: an input of type 6 or with a letter is read under `%1` too, and CLSS as 1 or 2. ERR2 is allowed for a command
+   that sets something, and for PJ_INNM, since a projector may answer it for an input that it does not have.
+   Refuses, in this order, with PJ_OUT_OF_RANGE (what is no command), PJ_NOT_A_LINE, PJ_OTHER_COMMAND, PJ_NOT_ALLOWED.
+   */
 CEILING_KEEP
 pj_reading pj_read_reply(pj_command c, const uint8_t *line, size_t len);
 
 /* The workroom panel. It drives up to PJ_PANEL_MOST projectors, each over a connection of its own that the host makes:
-   the host collects each line to its CR and hands it in with the number of the projector that it came from, from 0 in
-   the order in which they were added. The panel keeps a record, pj_panel, as the projector keeps pj_device: a host's own
-   calls are those `.._in_place`, and from one by value it stores what comes back over the panel it had.
+   the host collects each line to its CR and passes it with the number of the projector that it came from, from 0 in the
+   order in which they were added. The panel is a record, pj_panel, as the projector is pj_device: a host uses the calls
+   `.._in_place`, and after one by value it stores the result over the panel it had.
 
    The panel writes commands and reads lines as pj_write, pj_read_greeting and pj_read_reply do. One command is under
    way at a time for each projector. A line that is late, foreign or malformed is a stray: it is counted, and changes
@@ -731,9 +734,9 @@ pj_reading pj_read_reply(pj_command c, const uint8_t *line, size_t len);
 
    A command that gets no reply blocks its projector's entry: every other command is refused with PJ_NOT_READY until the
    host closes the connection, calls pj_panel_lost_in_place, and connects again. No call of a panel counts time, so the
-   host does; the specification has no reply come later than 30 seconds. A projector of Class 1 gives no reply to a
+   host does; by the specification no reply comes later than 30 seconds. A projector of Class 1 gives no reply to a
    command of Class 2 (PJ_FREZ_ASK and after). So ask PJ_CLSS first, once in each connection, and send such a command
-   only where the reading was class 2. */
+   only if the reading was class 2. */
 
 enum pj_awaited {                           /* the greeting that a projector has sent */
     PJ_AWAITED_GREETING = 0,                /* none yet: a greeting is awaited, and any other line is malformed */
@@ -778,42 +781,44 @@ CEILING_KEEP
 pj_panel_changed pj_panel_none(void);
 
 /* Adds a projector, the last so far: its greeting is awaited, nothing of it is known, and it has no strays. The
-   password is the one that the projector was set up with, of length 0 where it has none; short ones are taken too.
-   Refuses with PJ_NOT_LEGAL, then with PJ_OUT_OF_RANGE a password that is not 0 to PJ_PASSWORD_MOST ASCII letters and
-   digits, and a projector more than PJ_PANEL_MOST. */
+   password is the one that the projector was set up with, of length 0 if it has none; short ones are taken too.
+   Refuses, in this order, with PJ_NOT_LEGAL, PJ_OUT_OF_RANGE (a password that is not 0 to PJ_PASSWORD_MOST ASCII
+   letters and digits, or a projector more than PJ_PANEL_MOST). */
 CEILING_KEEP
 pj_panel_changed pj_panel_add(pj_panel p, const uint8_t *password, size_t password_len);
 
-/* Writes the command's line, to be sent to the projector; the command is then under way. The line of the first command
-   after a greeting that is PJ_AWAITED_SECURED is led by the digest of that greeting's random number and the
-   projector's password, and no later one is.
-   Refuses with PJ_NOT_LEGAL, PJ_NO_ROOM (under PJ_COMMAND_ROOM bytes), with PJ_OUT_OF_RANGE a projector that there is
-   not or what is no command, and with PJ_NOT_READY a command before the greeting, or while another is under way. */
+/* Writes the command's line, to be sent to the projector; the command is then under way. The digest of the greeting's
+   random number and the projector's password leads the first command after a greeting that is PJ_AWAITED_SECURED, and
+   no later one.
+   Refuses, in this order, with PJ_NOT_LEGAL, PJ_NO_ROOM (under PJ_COMMAND_ROOM bytes), PJ_OUT_OF_RANGE (a projector
+   that does not exist, or what is no command), PJ_NOT_READY (a command before the greeting, or while another is under
+   way). */
 CEILING_KEEP
 pj_panel_sent pj_panel_command(pj_panel p, size_t projector, pj_command c, uint8_t *out, size_t out_len);
 
 /* Takes a line that came from the projector, with its CR.
-   - Until its greeting: pj_read_greeting is asked. PJLINK 0 and PJLINK 1 are the greeting; any other line, PJLINK ERRA
-     too, is malformed.
-   - With no command under way: the line is late, whatever it is.
-   - With one: pj_read_reply is asked. A line that it refuses with PJ_NOT_A_LINE or PJ_NOT_ALLOWED is malformed (a
-     second greeting is), one with PJ_OTHER_COMMAND foreign; the command stays under way. PJLINK ERRA ends it, makes
-     power, input and lamps unknown, and a new greeting is awaited. Any other reply ends it: the power, the input (under
-     `%1` or `%2`) or the lamps that it tells are now known and shown, and a reply that tells none of them (OK, ERR1 to
-     ERR4) changes none. To a command of Class 2 a projector of Class 1 gives no reply: it stays under way until
-     pj_panel_lost (above).
-   Refuses with PJ_NOT_LEGAL, then with PJ_OUT_OF_RANGE a projector that there is not. A stray is not refused. */
+   - Until its greeting the line is read by pj_read_greeting. PJLINK 0 and PJLINK 1 are the greeting; any other line,
+     PJLINK ERRA too, is malformed.
+   - With no command under way any line is late.
+   - With one the line is read by pj_read_reply. A line that it refuses with PJ_NOT_A_LINE or PJ_NOT_ALLOWED is
+     malformed (a second greeting is), one with PJ_OTHER_COMMAND foreign; the command stays under way. PJLINK ERRA ends
+     it, makes power, input and lamps unknown, and a new greeting is awaited. Any other reply ends it: its power, its
+     input (under `%1` or `%2`) or its lamps are now known and shown; a reply with none of them (OK, ERR1 to ERR4)
+     changes none. A Class 1 projector gives no reply to a command of Class 2: it stays under way until pj_panel_lost
+     (above).
+   Refuses, in this order, with PJ_NOT_LEGAL, PJ_OUT_OF_RANGE (a projector that does not exist). A stray is not refused.
+   */
 CEILING_KEEP
 pj_panel_changed pj_panel_line(pj_panel p, size_t projector, const uint8_t *line, size_t len);
 
-/* Tells the panel that the connection to the projector is gone: a command under way ends, and a new greeting is
+/* Reports to the panel that the connection to the projector is gone: a command under way ends, and a new greeting is
    awaited. What is known of power, input and lamps stays, and so does the count of strays.
-   Refuses with PJ_NOT_LEGAL, then with PJ_OUT_OF_RANGE a projector that there is not. */
+   Refuses, in this order, with PJ_NOT_LEGAL, PJ_OUT_OF_RANGE (a projector that does not exist). */
 CEILING_KEEP
 pj_panel_changed pj_panel_lost(pj_panel p, size_t projector);
 
-/* The same calls on a panel that is lent: each refuses as its like by value, with the same number, and serves as it
-   does; the panel changes where it lies, and a refused call leaves it as it was. */
+/* The same calls in place. Each refuses as the call by value does, with the same number, and serves as it does; the
+   panel changes in place, and a refused call leaves it as it was. */
 
 /* pj_panel_none, into *p. */
 CEILING_KEEP
@@ -827,7 +832,7 @@ uint32_t pj_panel_add_in_place(pj_panel *p, const uint8_t *password, size_t pass
 CEILING_KEEP
 pj_written pj_panel_command_in_place(pj_panel *p, size_t projector, pj_command c, uint8_t *out, size_t out_len);
 
-/* pj_panel_line, for a host that does not ask what the line was. */
+/* pj_panel_line, for a host that does not need to know what the line was. */
 CEILING_KEEP
 uint32_t pj_panel_line_in_place(pj_panel *p, size_t projector, const uint8_t *line, size_t len);
 
@@ -852,8 +857,8 @@ typedef struct {
                                                greeting was awaited */
 } pj_heard;
 
-/* pj_panel_line, which also tells what the line was and what it says. The panel changes as it does by pj_panel_line: what
-   was told is kept nowhere, so a host that shows an error or a wrong password notes it itself. */
+/* pj_panel_line, which also returns what the line was and its reading. The panel changes as by pj_panel_line, and does
+   not keep what was returned: a host that shows an error or a wrong password keeps it itself. */
 CEILING_KEEP
 pj_heard pj_panel_hear_in_place(pj_panel *p, size_t projector, const uint8_t *line, size_t len);
 
@@ -869,21 +874,21 @@ typedef struct {
     size_t place;                           /* of the first such lamp; 0 where there is none */
 } pj_compared;
 
-/* Compares two months' tables of lamp seconds: writes the later minus the earlier for each place into the result
-   list `out`, whose places past the tables stay as they were, and tells the first lamp that went backwards, as one
-   does that was exchanged.
-   Refuses with PJ_OUT_OF_RANGE tables of unequal length or over PJ_TABLE_MOST places, and fewer places in `out`. */
+/* Compares two months' tables of lamp seconds: writes the later minus the earlier for each place to the start of the
+   result list `out`, whose later places stay as they were, and returns the first lamp that went backwards, as a
+   replaced lamp does.
+   Refuses with PJ_OUT_OF_RANGE (tables of unequal length or over PJ_TABLE_MOST places, or fewer places in `out`). */
 CEILING_KEEP
 pj_compared pj_compare_lamps(const uint32_t *earlier, size_t earlier_count, const uint32_t *later, size_t later_count,
                              int64_t *out, size_t out_count);
 
 /* A cutting day. Jobs and rigs come as lists of numbers, one list for each field, in the order of the jobs or of the
-   rigs; jobs and rigs are numbered from 0. A job has a start and a length in seconds, and the rigs that it may use:
-   bit k of its byte for rig k. A rig has warm-up, cooling and seconds of lamp life left. On its rig a job occupies
-   the warm-up before its start, its length, and the cooling after it; it burns the warm-up and its length.
+   rigs; jobs and rigs are numbered from 0. A job has a start and a length in seconds, and the rigs that it may use: bit
+   k of its byte for rig k. A rig has warm-up, cooling and seconds of lamp life left. On its rig a job occupies the
+   warm-up before its start, its length, and the cooling after it; it burns the warm-up and its length.
 
-   Both calls refuse with PJ_OUT_OF_RANGE: over PJ_JOBS_MOST jobs or PJ_RIGS_MOST rigs, lists of the jobs or of the
-   rigs that are not of one length, other than one rig a job, a length under 1, an end over PJ_DAY_SECONDS, a warm-up
+   Both calls refuse with PJ_OUT_OF_RANGE: over PJ_JOBS_MOST jobs or PJ_RIGS_MOST rigs, lists of the jobs or of the rigs
+   that are not of one length, other than one rig for each job, a length under 1, an end over PJ_DAY_SECONDS, a warm-up
    or cooling that is not 1 to PJ_WARM_COOL_MOST; and the planner a result list shorter than the jobs. */
 
 enum pj_rule {                              /* the first rule that is broken, in this order */
@@ -900,7 +905,7 @@ typedef struct {
     size_t first, second;                   /* the lowest concerned; what a rule does not use is 0 */
 } pj_verdict;
 
-/* Checks a day for which each job has a rig, and names the first rule that is broken with the lowest job or rig
+/* Checks a day for which each job has a rig, and returns the first rule that is broken with the lowest job or rig
    concerned. Refuses as above. */
 CEILING_KEEP
 pj_verdict pj_check_day(const uint32_t *starts, size_t starts_len, const uint32_t *lengths, size_t lengths_len,
@@ -915,19 +920,19 @@ typedef struct {
     size_t job;                             /* else the first that finds none */
 } pj_plan;
 
-/* Plans a day: gives each job, in the order of the list, the lowest rig that keeps every rule with the jobs before
-   it, and writes the rigs to the start of the result list `out`. Where some job finds none, `out` stays as it was.
-   Refuses as above. */
+/* Plans a day: gives each job, in the order of the list, the lowest rig that keeps every rule with the jobs before it,
+   and writes the rigs to the start of the result list `out`. If some job finds none, `out` stays as it was. Refuses as
+   above. */
 CEILING_KEEP
 pj_plan pj_plan_day(const uint32_t *starts, size_t starts_len, const uint32_t *lengths, size_t lengths_len,
                     const uint8_t *allowed, size_t allowed_len, const uint32_t *warm, size_t warm_len,
                     const uint32_t *cool, size_t cool_len, const uint32_t *life, size_t life_len,
                     uint8_t *out, size_t out_len);
 
-/* What is told to a person, in English: a few words of printable ASCII with no full stop, the same that the programs
-   `replay` and `burnt` print. They lie in the archive, for as long as the program runs, and a NUL ends them. A host calls
-   pj_number_text, pj_setting_text and pj_face_text, which the header makes of the three calls of the archive; those fill
-   a pj_bytes that has to be one already, with NULL in it never, by the text and its length with the NUL. */
+/* Texts for people, in English: a few words of printable ASCII with no full stop, the same that the programs `replay`
+   and `burnt` print. They are in the archive, valid as long as the program runs, and a NUL ends each. A host calls
+   pj_number_text, pj_setting_text and pj_face_text, which the header makes of the three calls of the archive. Those
+   overwrite a pj_bytes, which must be initialized and never contain NULL, with the text and its length with the NUL. */
 
 typedef struct {                            /* bytes that someone else keeps, and their count */
     const uint8_t *bytes;
@@ -938,8 +943,8 @@ void pj_number_words(uint32_t number, pj_bytes *words);
 void pj_setting_words(uint32_t setting, pj_bytes *words);
 void pj_face_words(pj_bytes *words);
 
-/* What a number says (enum pj_number): "served", "the lent memory is too small", .. Of a number that no call gives it
-   says that. */
+/* Returns the meaning of a number (enum pj_number): "served", "the lent memory is too small", .. For a number that no
+   call gives, the text says that. */
 CEILING_KEEP
 static inline const char *pj_number_text(uint32_t number) {
     pj_bytes words = {(const uint8_t *)"", 1};
@@ -947,8 +952,8 @@ static inline const char *pj_number_text(uint32_t number) {
     return (const char *)words.bytes;
 }
 
-/* What a setting is called (enum pj_setting): "the name", "the lamps' seconds", .. Of PJ_SETTING_NONE and of a number
-   that is no setting it says that. */
+/* Returns the name of a setting (enum pj_setting): "the name", "the lamps' seconds", .. For PJ_SETTING_NONE and for a
+   number that is no setting, the text says that. */
 CEILING_KEEP
 static inline const char *pj_setting_text(uint32_t setting) {
     pj_bytes words = {(const uint8_t *)"", 1};
@@ -956,8 +961,8 @@ static inline const char *pj_setting_text(uint32_t setting) {
     return (const char *)words.bytes;
 }
 
-/* Of which version of the face the archive is, of which day, and of which kit:
-   "ceiling 13 of 2026-11-27 (rattle-kit-..)". `strings libboard.a` shows it too. */
+/* Returns the archive's version of the face, its date, and its kit: "ceiling 13 of 2026-11-27 (rattle-kit-..)".
+   `strings libboard.a` shows it too. */
 CEILING_KEEP
 static inline const char *pj_face_text(void) {
     pj_bytes words = {(const uint8_t *)"", 1};
@@ -966,12 +971,12 @@ static inline const char *pj_face_text(void) {
 }
 
 /* Set-up with its settings by name: two calls that the header makes of those above, and the archive does not have. Here
-   the bytes of a setting are those that the host keeps, and may be NULL where their count is 0. */
+   the bytes of a setting are those that the host keeps, and may be NULL if their count is 0. */
 
 /* The bytes of a string literal, without the NUL that ends it: .name = PJ_BYTES("Table 3") */
 #define PJ_BYTES(literal) {(const uint8_t *)("" literal), sizeof("" literal) - 1}
 
-/* The settings of pj_set_up and, where class_2 is set, of pj_set_up_2. What is left out of an initializer is empty: no
+/* The settings of pj_set_up and, if class_2 is set, of pj_set_up_2. Members left out of an initializer are empty: no
    password, no lamp, Class 1. */
 typedef struct {
     pj_bytes name, maker, model, other, password, inputs;
@@ -1024,19 +1029,20 @@ static inline uint32_t pj_which_setting_from(const pj_setup *s) {
                               s->name_count > 0 ? s->name_lengths : &no_name, s->name_count);
 }
 
-/* Debug builds. Where the host defines CEILING_DEBUG before it includes this, the calls that receive are tested before
-   they are made: NULL, and memory that overlaps, end the program by assert. It has to be asked for by name, since a
-   board that ends is a dark table. In any other build nothing is tested, and what such a call does is not said. The
+/* Debug builds. If the host defines CEILING_DEBUG before it includes this, the calls that receive are tested before
+   they are made: NULL, and memory that overlaps, end the program by assert. It must be asked for by name, since a board
+   that ends is a dark table. In any other build nothing is tested, and the result of such a call is unspecified. The
    archive is the same for both. */
 
-/* Two pieces of memory have a byte in common. */
+/* Whether two pieces of memory have a byte in common. */
 CEILING_KEEP
 static inline bool pj_overlap(const void *one, size_t one_len, const void *other, size_t other_len) {
     uintptr_t p = (uintptr_t)one, q = (uintptr_t)other;
     return one_len > 0 && other_len > 0 && (p < q ? q - p < one_len : p - q < other_len);
 }
 
-/* What a call that receives is lent is there, and what it writes overlaps nothing: the record d is NULL by value. */
+/* Whether the memory of a call that receives is there, and what it writes overlaps nothing; the record d is NULL by
+   value. */
 CEILING_KEEP
 static inline bool pj_well_lent(const pj_device *d, const uint8_t *bytes, size_t len,
                                 const uint8_t *out, size_t out_len) {
