@@ -86,30 +86,30 @@ static uint32_t (*const pj_face_needed)(void) CEILING_STAYS = pj_face_13;
 enum pj_number {
     PJ_SERVED = 0,
     PJ_NOT_LEGAL = 1,           /* the device record is not legal (pj_legal), or the panel's record is not */
-    PJ_NO_ROOM = 2,             /* the lent reply memory is under PJ_REPLY_ROOM bytes, for pj_write and pj_panel_command
+    PJ_NO_ROOM = 2,             /* the reply memory is under PJ_REPLY_ROOM bytes, for pj_write and pj_panel_command
                                    PJ_COMMAND_ROOM, for a line of a log PJ_LOG_ROOM, for pj_store shorter than the
                                    form */
     PJ_OUT_OF_RANGE = 3,        /* a setting, an error digit, a command or a password is out of its range, a panel has
                                    no such projector or no room for one more, there is no such place for a
                                    controller, there is no such lamp or its mark is the last, two tables cannot be
                                    compared, the jobs, rigs or lists of a day are out of theirs, no line of a log can
-                                   say it, or a line of a log does not belong where the log stands */
+                                   say it, or a line of a log does not belong at this point of the log */
     PJ_NOT_CONNECTED = 4,       /* receiving or closing at a place whose connection is closed, or is not the session
                                    that is named */
     PJ_CONNECTED = 5,           /* of the program replay alone: the log opens a connection that is not closed */
-    PJ_NO_PLACE = 6,            /* opening where every place has a connection that is not closed */
+    PJ_NO_PLACE = 6,            /* opening while no place is closed */
     PJ_NOT_OFF = 7,             /* setting or clearing a lamp's mark while the power is not off */
     PJ_SHORT_PASSWORD = 8,      /* a set-up's password has 1 to 7 characters, and nothing is out of its range */
     PJ_NOT_READY = 9,           /* a panel's command before the projector's greeting, or over another command */
-    PJ_NOT_A_LINE = 10,         /* what was read is not a greeting or reply line, or a reply of another class
-                                   than the command's */
+    PJ_NOT_A_LINE = 10,         /* the line is not a greeting or a reply, or a reply of another class than the
+                                   command's */
     PJ_OTHER_COMMAND = 11,      /* it is a reply to another command */
     PJ_NOT_ALLOWED = 12,        /* it is a reply to the command, with a parameter that is not allowed there */
     PJ_OTHER_VERSION = 20,      /* a stored form whose version byte is not known */
     PJ_CUT_SHORT = 21,          /* it ends before the form does; no bytes at all are that too */
     PJ_LEFT_OVER = 22,          /* bytes are left over after it */
     PJ_CONTENTS = 23            /* it has contents that pj_set_up or, of Class 2, pj_set_up_2 would refuse, a class that
-                                   is neither, or marks that are not one for each lamp, not 0 or 1, or none set where
+                                   is neither, or marks that are not one for each lamp, not 0 or 1, or none set though
                                    there are lamps */
 };
 
@@ -123,7 +123,7 @@ enum pj_limit {
     PJ_INPUTS_READ_MOST = 32,   /* of a reply that is read */
     PJ_LAMPS_MOST = 8,
     PJ_LAMP_MOST = 359999999,   /* seconds of a lamp: 99,999 hours and 3,599 seconds */
-    PJ_HOURS_MOST = 99999,      /* hours of a lamp, as a reply tells them */
+    PJ_HOURS_MOST = 99999,      /* hours of a lamp in a reply */
     PJ_WARM_COOL_MOST = 600,    /* seconds of warm-up, and of cooling */
     PJ_VOLUME_MOST = 20,        /* the loudest level; the lowest is 0 */
     PJ_VOLUME_FIRST = 10,       /* the level at set-up */
@@ -205,8 +205,8 @@ typedef struct {
     uint32_t lamps[PJ_LAMPS_MOST];          /* seconds. Lamps are numbered from 0 here and in the calls, and from 1 in
                                                lines of logs, on pages and by the programs */
     uint8_t enabled[PJ_LAMPS_MOST];         /* each lamp's mark, a flag: without it the lamp stays dark; at least one is
-                                               set where there are lamps, and none past them */
-    uint8_t frozen;                         /* a flag: the picture stands still */
+                                               set if there are lamps, and none past them */
+    uint8_t frozen;                         /* a flag: the picture is frozen */
     uint8_t speaker, microphone;            /* levels, 0 to PJ_VOLUME_MOST. As lines of Class 2 alone change these
                                                three, in Class 1 they stay as they were at set-up */
 } pj_own;
@@ -225,13 +225,13 @@ typedef struct {
 typedef struct {
     uint32_t number;
     size_t length;                          /* of the reply */
-    size_t place;                           /* where it was opened; 0 with a refusal */
+    size_t place;                           /* the place of the connection; 0 with a refusal */
     pj_device device;
 } pj_opened;
 
 typedef struct {
     uint32_t number;
-    size_t taken, length;                   /* bytes taken; length of the reply, 0 where none is due */
+    size_t taken, length;                   /* bytes taken; length of the reply, 0 if none is due */
     pj_device device;
 } pj_received;
 
@@ -293,7 +293,7 @@ pj_changed pj_set_up_2(const uint8_t *name, size_t name_len, const uint8_t *make
                        const uint8_t *serial, size_t serial_len, const uint8_t *version, size_t version_len,
                        const uint8_t *names, size_t names_len, const size_t *name_lengths, size_t name_count);
 
-enum pj_setting {               /* in the order in which pj_set_up and pj_set_up_2 are lent them */
+enum pj_setting {               /* in the order of the parameters of pj_set_up and pj_set_up_2 */
     PJ_SETTING_NONE = 0,        /* set-up gives PJ_SERVED */
     PJ_SETTING_NAME = 1,
     PJ_SETTING_MAKER = 2,
@@ -424,13 +424,13 @@ pj_changed pj_load(const uint8_t *bytes, size_t len);
 
 typedef struct {
     uint32_t number;
-    size_t taken, length;                   /* bytes taken; length of the reply, 0 where none is due */
+    size_t taken, length;                   /* bytes taken; length of the reply, 0 if none is due */
 } pj_receiving;
 
 typedef struct {
     uint32_t number;
     size_t length;                          /* of the greeting */
-    size_t place;                           /* where it was opened; 0 with a refusal */
+    size_t place;                           /* the place of the connection; 0 with a refusal */
 } pj_opening;
 
 /* pj_set_up, into *d. */
@@ -645,12 +645,12 @@ enum pj_code {                              /* the codes of commands */
     PJ_SNUM = 18,                           /* serial number */
     PJ_SVER = 19,                           /* software version */
     PJ_INNM = 20,                           /* an input's name; first: type, second: number, as for PJ_INPT_SET */
-    PJ_INPT_ASK_2 = 21,                     /* INPT and INST under `%2`, which tell what they tell under `%1` */
+    PJ_INPT_ASK_2 = 21,                     /* INPT and INST under `%2`, with the answers of `%1` */
     PJ_INPT_SET_2 = 22,                     /* first: type, second: number, as for PJ_INPT_SET */
     PJ_INST_2 = 23
 };
 
-typedef struct {                            /* numbers, not characters; what a code does not use is passed over */
+typedef struct {                            /* numbers, not characters; what a code does not use is ignored */
     uint8_t code, first, second;
 } pj_command;
 
@@ -752,9 +752,9 @@ typedef struct {                            /* one projector of a panel */
     uint8_t under_way;                      /* a flag: a command was sent, its reply is awaited; 0 without a greeting */
     pj_command command;                     /* that command, as it was given; else all three 0 */
     uint8_t power_known, input_known, lamps_known; /* flags */
-    uint8_t power;                          /* enum pj_power; 0 where it is not known */
-    uint8_t input_type, input_number;       /* 1 to 6 and 1 to 35; both 0 where the input is not known */
-    size_t lamp_count;                      /* 1 to PJ_LAMPS_MOST; 0 where the lamps are not known */
+    uint8_t power;                          /* enum pj_power; 0 if it is not known */
+    uint8_t input_type, input_number;       /* 1 to 6 and 1 to 35; both 0 if the input is not known */
+    size_t lamp_count;                      /* 1 to PJ_LAMPS_MOST; 0 if the lamps are not known */
     uint32_t hours[PJ_LAMPS_MOST];          /* at most PJ_HOURS_MOST; 0 past the count */
     uint8_t lit[PJ_LAMPS_MOST];             /* flags; 0 past the count */
     uint32_t strays;                        /* at most PJ_STRAYS_MOST */
@@ -763,7 +763,7 @@ typedef struct {                            /* one projector of a panel */
 typedef struct {
     size_t count;                           /* of projectors */
     pj_entry entries[PJ_PANEL_MOST];        /* all zero past the count */
-} pj_panel;                                 /* legal where it is as said here, unused room zero as everywhere */
+} pj_panel;                                 /* legal if it is as described here; unused room is zero */
 
 typedef struct {
     uint32_t number;
@@ -839,11 +839,11 @@ uint32_t pj_panel_line_in_place(pj_panel *p, size_t projector, const uint8_t *li
 enum pj_heard_kind {                        /* what a line was */
     PJ_HEARD_NOTHING = 0,                   /* with a number that is not 0 */
     PJ_HEARD_GREETING = 1,                  /* its greeting, which is accepted */
-    PJ_HEARD_REPLY = 2,                     /* an accepted reply: OK, which error, or what the reading tells */
+    PJ_HEARD_REPLY = 2,                     /* an accepted reply: OK, which error, or the reading */
     PJ_HEARD_ERRA = 3,                      /* the projector refused the digest: the password is wrong */
     PJ_HEARD_LATE = 4,                      /* a stray: no command was under way */
     PJ_HEARD_FOREIGN = 5,                   /* a stray: it answers another command */
-    PJ_HEARD_MALFORMED = 6                  /* a stray: neither a reply that is allowed nor, where one is awaited, a
+    PJ_HEARD_MALFORMED = 6                  /* a stray: neither an allowed reply nor, if one is awaited, a
                                                greeting; PJLINK ERRA before a greeting too, from a projector that
                                                refuses this host whatever its password */
 };
@@ -853,7 +853,7 @@ typedef struct {
     uint8_t kind;                           /* enum pj_heard_kind */
     pj_reading reading;                     /* what pj_read_reply gives for the command that was under way, its own
                                                number (of strays 10, 11 or 12) among it; all zero with
-                                               PJ_HEARD_NOTHING, PJ_HEARD_GREETING and PJ_HEARD_LATE, and where a
+                                               PJ_HEARD_NOTHING, PJ_HEARD_GREETING and PJ_HEARD_LATE, and if a
                                                greeting was awaited */
 } pj_heard;
 
@@ -871,7 +871,7 @@ uint32_t pj_panel_lost_in_place(pj_panel *p, size_t projector);
 typedef struct {
     uint32_t number;
     bool backwards;                         /* some lamp has fewer seconds than before */
-    size_t place;                           /* of the first such lamp; 0 where there is none */
+    size_t place;                           /* of the first such lamp; 0 if there is none */
 } pj_compared;
 
 /* Compares two months' tables of lamp seconds: writes the later minus the earlier for each place to the start of the
