@@ -1,6 +1,6 @@
 -- A comparison of two tables of lamp seconds in numbers, as the header has it (RULES, Service).
 --   report_of c                 the number, whether a lamp went backwards, and the first place where one did
---   not_compared                what is told of tables that are not compared
+--   not_compared                what is returned for tables that are not compared
 --   Compares es ls out r m      the report r and the list m are service's, of the readings of both tables
 --   ComparesInto es ls out r m  of tables of one length they are; else 3, and the list out as it was
 -- Assumes nothing.

@@ -1,4 +1,4 @@
--- The lists that a day call is lent, as the lists of numbers in them.
+-- The lists that a day call is given, as the lists of numbers in them.
 --   day_lists l
 -- Assumes nothing.
 use Rattle.board.specs.Lists.{Lists, lists}

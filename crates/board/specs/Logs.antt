@@ -1,4 +1,4 @@
--- What the calls of a recorded log hand to the recorder of what a host lends (RULES, The C face). What is too large for
+-- What the calls of a recorded log pass from a host to the recorder (RULES, The C face). What is too large for
 -- its type there can't be said, and neither can what stands for it.
 --   time_lent t     a start time: of no bytes none
 --   byte_of n       a place or a lamp: 255 where it is larger
@@ -7,8 +7,8 @@
 --   misfit_number m       the number of why not: that of the call which the line says, else 3
 --   LinePlayed            the number, the length of the reply, the reply, and record and log then
 --   unplayed r d n        refused with n
---   line_played r d l room   the line l, given without its LF, made again on the record d, where the log r stands
---   playing_told p        what is told of it
+--   line_played r d l room   the line l, given without its LF, made again on the record d, at the state r of the log
+--   playing_told p        what is returned of it
 -- Assumes nothing.
 use Rattle.std.specs.Prelude.{ℕ, List, [], ◌∷◌, Option, Some, None, if◌then◌else◌, nat_lt, ◌==◌, length, replicate}
 use Rattle.std.specs.Prelude.{not, Result, Ok, Err}

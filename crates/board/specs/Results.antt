@@ -1,11 +1,11 @@
 -- What the calls on a record give, as the header's records have it.
---   receiving_of t, opening_of t p     what a call says, beside a record that changes where it lies
+--   receiving_of t, opening_of t p     what a call says, beside a record that changes in place
 --   writing_of t                       what the controller's writer says, and storing
 --   received_of r, opened_of r p       the same with the record, by value
 --   changed_of r                       of a call that gives a number and the record
 --   panel_changed_of r, panel_sent_of r     of a panel's call, and of its command
---   panel_sending_of r                 of a command, beside a panel that changes where it lies
---   heard_flat n h                     the number n, and what is told of a line that was h
+--   panel_sending_of r                 of a command, beside a panel that changes in place
+--   heard_flat n h                     the number n, and what is returned for a line that was h
 --   panel_heard_of r h                 of hearing a line, which was h
 -- Assumes nothing.
 use Rattle.std.specs.Prelude.{ℕ, length, Option}

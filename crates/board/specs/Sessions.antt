@@ -1,5 +1,5 @@
 -- A connection is named by its place and the random number of its opening, its session: bytes that come late, of one
--- that stood at the place before, are told from its own (RULES, The C face). And what passing time closed.
+-- that was at the place before, differ from its own (RULES, The C face). And what passing time closed.
 --   is_live c              the connection is not closed
 --   is_session d p r       the connection at place p of the record d is live, and was opened with the number r
 --   session_rows d p r room    when receiving in that session is refused, and with which number: as receiving is, but
@@ -10,7 +10,7 @@
 --   bit_where t n          n where t holds, else 0
 --   is_closed_since d e p  of the records d and e, the place p is live in d and closed in e
 --   places_closed d e      the places that are: bit p for place p
---   passing_of d g         what passing says that gave g, lent d
+--   passing_of d g         the result of passing time on d that gave g
 -- Assumes nothing.
 use Rattle.std.specs.Prelude.{ℕ, ◌+◌, Bool, true, not, ◌&&◌, List, [], ◌∷◌, length, if◌then◌else◌, nat_lt, ◌==◌}
 use Rattle.text.specs.Rows.{Row, ◌when◌, by_rows}

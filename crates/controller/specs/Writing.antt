@@ -1,7 +1,7 @@
 -- Writing a command (RULES, Controller and The numbers a call gives).
---   command_room                     less lent memory is 2: the digest and the longest line that the standard allows
+--   command_room                     less memory is 2: the digest and the longest line that the standard allows
 --   is_writable c secured password   the command's line can be written, and a digest is asked for of a legal password
---   led_by secured random password   what stands before the line: where asked for, the digest
+--   led_by secured random password   what comes before the line: if asked for, the digest
 --   written_command c secured random password room    2, 3, or the line
 --   unwritten_number e               the number of a refusal
 -- Assumes nothing.

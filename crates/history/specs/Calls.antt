@@ -1,5 +1,5 @@
 -- A call that can change a record, as a log of a board's history keeps it (RULES, History of a board).
---   LogCall            such a call, at any place; what it was lent is not kept
+--   LogCall            such a call, at any place; its memory is not kept
 --   call_seen c        the same of a call as the code has it
 --   received_most      the most bytes that one call of a log receives
 --   is_sayable c       a line can say the call: a place and a lamp that there can be, no more bytes than that, error

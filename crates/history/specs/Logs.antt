@@ -1,14 +1,14 @@
--- A log as lines (RULES, History of a board): each ends with LF, and what stands behind the last LF is no line. And
+-- A log as lines (RULES, History of a board): each ends with LF, and what follows the last LF is no line. And
 -- what makes it the history of a board: it begins with the header of file 1, each header and stated line has the sum of
 -- all that came before it, the stored form first, a header the next number, and a stated line the count of lines since
 -- the header.
 --   Sayable es         each of the entries es can be said by a line
 --   log_text es        the lines of the entries es, one after the other
 --   entries_in log     the entry of each line that an LF ended
---   LogPlace           where a log stands: all the bytes so far, the number of the file, the lines since its header
---   begun_at form      where it begins
---   past p e           where it stands after the entry e
---   FitsAt p e         the entry e fits where the log stands
+--   LogPlace           the state of a log: all the bytes so far, the number of the file, the lines since its header
+--   begun_at form      its state at the beginning
+--   past p e           its state after the entry e
+--   FitsAt p e         the entry e fits this state of the log
 --   IsHistory p es     each of the entries es fits where those before it leave the log
 -- Assumes nothing.
 use Rattle.std.specs.Prelude.{ℕ, ◌+◌, ◌≡◌, ◌≤◌, true, List, [], ◌∷◌, ◌++◌, map, Option}

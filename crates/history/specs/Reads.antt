@@ -1,6 +1,6 @@
 -- What the readers of a line's parts give, as the definitions have it.
---   rest_seen r      a value, and what stands behind it
---   summed_seen r    a number, a sum, and what stands behind
+--   rest_seen r      a value, and what follows it
+--   summed_seen r    a number, a sum, and what follows
 -- Assumes nothing.
 use Rattle.std.specs.Prelude.{ℕ, List}
 use Rattle.std.specs.Borrow.{Bor}

@@ -1,4 +1,4 @@
--- Where the talk with a projector stands (RULES, Panel).
+-- The state of the connection to a projector (RULES, Panel).
 --   talk_begun g                   the talk that begins with the greeting g
 --   awaits_of e                    what is awaited of the projector
 -- Assumes nothing.

@@ -1,7 +1,7 @@
 -- What the panel keeps of a projector (RULES, Panel: "each with its own password, greeting, one command under way, and
 -- last known power, input and lamps", and "a per-projector count" of strays), in its parts. What is not known or not
 -- under way is zero.
---   Talk                 where the talk with it stands: its greeting, whether the digest was sent, its command
+--   Talk                 the state of its connection: its greeting, whether the digest was sent, its command
 --   Shown                what is shown of it: power, input and lamps, each known or not
 --   talk_of e, shown_of e, password_in e   these parts of the entry e, and its password
 --   entry_of t l s n     the entry of a password, a talk, what is shown and a count of strays

@@ -1,4 +1,4 @@
--- What a line from a projector was (RULES, Panel). A host may be told it; the step (Stepping) is the same, told or not.
+-- What a line from a projector was (RULES, Panel). A host may ask for it; the step (Stepping) is the same.
 --   HeardAs            its greeting; no greeting, where one is awaited; late; or what the reader takes from it as the
 --                      reply to the command under way: accepted, ERRA, foreign or malformed by its outcome
 --   greeting_heard g   where its greeting is awaited, by what the reader of greetings takes from the line
@@ -7,7 +7,7 @@
 --   heard_by_code h    what the code says of a line, seen so
 --   hearing_told r     the same of a call, which says nothing where it is refused
 --   heard_bytes h      the bytes of the parameter that the reader took: no more than a reading has room for
---   heard_kind h, heard_reading h     what is told of a line as numbers (enum pj_heard_kind): what it was, and what the
+--   heard_kind h, heard_reading h     what a line was as numbers (enum pj_heard_kind): its kind, and what the
 --                      reader takes from it, where it was read as a reply
 -- Assumes nothing.
 use Rattle.std.specs.Prelude.{not, List, [], if◌then◌else◌, Option, Some, None, Result, Ok, Err, ℕ, ◌==◌}

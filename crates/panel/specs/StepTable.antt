@@ -1,7 +1,7 @@
 -- What each kind of line does, as a table (RULES, Panel), whoever steps: the entry e, at the line l, becomes f. A legal
 -- entry steps by this table (proofs/StepsByTable), and no two rows give different entries.
 --   IsUnderWay e c     its greeting was accepted, and the command c is under way
---   IsStray e l        the line is late, foreign or malformed: by where the talk stands, or by the reader's number
+--   IsStray e l        the line is late, foreign or malformed: by the connection's state, or by the reader's number
 --   StepTo e l f       the rows
 -- Assumes nothing.
 use Rattle.std.specs.Prelude.{ℕ, ◌≡◌, Bool, true, false, List, Option, Some}

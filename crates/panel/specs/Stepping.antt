@@ -1,4 +1,4 @@
--- The step on a lent line (RULES, Panel). Each clause is a sentence there:
+-- The step on a line (RULES, Panel). Each clause is a sentence there:
 --   with_stray e        "A late, foreign or malformed reply changes nothing but a per-projector count of such lines,
 --                       stopped at 65,535."
 --   greeted_as e g      "Until a greeting is accepted, any other line is malformed": the ERRA line too

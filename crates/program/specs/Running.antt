@@ -1,8 +1,8 @@
 -- What a program does with a command line (RULES, The programs): which record a log begins with, what goes to standard
 -- output, which words to standard error, and the status.
 --   Outs                what the two outputs had, and have then
---   IsTold ..           all of the log was read and told: it goes to standard output, how it ended to standard error
---   IsCutOff ..         a read, a write or a count failed: a front of what is told, and the failure's line, if it has
+--   IsTold ..           all of the log was read and reported: on standard output, how it ended on standard error
+--   IsCutOff ..         a read, a write or a count failed: a front of the report, and the failure's line, if it has
 --                       one, go to standard output, the file that failed and why to standard error; the status is 1
 --   TellsOut ..         the one or the other;   TellsSaved ..   the same of an output's file: nothing goes to standard
 --                       output

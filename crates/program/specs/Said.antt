@@ -4,9 +4,9 @@
 --   unread_text n cause  that the file n cannot be read; the cause is a colon, a space and words, or nothing
 --   unwritten_text n cause   that the file n cannot be written
 --   refused_text n c     that the form in the file n does not load, with the number c
---   failed_text f n m    why a log that is read from n is not told to its end on m
+--   failed_text f n m    why a log that is read from n is not reported to its end on m
 --   shown_name n         standard input in words; any other file by its name
---   ending_text e        what is said of a log that was read to its end, and told;    ending_status e   how the program
+--   ending_text e        the words on a log that was read and reported to its end;    ending_status e   how the program
 --                        ends
 --   IsSaid fails old new t   the text t was written, or, where a write failed, a front of it
 --   endless_text n       that the log n is longer than can be counted

@@ -9,10 +9,10 @@
 --   device_made d e      the record then
 --   reply_made d e       the reply
 --   is_made d e          it belongs;    log_made r d e l   the three numbers then, where the line l says e
---   Followed             where a reader stands after some lines: the three numbers, the record, and the calls that they
+--   Followed             a reader's state after some lines: the three numbers, the record, and the calls that they
 --                        say with their replies
---   followed r d ls      where it stands after the lines ls, given without their LFs, if each belongs
---   HoldsFor p d e       the entry e is true of the record d, where the log stands at p: a call belongs, what is stated
+--   followed r d ls      its state after the lines ls, given without their LFs, if each belongs
+--   HoldsFor p d e       the entry e is true of the record d, at the state p of the log: a call belongs, what is stated
 --                        is shown, and a line more can be counted;    AllHold p d es   each where those before it leave
 --                        both
 -- Assumes nothing.
@@ -61,7 +61,7 @@ why_seen OtherState = other_state
 why_seen OtherPlace = other_place
 why_seen (Refused why) = refused_with (refusal_number why)
 
--- ---- whether an entry stands where the reader is
+-- ---- whether an entry belongs where the reader is
 
 -- of a header
 abbrev pub misfit_header : Recorder → ℕ → ℕ → Option Misfit

@@ -1,6 +1,6 @@
--- A log of the second kind followed line by line, from where a reader stands (RULES, History of a board): its lines
--- belong up to the first that does not, which is told, and what follows that one is nothing.
---   chain_begun sum       where a reader stands before a log of which the form has that sum
+-- A log of the second kind followed line by line, from a reader's state on (RULES, History of a board): its lines
+-- belong up to the first that does not, which is reported, and what follows that one is ignored.
+--   chain_begun sum       a reader's state before a log of which the form has that sum
 --   line_told r d l       what the line l says there, or why it does not belong: no LF ends it; it says nothing that
 --                         stands there; or what it says, made again, is refused or gets another place
 --   belonging r d ls      what the lines ls say, up to the first that does not belong

@@ -1,7 +1,7 @@
 -- A host that records (RULES, History of a board): it makes calls on its board, records each that is served, after it
 -- is made, and at will begins files and states what the record shows, each line into memory of its own.
 --   HostStep              what a host does: it begins a file, with a start time or none; makes a call; states
---   step_written r d s n    what the recorder gives and writes of the step s, made on the record d, lent n bytes
+--   step_written r d s n    what the recorder gives and writes of the step s, made on d, in n bytes of memory
 --   recorder_by r d s n   the recorder then;    device_by d s   the record then
 --   host_log r d ss       all that is written of the steps ss
 --   recorder_left r d ss  the recorder then

@@ -1,6 +1,6 @@
--- What a player tells of a recorded call that it makes (RULES, History of a board).
+-- What a player returns for a recorded call that it makes (RULES, History of a board).
 --   PlayTold         the number of the call, whether it belongs to the record, and the length of its reply if it does
---   call_told d c    this of the recorded call c, lent the record d
+--   call_told d c    this for the recorded call c on the record d
 --   play_told r      the same of what the player's function returns
 --   quiet_told r     of what a call returns that replies nothing, and belongs where it is served
 -- Assumes nothing.

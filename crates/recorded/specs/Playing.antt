@@ -1,5 +1,5 @@
 -- A log played back by the board's own calls (RULES, History of a board).
---   reply_memory         the memory that a player lends to each call
+--   reply_memory         the reply memory that a player gives each call
 --   played_call c        the call that it makes of a recorded one
 --   is_at_its_place d c  an opening gets the place that was recorded
 --   belongs d c          the call is served, and at that place

@@ -1,6 +1,6 @@
 -- What a log records of a run of calls (RULES, History of a board): each call that is served, with the place that an
--- opening got and the bytes that a receive took; the memory that a call was lent is not recorded.
---   is_served d c        the call c is not refused, lent the record d
+-- opening got and the bytes that a receive took; the memory of a call is not recorded.
+--   is_served d c        the call c on the record d is not refused
 --   recorded_call d c    what is recorded of it
 --   recorded d cs        what is recorded of the calls cs, from the record d on; a refused call is left out
 --   replied_by d c       what it replies

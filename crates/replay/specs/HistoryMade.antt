@@ -1,8 +1,8 @@
--- What a line of a history does, where its reader stands (RULES, History of a board).
---   LineMade r d l n ..    the line l, which belongs where the reader stands at r and d, is made again: the reader then
---                          stands at log and after, and its reply fills the first n bytes of the memory
+-- What a line of a history does at a reader's state (RULES, History of a board).
+--   LineMade r d l n ..    the line l, which belongs at the reader's state r and d, is made again: its state then is
+--                          log and after, and its reply fills the first n bytes of the memory
 --   LineStray r d l why after   it does not belong, and no more than the places of the record is changed
---   IsMadeAgain r d l told ..   one or the other, as is told
+--   IsMadeAgain r d l told ..   one or the other, as the result says
 -- Assumes nothing.
 use Rattle.std.specs.Prelude.{ℕ, ◌≡◌, ◌≤◌, List, take, Result, Ok, Err}
 use Rattle.textio.specs.Lines.{LogLine}

@@ -5,7 +5,7 @@
 --   entries_text n d es     this for each of the entries es, from the record d on, where n lines came before
 --   device_after d es       the record after them
 --   stray_ending s            which line does not belong, and why, if one does not
---   history_text n r d ls   what is printed for the lines ls, where n came before and the reader stands at r and d
+--   history_text n r d ls   what is printed for the lines ls, where n came before and r and d are the reader's state
 --   recorded_text d sum log what is printed for a history that begins with the record d, of which the form has that sum
 --   recorded_stray d sum log   its first line that does not belong
 -- Assumes nothing.

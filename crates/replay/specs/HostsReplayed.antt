@@ -3,7 +3,7 @@
 --   replied_lines n ss    lines numbered from n + 1 on, which were replied ss
 --   entry_replies es ss   what each of the entries es was replied, where the calls among them were replied ss: a header
 --                         and a stated line get no reply
---   cut_stray log         what stands behind the last LF of the log, if anything does, which does not belong
+--   cut_stray log         what follows the last LF of the log, if anything does, which does not belong
 --   HostReplayed d ss log stray text   the lines of the log are those of the steps ss, made on the record d; the text
 --                         gives each its number and the reply that the host's board gave, and then the power and lamps
 --                         of that board; and no line is stray but what a cut left

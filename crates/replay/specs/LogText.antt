@@ -2,7 +2,7 @@
 --   any_log_text d sum log     all of it, for a log that begins with the record d, of which the form has that sum
 --   log_stray d sum log    the first line of a history that does not belong; a log of the first kind has none
 --   log_unplayed d log     what of a log of the first kind is not played; of a history it is none
---   lines_text d sum ls    what is printed for lines, before what stands at the end
+--   lines_text d sum ls    what is printed for lines, before the end of the output
 --   IsPrintedSoFar d sum log left ..   the sink got what is printed for each line that has ended in what was read of
 --                          the log, where this is left, and nothing after them
 -- Assumes nothing.

@@ -3,7 +3,7 @@
 --   IsFirstBack rs k             at k the lamp went backwards, and at no place before it
 --   IsComparable rs room         as many readings as a table may have, and room for as many differences
 --   ComparedHolds rs room c      what the answer c says, with room for so many differences
---   ComparedAs rs out c m        what a comparison leaves where the list out was lent: the answer c, and the list m
+--   ComparedAs rs out c m        the result of a comparison with the result list out: the answer c, and the list m
 -- Assumes nothing.
 use Rattle.std.specs.Prelude.{ℕ, ◌<◌, ◌≤◌, ◌≡◌, List, ◌++◌, ℤ, length, drop, All, Option, Some, None, Result}
 use Rattle.std.specs.Prelude.{Ok, Err, OnOk, OnErr}

@@ -6,7 +6,7 @@
 --                              says what is left in its room
 --   line_after most l b        the same, where nothing is left in it
 --   collected_all most l bs    the line after these bytes, one after the other
---   Gathered                   what one call makes of the bytes that it is handed: the line so far, how many bytes come
+--   Gathered                   the result of one call on its bytes: the line so far, how many bytes come
 --                              before CR, and whether it came
 --   gathered_from most l bs    the line after the bytes of bs before the first CR, how many these are, and whether it
 --                              came

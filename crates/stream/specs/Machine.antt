@@ -1,4 +1,4 @@
--- Lines of a stream, each ended by one byte, and a stream handed on in any cuts (RULES, Connection: "takes bytes up to
+-- Lines of a stream, each ended by one byte, and a stream passed on in any cuts (RULES, Connection: "takes bytes up to
 -- and including the first CR, or all of them if none"; "Handed on until all is taken, with no time between, a stream
 -- gives the same reply bytes and end state however it is cut"), over any byte that ends a line and any machine with a
 -- state D.
@@ -10,9 +10,9 @@
 --   collect, ends          what the machine does with a byte that does not end a line; with the one that does
 --   run_over d bs          the bytes bs, one after the other
 --   one_call d bs          what one call takes: up to and including the first `end`, or all
---   handed_rest f n d bs   calls of f, each handed what the last one did not take: at most n of them
+--   handed_rest f n d bs   calls of f, each given what the last one did not take: at most n of them
 --   handed_part f d p      one part: a first call, whatever it holds, and then what that one did not take
---   handed_parts f d ps    the parts ps, each handed on until it is taken, an empty one too
+--   handed_parts f d ps    the parts ps, each passed on until it is taken, an empty one too
 --   stream_of ps           the stream of which these are the parts
 -- Assumes nothing.
 use Rattle.std.specs.Prelude.{ℕ, zero, suc, ◌+◌, Bool, true, false, List, [], ◌∷◌, ◌++◌, length, drop}

@@ -1,10 +1,10 @@
--- What a call says in numbers (RULES, The numbers a call gives): 0 where it is served, else the number of why not.
+-- The outcome of a call in numbers (RULES, The numbers a call gives): 0 if it is served, else the number of its error.
 --   outcome_number why r    the number of what a call returns, where `why` numbers its errors
---   WrittenAs               what a call that writes gives: its number, and the bytes from the start of the lent memory
+--   WrittenAs               what a call that writes gives: its number, and the bytes from the start of the buffer
 --   nothing_written n       a refusal: the number n, and no bytes
---   WrittenTold             what is told of it: its number, and how many bytes
+--   WrittenTold             what is returned of it: its number, and how many bytes
 --   told_written w          this of what is promised;    written_told why r    of what the call returns
---   length_written r        how many bytes, in what the call returns: none where it is refused
+--   length_written r        how many bytes, in what the call returns: none if it is refused
 -- Assumes nothing.
 use Rattle.std.specs.Prelude.{ℕ, List, [], length, Result, Ok, Err}
 

@@ -1,9 +1,9 @@
 -- The lines of a log (RULES, Floor log: "A line ends with LF, the last perhaps without").
 --   lines_ended g log   the lines that an LF ends, in a log of which the first has begun with g
---   cut_end g log       what stands behind the last LF of it
+--   cut_end g log       what follows the last LF of it
 --   LogLine             a line without its LF, and whether an LF ended it
 --   end_of l            the LF that did, or nothing
---   lines_in log        the lines of a log: those that an LF ends, and what stands behind the last LF, if anything does
+--   lines_in log        the lines of a log: those that an LF ends, and what follows the last LF, if anything does
 --   texts_of ls         lines without their LF;    lines_of log    those of a log
 --   count_most          so many lines, or bytes of one line, are more than are counted
 --   HasEndlessLine log  a log has a line of as many bytes

@@ -5,7 +5,7 @@
 --   ReadsPart old new   of the line that has begun a part was read, and no LF
 --   line_in memory l    what the memory has of a line that was read
 --   IsLine ..           the first line of a log, of which so much is kept, and what is left of the log after it: its
---                       LF, if it has one, stands between them, and behind a line without LF nothing is left
+--                       LF, if it has one, is between them, and after a line without LF nothing is left
 --   IsNextLine ..       whether there is another line in a log, what is kept of it, and whether an LF ended it
 --   FailureComesOf ..   why a log is not read to its end: an error that its source gives, or the sink of what is
 --                       printed for it, or that it is so long

@@ -1,6 +1,6 @@
 -- A number in decimal at the front of bytes, one to five digits, zeros in front allowed (RULES, Controller).
 --   hours_most       the greatest number of five digits
---   is_numeral n     five digits can tell it
+--   is_numeral n     five digits can write it
 --   figures s        how many digits stand at the front of s
 --   number_read s    the number at the front of s
 -- Assumes nothing.

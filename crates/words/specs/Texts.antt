@@ -6,7 +6,7 @@
 --   is_info s         the rule of maker, model, other information, serial number and version (RULES, Class 2)
 --   is_input_name s   the rule of an input's name (RULES, Class 2)
 --   is_password s     0 to 32 ASCII letters and digits
--- PJLink 1.04, 4.11 to 4.13, narrow INF1, INF2 and INFO to 0x20 to 0x7E; the rule of RULES, Texts, stands for all.
+-- PJLink 1.04, 4.11 to 4.13, narrow INF1, INF2 and INFO to 0x20 to 0x7E; the rule of RULES, Texts, is for all of them.
 -- Assumes nothing.
 use Rattle.std.specs.List.{list_all}
 use Rattle.std.specs.Prelude.{ℕ, Bool, not, ◌&&◌, List, length, nat_le, ◌==◌}

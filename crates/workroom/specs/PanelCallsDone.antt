@@ -1,5 +1,5 @@
--- What RULES, Panel and The numbers a call gives, ask of each call of a panel, over any panel, whatever record,
--- projector, line and memory it is lent. What a line does to the entry of its projector is PanelDemand's.
+-- What RULES, Panel and The numbers a call gives, ask of each call of a panel, for any panel and every record,
+-- projector, line and memory. PanelDemand says what a line does to the entry of its projector.
 -- TO BELIEVE IT, believe, and nothing else: the rows of each call (panel/specs/PanelCalls), a legal panel
 -- (panel/specs/LegalPanels), what an entry is when it was just added, sent a command, or lost (`fresh_entry`,
 -- `sent_entry`, `lost_entry` of panel/specs: Entries, Stepping), when the digest leads (`leads_next`) and the line that

@@ -1,15 +1,15 @@
--- What RULES, Panel asks of a panel's step, and of what it tells of the line, sentence by sentence, over any panel: on
+-- What RULES, Panel asks of a panel's step, and of what it reports of the line, sentence by sentence, for any panel: on
 -- a legal panel, for a projector that it has, whatever line comes. Which lines are late, foreign or malformed is
 -- `IsStray` of panel/specs/StepTable, by the reader's own numbers; what a line says is what the readers take from it.
 -- TO BELIEVE IT, believe, and nothing else: the readers (controller/specs/Reading, pjlink/specs/Greetings), the codes
--- (codes/specs/Commands), an entry's parts and what is shown (panel/specs: Entries, Showing), what a line may be told
+-- (codes/specs/Commands), an entry's parts and what is shown (panel/specs: Entries, Showing), what a line may be said
 -- to be (`HeardAs` of panel/specs/Hearing), `is_greeting`, `IsUnderWay` and `IsStray` (panel/specs/StepTable), a legal
 -- panel, and any panel (panel/specs: LegalPanels, AnyPanel).
 --   IsServed p i       the panel is legal and has the projector i
 --   OnlyCounted e f    e and f differ in the count of strays alone, which is one more, or has stopped
 --   EndedBy e m f      the command is ended, and m is shown
 --   ForgotIn e f       the command is ended, all is unknown, a new greeting is awaited
---   Greeted e t f      the greeting is accepted, t is where the talk stands now
+--   Greeted e t f      the greeting is accepted, t is the state of the connection now
 --   ShownBy e l f      what f shows is what e showed, or the line l was an accepted reply and f shows what it says, or
 --                      it was the ERRA line and f shows nothing
 -- Assumes nothing.

@@ -188,5 +188,5 @@ pub record ShowsWhatWasMeant (P : AnyPanel) : Type 0 where
   pub stays_awaited : (i p : ℕ) (w : Workroom) (n : ℕ) → IsJoined i p w → (our_connection p w).phase ≡ awaiting
       → (our_connection p w).age + n < age_end
       → IsKeptUp i p w (waits n)
-  -- a connection that is gone, however it stood, can be made again, and the readings stay till then
+  -- a connection that is gone, in whatever state, can be made again, and the readings stay until then
   pub parts : (i p : ℕ) (w : Workroom) → IsAcquainted i w → p < places_count → PartedAs i w (parted P i p w)

@@ -1,5 +1,5 @@
--- TWO PANELS THAT DO WHAT IS ASKED CAN'T BE TOLD APART: each call gives the same number, line and panel, and tells
--- the same of a line, whatever panel, projector, command, line and memory it is lent. So nothing that a panel does is
+-- TWO PANELS THAT DO WHAT IS ASKED ARE ALIKE: each call gives the same number, line and panel, and reports
+-- the same of a line, for every panel, projector, command, line and memory. So nothing that a panel does is
 -- left open: one that did anything which is not asked would differ from ours, and so would not do all that is.
 --   DoesWhatIsAsked P    the step on a line does what PanelDemand says, and each call what PanelCallsDone says
 --   PanelsAlike P Q      each call of P is that of Q

@@ -3,7 +3,7 @@
 --   cut_at ns l         the bytes l in parts: the first n bytes, for the first n of ns, and so on; the rest is the last
 --                       part. `stream_of` joins them again, and no cutting is left out (`any_cuts`)
 --   Workroom            the panel, and the device
---   asks k there back   the panel sends the command k: its line comes there in the cuts `there`, each part handed on
+--   asks k there back   the panel sends the command k: its line comes there in the cuts `there`, each part passed on
 --                       until it is taken; the reply comes back in the cuts `back`. Of a refused command nothing is
 --                       sent
 --   waits n             n seconds pass on the device
@@ -14,8 +14,8 @@
 --                       greeting comes back in the cuts `back`
 --   happened P i p w h, all_happened P i p w hs    the workroom after this, on the panel P whose projector i is the
 --                       device, connected at place p
---   parted P i p w      the connection is gone: the device closes it, and the panel is told
--- The host joins what comes back to whole lines, and hands every one to the panel, once; no bytes are no line.
+--   parted P i p w      the connection is gone: the device closes it, and the panel records it
+-- The host joins what comes back to whole lines, and passes every one to the panel, once; no bytes are no line.
 -- Assumes nothing.
 use Rattle.std.specs.Prelude.{ℕ, List, [], ◌∷◌, take, drop, if◌then◌else◌, ◌==◌}
 use Rattle.record.specs.Given.{left_by}

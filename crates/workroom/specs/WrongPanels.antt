@@ -1,5 +1,5 @@
--- Wrong panels: each is ours but for what its name says of one kind of line; proofs/WrongPanelsFall.antt has where each
--- falls.
+-- Wrong panels: each is ours except for what its name says of one kind of line; proofs/WrongPanelsFall.antt has where
+-- each violates the demand.
 --   hearing_as f     ours, but where a command is under way f takes the reading of the line
 -- Assumes nothing.
 use Rattle.std.specs.Prelude.{ℕ, ◌+◌, not, List, set, ◌++◌, replicate, codes, if◌then◌else◌, Option, Some, None, ◌==◌}
@@ -131,7 +131,7 @@ refuses_what_it_does = record {
   lose = λ p i. where_served with_3 (lost_at p i);
 }
 
--- ---- wrong in what is told of a line
+-- ---- wrong in what is reported of a line
 
 abbrev unread : Outcome → Said → ReadAs
 unread erra_said m = record { outcome = not_a_line; said = m }
@@ -141,7 +141,7 @@ abbrev without_erra : Option HeardAs → Option HeardAs
 without_erra (Some (replies r)) = Some (replies (unread r.outcome r.said))
 without_erra h = h
 
--- the ERRA line is told of as malformed: nobody learns that the password is wrong
+-- the ERRA line is reported as malformed: nobody learns that the password is wrong
 abbrev pub hides_the_wrong_password : AnyPanel
 hides_the_wrong_password = record {
   none = ours_panel.none;
