@@ -50,7 +50,7 @@ pub fn served_calls_can_be_said()
 {}
 
 /// What the recorder writes of these calls, with any headers and stated lines between them, replays as they were: its
-/// bytes say them, and give the same record, replies and history. The rest of it, cut at any byte, replays as a front
+/// bytes say them, and give the same record, replies and history. The rest of it, cut at any byte, replays as a prefix
 /// of the calls.
 pub fn what_is_written_plays_back(form: &[u8])
     ensures whole { (asked : List (Asked × ℕ)) → AreTyped asked → (d : Device) (cs : List Call)
@@ -66,7 +66,7 @@ pub fn what_is_written_plays_back(form: &[u8])
 /// A reader accepts what a host records to its end. The host makes any calls, on any record, and records each served
 /// one; it begins files and states what the record shows at any time; and the recorder has refused none of the calls.
 /// Then each line that it wrote belongs, and a reader who began where the host began has its three numbers, its record
-/// and its replies; and the log replays as the calls were. Cut at any byte, so does a front of the steps.
+/// and its replies; and the log replays as the calls were. Cut at any byte, so does a prefix of the steps.
 pub fn what_a_host_records_is_believed()
     ensures whole { (r : Recorder) (d : Device) (ss : List (HostStep × ℕ)) → r.lines < 2 ^ 32 → r.sum < 2 ^ 32
         → AreTypedSteps ss → AreKept r d ss

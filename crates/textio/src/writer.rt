@@ -52,7 +52,7 @@ fn hand_on<W: ByteSink>(to: &mut W, bytes: &[u8]) -> (usize, io::Result<()>)
     (done, Ok(()))
 }
 
-/// Writes all the bytes; if that fails, the sink has got a front of them.
+/// Writes all the bytes; if that fails, the sink has got a prefix of them.
 pub fn put<W: ByteSink>(to: &mut W, bytes: &[u8]) -> io::Result<()>
     ensures { WritesText W.fails_with (W.contents to.old) (W.contents to.new) result bytes.now }
 {
