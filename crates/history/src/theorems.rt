@@ -16,7 +16,8 @@ pub fn lines_say_what_they_were_written_for()
         → (l ≡ entry_text e) × (is_sayable_entry e ≡ true) }
 {}
 
-/// A log says the entries that it was written for, and the rest of one that was cut, at any byte, says a prefix of them.
+/// A log says the entries that it was written for, and the rest of one that was cut, at any byte, says a prefix of
+/// them.
 pub fn a_log_says_its_entries()
     ensures said { (es : List LogEntry) → Sayable es → entries_in (log_text es) ≡ map Some es }
     ensures whole { (es : List LogEntry) → Sayable es → cut_end [] (log_text es) ≡ [] }
