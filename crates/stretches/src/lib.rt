@@ -10,19 +10,19 @@ ghost use Rattle.stretches.specs.Stretches.{StretchesTell, seconds_lit, stretche
 
 // Nothing is done: that these functions have their contracts is that every log is watched so, and every history told.
 
-/// What is told of a log of the first kind, from any set-up or load that is accepted, is what demand 3's history of it
-/// says (RULES, Floor log).
+/// The report of a log of the first kind, from any accepted set-up or load, is what demand 3's history of it says
+/// (RULES, Floor log).
 pub fn watched_logs_tell_stretches()
     ensures { LogsWatched }
 {}
 
-/// What is told of a log of the second kind that records any calls, at whatever places, from any set-up or load that is
-/// accepted, is what demand 3's history of these calls says (RULES, History of a board).
+/// The report of a log of the second kind that records any calls, at any places, from any accepted set-up or load, is
+/// what demand 3's history of these calls says (RULES, History of a board).
 pub fn recorded_logs_tell_stretches()
     ensures { RecordedWatched }
 {}
 
-/// Over any history, that of no log too, and any marks that it begins with: the stretches of the lamp at place k are
+/// For any history, also that of no log, and any marks that it begins with: the stretches of the lamp at place k are
 /// exactly its seconds, in order and apart, and add up to what it burnt.
 pub fn any_history_tells_its_stretches()
     ensures { (w : Wanted) (marks : List Bool) (k : ℕ) (es : List Event)
