@@ -1,5 +1,5 @@
-// Of which version and kit the archive is, and what its numbers and settings are in words (RULES, The C face). A text
-// is lent as it lies in the archive, with a NUL after it: an exported call returns no pointer, so each fills one.
+// The version and the kit of the archive, and its numbers and settings in words (RULES, The C face). A text stays in
+// the archive, with a NUL after it: an exported call returns no pointer, so each call fills one.
 ghost use Rattle.std.specs.Prelude.{◌≡◌};
 ghost use Rattle.reasons.specs.Reasons.{number_text, setting_text, in_c};
 ghost use Rattle.reasons.specs.About.{face_number, about_text};

@@ -1,5 +1,5 @@
 // The recorder of a board's history (RULES, History of a board): the line of a header, of a call and of what a record
-// shows, into lent memory. What is kept from line to line is the host's, any numbers; it stays where a call is refused.
+// shows, into a buffer. The host keeps the state from line to line, any numbers; it stays if a call is refused.
 ghost use Rattle.std.specs.Prelude.{◌≡◌, ◌≤◌, length, take, Ok};
 ghost use Rattle.text.specs.Words.{over};
 ghost use Rattle.text.specs.Outcomes.{told_written};
@@ -216,7 +216,7 @@ fn unplayed(number: u32) -> Written
     Written { number, length: 0 }
 }
 
-// The memory that a call is lent which is played.
+// The reply memory of a call that is played.
 fn front(reply: &[u8]) -> [u8; REPLY_ROOM]
     requires { reply_room ≤ length reply.now }
     ensures { result ≡ take reply_room reply.now }
@@ -226,7 +226,7 @@ fn front(reply: &[u8]) -> [u8; REPLY_ROOM]
     front
 }
 
-// An entry that stands where the log is. It is made on a copy of the record and of the reply memory, since an opening
+// An entry that belongs at this point of the log. It is made on a copy of the record and of the reply memory, since an opening
 // that gets another place shows that only when it is made.
 #[tactic(auto, using(crate::proofs::Played::unmade_stays, crate::proofs::Played::over_front))]
 fn play_entry(

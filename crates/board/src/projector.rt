@@ -1,4 +1,4 @@
-// The projector's calls on a record that the host lends: it changes where it lies, and what the call says comes back. A
+// The projector's calls in place: each changes the host's record, and returns the rest of its result. A
 // refused call leaves the record as it was; a refused set-up leaves the blank one.
 ghost use Rattle.std.specs.Prelude.{◌≡◌};
 ghost use Rattle.record.specs.Legal.{is_legal};

@@ -1,4 +1,4 @@
-// What the calls on a lent record give, as C has it: an exported call returns no enum, so a refusal is its number.
+// The results of the calls, as C has them: an exported call returns no enum, so a refusal is its number.
 ghost use Rattle.std.specs.Prelude.{◌≡◌};
 ghost use Rattle.device.specs.Outcomes.{receiving_told, opening_told, opened_place};
 ghost use Rattle.board.specs.Results.{receiving_of, opening_of};

@@ -1,5 +1,5 @@
 // The calls of a host that names the connection, and not its place alone (RULES, The C face): a place is closed by time
-// and opened again, and bytes of the socket that stood there before are then none of the new connection's.
+// and opened again, and bytes of its old socket do not belong to the new connection.
 ghost use Rattle.std.specs.Prelude.{◌≡◌, ◌<◌, ◌&&◌};
 ghost use Rattle.text.specs.Rows.{first_of};
 ghost use Rattle.record.specs.Limits.{places_count};

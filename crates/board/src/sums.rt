@@ -1,4 +1,4 @@
-// The digest over any lent bytes.
+// The digest of any bytes.
 ghost use Rattle.std.specs.Prelude.{◌≡◌};
 ghost use Rattle.ours.specs.Board.{ours};
 

@@ -1,5 +1,5 @@
-// The workroom panel's calls (RULES, Panel): on a panel that the host lends, which changes where it lies, and by value,
-// where the panel is given, and the changed one comes back. Those by value are those in place on a copy.
+// The workroom panel's calls (RULES, Panel): in place, on the host's panel, and by value, which take the
+// panel and return the changed one. Those by value are those in place on a copy.
 ghost use Rattle.std.specs.Prelude.{◌≡◌, ◌≤◌, length, Some, None};
 ghost use Rattle.pjlink.specs.Said.{parameter_most};
 ghost use Rattle.text.specs.Words.{over};
@@ -16,7 +16,7 @@ use panel::types::Panel;
 use text::numbered;
 use text::numbered::Numbered;
 
-// What is told of a line that was heard. What it takes of the stack is not there while the line is read.
+// The result for a line that was heard. Not inlined, so that its stack is not in use while the line is read.
 #[inline(never)]
 fn told(heard: &Heard<'_>) -> PanelHeard
     requires { length (heard_bytes (heard_by_code heard.now)) ≤ parameter_most }
@@ -37,7 +37,7 @@ fn told(heard: &Heard<'_>) -> PanelHeard
     }
 }
 
-// Nothing is told of a line that was refused, for the reason that the number says.
+// The result for a line that was refused, with the number of the refusal.
 #[inline(never)]
 fn untold(number: u32) -> PanelHeard
     ensures { result ≡ heard_flat number None }

@@ -123,7 +123,7 @@ fn is_dashed(word: &str) -> bool
     }
 }
 
-// What stands before the first `=`, and what after it.
+// The text before the first `=`, and the text after it.
 fn cut(word: &str) -> (&str, &str)
     ensures before { result.0.now ≡ before_first is_equals word.now }
     ensures after { result.1.now ≡ after_first is_equals word.now }

@@ -1,4 +1,4 @@
-// MD5 of RFC 1321 over lent bytes, and its digests in hex.
+// MD5 of RFC 1321 over any bytes, and its digests in hex.
 #![tactic(auto)]
 
 mod block;

@@ -102,7 +102,7 @@ pub fn read_from<R: Read + Drop>(mut from: R, alloc: Global) -> Result<Begun, No
 {
     let mut bytes = Vec::new(alloc);
     (&mut from).take(ROOM).read_to_end(&mut bytes)?;
-    // a read that fails where these bytes end is told too
+    // a read that fails where these bytes end is reported too
     let mut more = [0u8; 1];
     from.read(&mut more)?;
     loaded(&bytes)

@@ -204,7 +204,7 @@ fn summed(w: &mut Writer<'_>, n: u32, sum: u32)
     w.bytes(&digest::hex8(sum));
 }
 
-// A space and what stands at the end of a line.
+// A space and the last part of a line.
 #[tactic(auto, using(crate::proofs::Writing::steps))]
 fn ending(w: &mut Writer<'_>, s: &[u8])
     requires { w.old.at + 1 + length s.now < 2 ^ 64 }

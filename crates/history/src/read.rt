@@ -237,7 +237,7 @@ fn call_in<'a>(line: &'a [u8], room: &'a mut Bytes) -> Option<Call<'a>>
     }
 }
 
-// Eight hexadecimal digits, and what stands behind them.
+// Eight hexadecimal digits, and what follows them.
 #[tactic(auto, unfolding(crate::specs::Entries::sum_in))]
 fn sum_in(s: &[u8]) -> Option<(u32, &[u8])>
     ensures { option_map rest_seen result ≡ sum_in s.now }
@@ -264,7 +264,7 @@ fn past_word(s: &[u8]) -> &[u8]
     &s[space + 1..]
 }
 
-// A number, a space, a sum, and what stands behind it.
+// A number, a space, a sum, and what follows it.
 #[derive(Clone, Copy)]
 struct Summed<'a> {
     number: u32,

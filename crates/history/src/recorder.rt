@@ -1,5 +1,5 @@
-// The recorder: the line of a header, of a call and of what a record shows, into lent memory, and what is kept for the
-// next one.
+// The recorder: writes the line of a header, of a call or of what a record shows to a buffer, and keeps its state for
+// the next one.
 ghost use Rattle.std.specs.Prelude.{◌≡◌, ◌≤◌, length, true, false};
 ghost use Rattle.std.specs.Result.{is_ok};
 ghost use Rattle.text.specs.Words.{over};

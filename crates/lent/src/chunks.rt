@@ -1,4 +1,4 @@
-// Bytes put into lent memory as the processor takes them, sixteen at once. `text::put` is for what is short, or of a
+// Bytes copied into a buffer as the processor takes them, sixteen at once. `text::put` is for what is short, or of a
 // length that the compiler knows.
 ghost use Rattle.std.specs.Prelude.{◌≡◌, ◌+◌, ◌*◌, ◌/◌, ◌≤◌, length, take, drop};
 ghost use Rattle.std.proofs.lemmas.List.Edits.{sets};

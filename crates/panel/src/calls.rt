@@ -1,5 +1,5 @@
-// The panel's calls, on a panel that is lent (RULES, Panel): each tests it, finds the projector, and works on that
-// one's entry alone. A refused call leaves the panel and the lent memory as they were.
+// The panel's calls, in place (RULES, Panel): each tests the panel, finds the projector, and works on that one's entry
+// alone. A refused call leaves the panel and the buffer as they were.
 ghost use Rattle.std.specs.Prelude.{◌≡◌, ◌≤◌, length, IfOk};
 ghost use Rattle.pjlink.specs.Said.{parameter_most};
 ghost use Rattle.text.specs.Words.{over};

@@ -1,4 +1,4 @@
-// What is shown of a projector: the last power, input and lamps that it told.
+// What is shown of a projector: the power, input and lamps of its last replies.
 ghost use Rattle.std.specs.Prelude.{◌≡◌, ◌≤◌, length};
 ghost use Rattle.pjlink.specs.Said.{power_is, chosen_is, lamps_are};
 ghost use Rattle.pjlink.specs.Carried.{lamps_carried, said_by};

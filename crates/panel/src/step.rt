@@ -1,4 +1,4 @@
-// The step on a lent line, on the entry of the projector that it came from (RULES, Panel).
+// The step on a line, on the entry of the projector that it came from (RULES, Panel).
 ghost use Rattle.std.specs.Prelude.{◌≡◌, ◌+◌, ◌≤◌, min, length};
 ghost use Rattle.pjlink.specs.Said.{parameter_most};
 ghost use Rattle.pjlink.specs.Greetings.{read_greeting};

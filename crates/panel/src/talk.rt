@@ -1,4 +1,4 @@
-// Where the talk with a projector stands: what its numbers mean, what is awaited, and how it begins anew.
+// The state of the connection to a projector: what its numbers mean, what is awaited, and how it begins anew.
 ghost use Rattle.std.specs.Prelude.{◌≡◌};
 ghost use Rattle.panel.specs.Entries.{talk_of, is_secured_talk};
 ghost use Rattle.panel.specs.Stepping.{with_talk};

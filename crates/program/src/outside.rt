@@ -185,7 +185,7 @@ impl System<'_> {
         }
     }
 
-    // The file at that place keeps its mode; the folder is told of the new name.
+    // The file at that place keeps its mode; the folder gets the new name.
     fn replace(&self, file: &File, written: &str, place: &str) -> io::Result<()> {
         if let Ok(found) = fs::metadata(self.rt, place) {
             file.set_permissions(found.permissions())?;

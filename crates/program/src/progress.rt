@@ -1,5 +1,5 @@
-// How far a log is read, for a person at a terminal (RULES, The programs). What is written there goes past the output
-// for errors that `run` is handed, and no contract speaks of it: nothing reads a terminal, and where standard error is
+// How far a log is read, for a person at a terminal (RULES, The programs). What is written there bypasses the output
+// for errors of `run`, and no contract speaks of it: nothing reads a terminal, and where standard error is
 // none, nothing is written.
 use std::io::IsTerminal;
 use std::time::Instant;

@@ -127,7 +127,7 @@ fn unwritten<E: ByteSink>(name: &str, error: &Error, errors: &mut E) -> Status
     Status::Failed
 }
 
-// Why a log was not told to its end.
+// Why a log was not reported to its end.
 #[tactic(auto, using(crate::proofs::SaidSo::said_so))]
 fn failed<E: ByteSink>(failure: &Failure, source: &str, sink: &str, errors: &mut E) -> Status
     ensures status { result ≡ Status.Failed }
@@ -154,7 +154,7 @@ fn shown(name: &str) -> &str
     name
 }
 
-// How a log ended all of which was read, and what is told of it written.
+// How a log ended that was read to its end and reported.
 #[tactic(auto, using(crate::proofs::SaidSo::said_so))]
 fn ended<E: ByteSink>(ending: &Ending, errors: &mut E) -> Status
     ensures status { result ≡ ending_status ending.now }
@@ -171,7 +171,7 @@ fn ended<E: ByteSink>(ending: &Ending, errors: &mut E) -> Status
     Status::Strayed
 }
 
-// The log on standard output. A failure's line stands there too, and in words on standard error.
+// The log on standard output. A failure has its line there too, and words on standard error.
 fn tell_out<P: Telling, O: Opens, W: ByteSink, E: ByteSink>(
     program: &P,
     begun: &Begun,
@@ -236,7 +236,7 @@ fn tell_saved<P: Telling, O: Outside, E: ByteSink>(
     }
 }
 
-// What is told of a form that begins nothing: its words on standard error, and how that went; and, if it is asked for,
+// The report of a form that does not load: its words on standard error, and how that went; and, if it is asked for,
 // its line in the place of an output.
 #[tactic(auto, using(crate::proofs::SaidSo::said_so))]
 fn unbegun<W: ByteSink, E: ByteSink>(
@@ -278,7 +278,7 @@ fn begin_by<O: Outside>(outside: &O, alloc: Global, form: Option<&str>) -> Resul
     }
 }
 
-// Whether a form that begins nothing leaves its line: no page stands for it, and no file.
+// Whether a form that does not load leaves its line: no page is written for it, and no file.
 fn is_lined(command: &Command<'_>) -> bool
     ensures { result ≡ is_lined (asked_seen command.now) }
 {

@@ -1,4 +1,4 @@
-// A chain of files, line by line: what a line says, if it stands where the reader is, and the line made again. The
+// A chain of files, line by line: what a line says, if it belongs where the reader is, and the line made again. The
 // reader keeps the recorder's three numbers.
 ghost use Rattle.std.specs.Prelude.{◌≡◌, [], Ok, Err, Some, None, not, if◌then◌else◌};
 ghost use Rattle.std.specs.Option.{option_map};

@@ -1,4 +1,4 @@
-// One call of a history, made again. The record is lent with what its one test said; only the host's calls test it
+// One call of a history, made again. The record comes with the result of its one test; only the host's calls test it
 // again.
 ghost use Rattle.std.specs.Prelude.{◌≡◌, ◌==◌, true};
 ghost use Rattle.text.specs.Words.{over};

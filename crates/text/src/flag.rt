@@ -1,5 +1,5 @@
-// A flag of a record that a host keeps: a byte, so that any byte there is a value, and legality tells (RULES, The legal
-// record).
+// A flag of a record that a host keeps: a byte, so that any byte there is a value, and legality tests it (RULES, The
+// legal record).
 ghost use Rattle.std.specs.Prelude.{◌≡◌, map};
 ghost use Rattle.std.specs.List.{list_all};
 ghost use Rattle.text.specs.Flags.{is_flag, is_raised, flag_of};

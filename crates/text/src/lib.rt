@@ -1,5 +1,4 @@
-// Text in memory: put into lent bytes, compared, and searched for a byte; and arrays of which so many places are used,
-// and flags.
+// Bytes in memory: copied into a buffer, compared, and searched for a byte; arrays with a count of used places; flags.
 #![tactic(auto)]
 
 pub mod flag;

@@ -1,4 +1,4 @@
-// Why a call can't be served, told to a host by a number (RULES, The numbers a call gives).
+// Why a call is refused, and the number that a host gets for it (RULES, The numbers a call gives).
 ghost use Rattle.std.specs.Prelude.{◌≡◌, ◌≢◌, ℕ, IfErr};
 ghost use Rattle.text.specs.Outcomes.{outcome_number};
 

@@ -36,7 +36,7 @@ pub fn fill<W: ByteSink>(to: &mut W, form: &str, numbers: &[u64]) -> io::Result<
     }
 }
 
-// What stands before the first `#`, and what after it.
+// The text before the first `#`, and the text after it.
 fn cut(form: &str) -> (&str, &str)
     ensures before { result.0.now ≡ before_first is_gap form.now }
     ensures after { result.1.now ≡ after_first is_gap form.now }

@@ -1,4 +1,4 @@
-// The lines of a log, one at a time, in lent memory.
+// The lines of a log, one at a time, in the caller's buffer.
 ghost use Rattle.std.specs.Prelude.{[], ◌≡◌, ◌≤◌, ◌<◌, length, OnErr, OnOk, IfOk, IfErr, IfSome};
 ghost use Rattle.std.specs.Io.KnownBytes.{Keeps};
 ghost use Rattle.textio.specs.Lines.{HasEndlessLine};

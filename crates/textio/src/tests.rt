@@ -1,5 +1,5 @@
 // What no clause says of std's streams: that a call which a signal interrupts is made again, that a write which takes
-// nothing fails, and that a flush is handed on. Which errors std's streams give, and what waits in them, is not known.
+// nothing fails, and that a flush is passed on. Which errors std's streams give, and what waits in them, is not known.
 
 use crate::reader::ByteSource;
 use crate::streams::Stream;

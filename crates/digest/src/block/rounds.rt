@@ -34,7 +34,7 @@ fn function(i: u32, b: u32, c: u32, d: u32) -> (u32, u32)
     (early, late)
 }
 
-// Where operation i's sum stands.
+// The place of operation i's sum.
 #[tactic(auto, using(crate::proofs::Tables::word_number_by_formula), unfolding(crate::specs::Sums::operation_place))]
 fn place(i: u32) -> u32
     requires { i < 64 }
@@ -69,7 +69,7 @@ static CONSTANTS: [u32; 64] = [
     0x6fa87e4f, 0xeb86d391, 0xffeff47d, 0xbd3af235, 0x655b59c3, 0x4e0811a1, 0xab9423a7, 0xfe2ce6e0,
 ];
 
-// Each constant stands at its operation's place.
+// Each constant is at its operation's place.
 fn constants() -> &'static [u32; 64]
     ensures { AreConstants result.now }
 {
