@@ -226,7 +226,7 @@ fn front(reply: &[u8]) -> [u8; REPLY_ROOM]
     front
 }
 
-// An entry that belongs at this point of the log. It is made on a copy of the record and of the reply memory, since only
+// An entry that belongs at this point of the log. It is made on a copy of the record and of the reply memory: only
 // making an opening shows that it gets another place.
 #[tactic(auto, using(crate::proofs::Played::unmade_stays, crate::proofs::Played::over_front))]
 fn play_entry(
