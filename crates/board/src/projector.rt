@@ -3,7 +3,6 @@
 ghost use Rattle.std.specs.Prelude.{◌≡◌};
 ghost use Rattle.record.specs.Legal.{is_legal};
 ghost use Rattle.record.specs.Wanted.{wanted_of, wanted_of_2, names_in};
-ghost use Rattle.setup.specs.Lent.{wanted_settings};
 ghost use Rattle.ours.specs.Board.{ours};
 ghost use Rattle.ours.specs.Tied.{lent_told};
 ghost use Rattle.board.specs.Results.{receiving_of, opening_of};
@@ -12,16 +11,8 @@ use crate::results::{Opening, Receiving};
 use clock::pass;
 use device::calls;
 use record::types::Device;
-use setup::wanted::{Class, Names, Wanted};
+use setup::wanted::Wanted;
 use text::numbered;
-
-/// Sets the host's record up, and tells the number: where it is refused, the record is the blank one.
-pub fn set_up_in(device: &mut Device, wanted: &Wanted<'_>) -> u32
-    ensures number { result ≡ (ours.set_up (wanted_settings wanted.now)).number }
-    ensures device { device.new ≡ (ours.set_up (wanted_settings wanted.now)).device }
-{
-    numbered::number_of(setup::set_up_in(device, wanted))
-}
 
 /// Set-up of Class 1 into the record: 3, then 8.
 #[unsafe(no_mangle)]
@@ -42,22 +33,10 @@ pub extern "C" fn pj_set_up_in_place<'a>(
     ensures device { device.new ≡ (ours.set_up (wanted_of name.now maker.now model.now other.now password.now
         inputs.now lamps.now warm cool)).device }
 {
-    let class = Class::One;
-    set_up_in(
-        device,
-        &Wanted {
-            name,
-            maker,
-            model,
-            other,
-            password,
-            inputs,
-            lamps,
-            warm,
-            cool,
-            class,
-        },
-    )
+    let wanted = Wanted::of_class_1(
+        name, maker, model, other, password, inputs, lamps, warm, cool,
+    );
+    numbered::number_of(setup::set_up_in(device, &wanted))
 }
 
 /// Set-up of Class 2 into the record: the names one after the other, each of its length. 3, then 8.
@@ -83,29 +62,11 @@ pub extern "C" fn pj_set_up_2_in_place<'a>(
     ensures device { device.new ≡ (ours.set_up (wanted_of_2 name.now maker.now model.now other.now password.now
         inputs.now lamps.now warm cool serial.now version.now (names_in lengths.now names.now))).device }
 {
-    let class = Class::Two {
-        serial,
-        version,
-        names: Names::Row {
-            bytes: names,
-            lengths,
-        },
-    };
-    set_up_in(
-        device,
-        &Wanted {
-            name,
-            maker,
-            model,
-            other,
-            password,
-            inputs,
-            lamps,
-            warm,
-            cool,
-            class,
-        },
+    let wanted = Wanted::of_class_1(
+        name, maker, model, other, password, inputs, lamps, warm, cool,
     )
+    .in_class_2(serial, version, names, lengths);
+    numbered::number_of(setup::set_up_in(device, &wanted))
 }
 
 /// Whether the record is legal.

@@ -7,8 +7,7 @@ use Rattle.std.proofs.Math.Seq.{take-append_seam}
 use Rattle.text.proofs.InTurn.{turns_snoc}
 use Rattle.record.specs.Wanted.{counted_in}
 use Rattle.record.proofs.CountedNames.{counted_none, counted_first, counted_many}
-use Rattle.stored.specs.Form.{text_section, texts_bytes}
-use Rattle.stored.specs.Reading.{text, texts}
+use Rattle.stored.specs.Sections.{text_section, texts_bytes, text, texts}
 use Rattle.stored.proofs.Fields.{text_form, texts_form, text_spelled}
 
 counted_back : (ts : List (List ℕ)) (rest : List ℕ) → counted_in (length ts) (texts_bytes ts ++ rest) ≡ ts

@@ -2,7 +2,7 @@
 // bytes end before the field does, they are cut short, and the reader is not used again.
 ghost use Rattle.std.specs.Prelude.{◌≡◌, ◌*◌, ◌==◌, ◌≤◌, IfOk, Ok, Err, if◌then◌else◌, length};
 ghost use Rattle.record.specs.Wanted.{counted_in};
-ghost use Rattle.stored.specs.Reading.{byte, bytes, number, section_of, text, texts};
+ghost use Rattle.stored.specs.Sections.{byte, bytes, number, section_of, text, texts};
 ghost use Rattle.stored.specs.Reads.{Reads};
 ghost use Rattle.stored.specs.declared.error.LoadError.TheVariants.{LeftOver};
 
@@ -43,7 +43,7 @@ impl<'a> Reader<'a> {
     }
 
     /// One byte.
-    #[tactic(auto, unfolding(crate::specs::Reading::byte))]
+    #[tactic(auto, unfolding(crate::specs::Sections::byte))]
     pub fn byte(&mut self) -> Result<u8, LoadError>
         ensures { Reads (λ b. b) result self.new (byte self.old) }
     {
@@ -57,7 +57,7 @@ impl<'a> Reader<'a> {
     }
 
     /// So many bytes.
-    #[tactic(auto, unfolding(crate::specs::Reading::bytes))]
+    #[tactic(auto, unfolding(crate::specs::Sections::bytes))]
     pub fn bytes(&mut self, n: usize) -> Result<&'a [u8], LoadError>
         ensures read { Reads (λ s. s.now) result self.new (bytes n self.old) }
         ensures long { IfOk result (λ s. length s.now ≡ n) }
@@ -71,7 +71,7 @@ impl<'a> Reader<'a> {
     }
 
     /// A number of two bytes, the highest first.
-    #[tactic(auto, unfolding(crate::specs::Reading::number))]
+    #[tactic(auto, unfolding(crate::specs::Sections::number))]
     pub fn number(&mut self) -> Result<u32, LoadError>
         ensures { Reads (λ n. n) result self.new (number 2 self.old) }
     {
@@ -80,7 +80,7 @@ impl<'a> Reader<'a> {
     }
 
     /// Items of so many bytes each, at most 4, after their count.
-    #[tactic(auto, unfolding(crate::specs::Reading::section_of))]
+    #[tactic(auto, unfolding(crate::specs::Sections::section_of))]
     pub fn section(&mut self, width: usize) -> Result<&'a [u8], LoadError>
         requires { width ≤ 4 }
         ensures read { Reads (λ s. s.now) result self.new (section_of width self.old) }

@@ -1,6 +1,6 @@
 -- The texts that have been read stand before what is left.
 use Rattle.std.proofs.Common.{ℕ, ◌-◌, List, length, sym, ap, subst, ◌∙◌, arith}
-use Rattle.stored.specs.Reading.{texts}
+use Rattle.stored.specs.Sections.{texts}
 use Rattle.stored.proofs.TextsRead.{TextsRead, none_read, all_read}
 use Rattle.stored.proofs.reader.Reader.texts.Goals as goal
 
