@@ -2,7 +2,7 @@
 -- they load. So those of the newest, stored again, are the same bytes; those of the old one become the newest form of
 -- the same, each lamp enabled; and no two byte strings of one version load as one record.
 -- Assumes nothing.
-use Rattle.std.proofs.Common.{ℕ, ◌≡◌, true, List, [], length, map, replicate, sym, ap, ◌∙◌, arith}
+use Rattle.std.proofs.Common.{ℕ, ◌≡◌, Bool, true, List, [], length, map, replicate, refl, sym, ap, ◌∙◌, arith}
 use Rattle.std.proofs.Common.{append-nil}
 use Rattle.std.proofs.lemmas.List.{length-map}
 use Rattle.words.specs.Bytes.{◌at◌}
@@ -11,7 +11,8 @@ use Rattle.record.specs.declared.types.Device.{Device}
 use Rattle.record.specs.Given.{Given}
 use Rattle.text.specs.Flags.{is_raised}
 use Rattle.text.proofs.FlagsTold.{flags_replicate, flags_told, flags_again}
-use Rattle.stored.specs.Form.{form_bytes, form_version, old_version, version_form, stored_of, marks_stored, stored_form}
+use Rattle.stored.specs.Form.{form_bytes, form_version, old_version, version_form, old_form_of, stored_of}
+use Rattle.stored.specs.Form.{marks_stored, stored_form}
 use Rattle.stored.specs.Loading.{said_in, settings_in, mark_bytes_in, marks_read, started_with, loaded_from}
 use Rattle.stored.proofs.Marks.{AreMarks, marks_are}
 use Rattle.stored.proofs.Results.{IsAccepted, accepted_told, accepted_set_up}
@@ -57,6 +58,11 @@ module _ (s : List ℕ) (e : (loaded_from s).number ≡ 0) where
 
   pub stored_again : Bytes s → s at 0 ≡ form_version → stored_form d ≡ s
   stored_again b o = ap (λ (v : ℕ). version_form v (stored_of d) (marks_stored d)) (sym o) ∙ stored_as_it_was b
+
+-- the oldest has no marks
+pub old_unmarked : (w : Wanted) (ms : List Bool) → version_form old_version w ms ≡ old_form_of w
+unfolding form_bytes
+old_unmarked w ms = refl
 
 -- each lamp of an old form is enabled
 pub old_enabled : (s : List ℕ) (e : (loaded_from s).number ≡ 0) → s at 0 ≡ old_version

@@ -6,7 +6,7 @@
 -- count (RULES, Class 2). `parts` lists what a form has: by this list it is written, and by this list it is read.
 --   form_version               the version byte of the newest form. Still loaded: marked_version, which has marks and
 --                              no class; old_version, which has neither
---   FormSaid                   what a form says: the settings, the lamps' seconds among them, and the bytes of the marks
+--   FormSaid                   what a form says: the settings, the lamps' seconds among them, and the bytes of marks
 --   Part                       a part of a form: what is written of it where so much is said, and how it is read after
 --                              what was said before it
 --   part f get set             the value that `get` has of what is said, and that `set` adds to it, in the format f;
