@@ -21,15 +21,17 @@ use history::shown;
 use record::legality::Tested;
 use record::refusal::Refusal;
 use record::types::Device;
+use std::error::Error;
+use std::fmt;
 
 /// Why a line does not belong to the history of a record.
-#[derive(Clone, Copy)]
+#[derive(Clone, Copy, Debug, PartialEq, Eq)]
 pub enum Why {
     /// No LF ends it.
     Unended,
     /// It says nothing: it is not one that a recorder writes.
     SaysNothing,
-    /// It is the header of another file than the next, or stands before the first header.
+    /// It is not the next file than the next, or stands before the first header.
     OtherFile,
     /// It has another sum than all that came before it.
     OtherSum,
@@ -42,6 +44,23 @@ pub enum Why {
     /// It is a call that is refused.
     Refused(Refusal),
 }
+
+impl fmt::Display for Why {
+    fn fmt<W: fmt::Write>(&self, f: &mut fmt::Formatter<W>) -> fmt::Result {
+        match self {
+            Why::Unended => f.write_str("no line end"),
+            Why::SaysNothing => f.write_str("no such line"),
+            Why::OtherFile => f.write_str("not the next file"),
+            Why::OtherSum => f.write_str("another sum"),
+            Why::OtherCount => f.write_str("another count of lines"),
+            Why::OtherState => f.write_str("the record shows something else"),
+            Why::OtherPlace => f.write_str("another place was opened"),
+            Why::Refused(refusal) => write!(f, "{refusal}"),
+        }
+    }
+}
+
+impl Error for Why {}
 
 fn shows(device: &Device, text: &[u8]) -> bool
     ensures { result ≡ same_by itself text.now (device_shown device.now) }
@@ -148,7 +167,7 @@ fn stray(stray: Stray) -> Why
 /// Makes again what a line says, as [`entry`] gave it there: a call is made, and the line, which is given without its
 /// LF, is counted and added to the sum. Returns the length of the reply, which fills the start of the memory; 0 for a
 /// header or a stated line. Errors: `Refused` with why a call is refused, which leaves all as it was; `OtherPlace` for
-/// an opening that gets another place than its line says: the record is then as the opening left it, the reply in the
+/// another place was opened than its line says: the record is then as the opening left it, the reply in the
 /// memory, and the three numbers as they were.
 #[tactic(auto, using(crate::proofs::Chained::stands_follow))]
 pub fn make(
