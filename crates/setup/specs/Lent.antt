@@ -27,7 +27,7 @@ version_of (Two serial version names) = version.now
 
 abbrev pub names_lent : Names → List (List ℕ)
 names_lent (Row bytes lengths) = names_in lengths.now bytes.now
-names_lent (Counted bytes count) = counted_in count bytes.now
+names_lent (Counted names) = counted_in names.count names.bytes.now
 
 abbrev pub names_of : Class → List (List ℕ)
 names_of One = []

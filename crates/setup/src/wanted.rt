@@ -8,6 +8,7 @@ ghost use Rattle.record.specs.Wanted.{wanted_of, names_in};
 ghost use Rattle.setup.specs.Lent.{wanted_settings, class_number, serial_of, version_of, names_lent, names_of};
 ghost use Rattle.setup.specs.Lent.{with_class_2};
 
+use crate::names::CountedNames;
 use record::set_up_error::SetUpError;
 use record::types::Setting;
 use record::{inputs, names, own, settings};
@@ -21,11 +22,8 @@ pub enum Names<'a> {
         bytes: &'a [u8],
         lengths: &'a [usize],
     },
-    /// So many, one after the other, each after its length in one byte (RULES, Stored form).
-    Counted {
-        bytes: &'a [u8],
-        count: usize,
-    },
+    /// As a stored form has them (RULES, Stored form).
+    Counted(CountedNames<'a>),
 }
 
 /// The class of a projector, with what it alone has (RULES, Class 2).
@@ -79,7 +77,7 @@ impl<'a> Names<'a> {
     {
         match *self {
             Names::Row { bytes, lengths } => names::names_fit(class, inputs, bytes, lengths),
-            Names::Counted { bytes, count } => names::counted_fit(class, inputs, bytes, count),
+            Names::Counted(names) => names.fit(class, inputs),
         }
     }
 }

@@ -112,11 +112,7 @@ impl<'a> Reader<'a> {
     {
         form.serial = self.text()?;
         form.version = self.text()?;
-        let count = form.inputs.len() / 2;
-        form.names = Names::Counted {
-            bytes: self.texts(count)?,
-            count,
-        };
+        form.names = Names::Counted(self.names(form.inputs.len() / 2)?);
         Ok(())
     }
 

@@ -8,7 +8,9 @@ ghost use Rattle.stored.specs.declared.error.LoadError.TheVariants.{LeftOver};
 
 use crate::error::LoadError;
 use numbers::highest;
+use setup::names::CountedNames;
 use std::marker::Model;
+use words::texts;
 
 /// The bytes that are left to read.
 #[derive(Drop)]
@@ -98,15 +100,21 @@ impl<'a> Reader<'a> {
         self.section(1)
     }
 
-    /// So many texts, one after the other, each with its count before it.
+    /// So many names of inputs, one after the other, each with its count before it.
     #[tactic(auto, using(crate::proofs::TextsRead::texts_read))]
-    pub fn texts(&mut self, n: usize) -> Result<&'a [u8], LoadError>
-        ensures { Reads (λ s. counted_in n s.now) result self.new (texts n self.old) }
+    pub fn names(&mut self, n: usize) -> Result<CountedNames<'a>, LoadError>
+        ensures { Reads (λ s. counted_in s.count s.bytes.now) result self.new (texts n self.old) }
     {
         let whole = self.rest;
+        let mut each_named = true;
         for _ in 0..n {
-            self.text()?;
+            let name = self.text()?;
+            each_named = each_named & texts::is_input_name(name);
         }
-        Ok(&whole[..whole.len() - self.rest.len()])
+        Ok(CountedNames {
+            bytes: &whole[..whole.len() - self.rest.len()],
+            count: n,
+            each_named,
+        })
     }
 }

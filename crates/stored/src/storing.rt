@@ -17,8 +17,8 @@ use record::types::Device;
 /// The newest version, which is written: it has a class (RULES, Class 2).
 pub const VERSION: u8 = 3;
 
-// No form is longer, so memory that has room for it is not measured.
-const FORM_MOST: usize = 4504;
+/// No form of a record is longer: memory that has room for so many bytes is not measured.
+pub const FORM_MOST: usize = 4504;
 
 // The class, and what Class 2 alone has.
 fn class_part(w: &mut Writer<'_>, d: &Device)
@@ -69,9 +69,9 @@ fn form_length(d: &Device) -> usize
     counting.count()
 }
 
-// The form of a legal record from the start of memory that has room for it, and its length.
+/// The form of a legal record, from the start of memory that has room for it; its length.
 #[tactic(auto, using(lent::proofs::Writing::written_over))]
-fn put_form(d: &Device, out: &mut [u8]) -> usize
+pub fn put_form(d: &Device, out: &mut [u8]) -> usize
     requires legal { IsLegal d.now }
     requires fits { length (stored_form d.now) ≤ length out.old }
     ensures count { result ≡ length (stored_form d.now) }
