@@ -3,7 +3,6 @@
 ghost use Rattle.std.specs.Prelude.{◌≡◌};
 ghost use Rattle.record.specs.Legal.{is_legal};
 ghost use Rattle.record.specs.Wanted.{wanted_of, wanted_of_2, names_in};
-ghost use Rattle.setup.specs.Lent.{wanted_settings};
 ghost use Rattle.ours.specs.Board.{ours};
 ghost use Rattle.ours.specs.Tied.{lent_told};
 ghost use Rattle.board.specs.Results.{receiving_of, opening_of};
@@ -12,16 +11,8 @@ use crate::results::{Opening, Receiving};
 use clock::pass;
 use device::calls;
 use record::types::Device;
-use setup::wanted::{Class, Names, Wanted};
+use setup::wanted::Wanted;
 use text::numbered;
-
-/// Sets up the host's record, and returns the number: 0, 3 or 8. If it is refused, the record is the blank one.
-pub fn set_up_in(device: &mut Device, wanted: &Wanted<'_>) -> u32
-    ensures number { result ≡ (ours.set_up (wanted_settings wanted.now)).number }
-    ensures device { device.new ≡ (ours.set_up (wanted_settings wanted.now)).device }
-{
-    numbered::number_of(setup::set_up_in(device, wanted))
-}
 
 /// Sets up a Class 1 projector in the record. Errors, in this order, with the blank record: 3, 8.
 #[unsafe(no_mangle)]
@@ -42,22 +33,10 @@ pub extern "C" fn pj_set_up_in_place<'a>(
     ensures device { device.new ≡ (ours.set_up (wanted_of name.now maker.now model.now other.now password.now
         inputs.now lamps.now warm cool)).device }
 {
-    let class = Class::One;
-    set_up_in(
-        device,
-        &Wanted {
-            name,
-            maker,
-            model,
-            other,
-            password,
-            inputs,
-            lamps,
-            warm,
-            cool,
-            class,
-        },
-    )
+    let wanted = Wanted::of_class_1(
+        name, maker, model, other, password, inputs, lamps, warm, cool,
+    );
+    numbered::number_of(setup::set_up_in(device, &wanted))
 }
 
 /// Sets up a Class 2 projector in the record. The inputs' names come one after the other, each of its length. Errors,
@@ -84,29 +63,11 @@ pub extern "C" fn pj_set_up_2_in_place<'a>(
     ensures device { device.new ≡ (ours.set_up (wanted_of_2 name.now maker.now model.now other.now password.now
         inputs.now lamps.now warm cool serial.now version.now (names_in lengths.now names.now))).device }
 {
-    let class = Class::Two {
-        serial,
-        version,
-        names: Names::Row {
-            bytes: names,
-            lengths,
-        },
-    };
-    set_up_in(
-        device,
-        &Wanted {
-            name,
-            maker,
-            model,
-            other,
-            password,
-            inputs,
-            lamps,
-            warm,
-            cool,
-            class,
-        },
+    let wanted = Wanted::of_class_1(
+        name, maker, model, other, password, inputs, lamps, warm, cool,
     )
+    .in_class_2(serial, version, names, lengths);
+    numbered::number_of(setup::set_up_in(device, &wanted))
 }
 
 /// Returns whether the record is legal. Refuses nothing.

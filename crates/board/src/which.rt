@@ -6,7 +6,7 @@ ghost use Rattle.record.specs.SetUpErrors.{setting_told};
 ghost use Rattle.board.specs.Which.{setting_number};
 
 use record::set_up_error::SetUpError;
-use setup::wanted::{Class, Names, Wanted};
+use setup::wanted::Wanted;
 
 // The setting for which it refuses, or 0.
 fn number_of(checked: Result<(), SetUpError>) -> u32
@@ -36,19 +36,9 @@ pub extern "C" fn pj_which_setting<'a>(
     ensures { result ≡ setting_number (setting_told (set_up (wanted_of name.now maker.now model.now
         other.now password.now inputs.now lamps.now warm cool))) }
 {
-    let class = Class::One;
-    let wanted = Wanted {
-        name,
-        maker,
-        model,
-        other,
-        password,
-        inputs,
-        lamps,
-        warm,
-        cool,
-        class,
-    };
+    let wanted = Wanted::of_class_1(
+        name, maker, model, other, password, inputs, lamps, warm, cool,
+    );
     number_of(wanted.check())
 }
 
@@ -75,25 +65,9 @@ pub extern "C" fn pj_which_setting_2<'a>(
         other.now password.now inputs.now lamps.now warm cool serial.now
         version.now (names_in lengths.now names.now)))) }
 {
-    let class = Class::Two {
-        serial,
-        version,
-        names: Names::Row {
-            bytes: names,
-            lengths,
-        },
-    };
-    let wanted = Wanted {
-        name,
-        maker,
-        model,
-        other,
-        password,
-        inputs,
-        lamps,
-        warm,
-        cool,
-        class,
-    };
+    let wanted = Wanted::of_class_1(
+        name, maker, model, other, password, inputs, lamps, warm, cool,
+    )
+    .in_class_2(serial, version, names, lengths);
     number_of(wanted.check())
 }

@@ -6,6 +6,9 @@ ghost use Rattle.controller.specs.Reading.{outcome_of, reading_outcome_number, r
 use pjlink::answer::Reply;
 use pjlink::command::Command;
 use pjlink::{form, greeting, reply};
+use reasons::numbers;
+use std::error::Error;
+use std::fmt;
 use text::numbered::Numbered;
 
 /// What a line says.
@@ -18,7 +21,7 @@ pub enum Reading<'a> {
 }
 
 /// Why a line says nothing to a command (RULES, The numbers a call gives).
-#[derive(Clone, Copy)]
+#[derive(Clone, Copy, Debug, PartialEq, Eq)]
 pub enum Misread {
     /// 10: it does not have the form of a reply of the command's class.
     NotALine,
@@ -41,6 +44,15 @@ impl Numbered for Misread {
         }
     }
 }
+
+/// What its number says.
+impl fmt::Display for Misread {
+    fn fmt<W: fmt::Write>(&self, f: &mut fmt::Formatter<W>) -> fmt::Result {
+        f.write_str(numbers::number_text(self.number()))
+    }
+}
+
+impl Error for Misread {}
 
 /// Reads what a line, with its CR, says to the command. Tests, in this order: the ERRA line; the form, else `NotALine`;
 /// the body, else `OtherCommand`; the parameter, else `NotAllowed` (RULES, Controller).

@@ -6,6 +6,9 @@ ghost use Rattle.text.specs.Outcomes.{told_written, written_told};
 ghost use Rattle.controller.specs.Writing.{is_writable, led_by, written_command, unwritten_number};
 
 use pjlink::command::Command;
+use reasons::numbers;
+use std::error::Error;
+use std::fmt;
 use text::numbered::Numbered;
 use words::codec::Line;
 use words::{codec, texts};
@@ -14,7 +17,7 @@ use words::{codec, texts};
 pub const COMMAND_ROOM: usize = 168;
 
 /// Why a command is not written. The buffer is then as it was.
-#[derive(Clone, Copy)]
+#[derive(Clone, Copy, Debug, PartialEq, Eq)]
 pub enum Unwritten {
     /// 2: the buffer is too short for a command's line.
     NoRoom,
@@ -34,6 +37,15 @@ impl Numbered for Unwritten {
         }
     }
 }
+
+/// What its number says.
+impl fmt::Display for Unwritten {
+    fn fmt<W: fmt::Write>(&self, f: &mut fmt::Formatter<W>) -> fmt::Result {
+        f.write_str(numbers::number_text(self.number()))
+    }
+}
+
+impl Error for Unwritten {}
 
 // The command's line can be written, and a digest is asked for of a legal password.
 fn is_writable(c: Command, secured: bool, password: &[u8]) -> bool

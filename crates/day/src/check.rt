@@ -7,6 +7,8 @@ ghost use Rattle.day.specs.Verdicts.{IsLowestSpent};
 ghost use Rattle.day.specs.Verdicts.{VerdictHolds};
 
 use crate::{JOBS_MOST, Placement, RIGS_MOST, Rig, are_rigs};
+use std::error::Error;
+use std::fmt;
 
 /// Why a plan is not accepted: it is out of its ranges, or the first rule that it breaks, with the lowest job or rig
 /// concerned. Jobs are numbered from 0, in the order of the plan.
@@ -23,6 +25,25 @@ pub enum CheckError {
     /// The rig burns more than it has left.
     Spent { rig: usize },
 }
+
+impl fmt::Display for CheckError {
+    fn fmt<W: fmt::Write>(&self, f: &mut fmt::Formatter<W>) -> fmt::Result {
+        match self {
+            CheckError::OutOfRange => f.write_str(
+                "no day: too many jobs or rigs, or one out of its ranges",
+            ),
+            CheckError::NoRig { job } => write!(f, "job {job}: no such rig, or not allowed"),
+            CheckError::TooEarly { job } => write!(f, "job {job}: starts before its rig is warm"),
+            CheckError::Clash { job, other } => write!(
+                f,
+                "jobs {job} and {other}: on one rig at once"
+            ),
+            CheckError::Spent { rig } => write!(f, "rig {rig}: burns more than it has left"),
+        }
+    }
+}
+
+impl Error for CheckError {}
 
 fn are_jobs(plan: &[Placement]) -> bool
     ensures { IsTrue result ↔ All (λ p. IsJob p.job) plan.now }

@@ -7,6 +7,8 @@ ghost use Rattle.day.specs.Plans.{IsLowestRig, FindsNone, PlanHolds};
 
 use crate::check::burnt_on;
 use crate::{JOBS_MOST, Job, Placement, RIGS_MOST, Rig, are_rigs, rig_at};
+use std::error::Error;
+use std::fmt;
 use std::marker::Model;
 
 /// Why jobs are not planned.
@@ -17,6 +19,19 @@ pub enum PlanError {
     /// The first job that finds no rig.
     NoRig { job: usize },
 }
+
+impl fmt::Display for PlanError {
+    fn fmt<W: fmt::Write>(&self, f: &mut fmt::Formatter<W>) -> fmt::Result {
+        match self {
+            PlanError::OutOfRange => f.write_str(
+                "no day: too many jobs or rigs, or one out of its ranges",
+            ),
+            PlanError::NoRig { job } => write!(f, "job {job}: finds no rig"),
+        }
+    }
+}
+
+impl Error for PlanError {}
 
 /// Jobs that are placed, in their order.
 #[derive(Drop)]

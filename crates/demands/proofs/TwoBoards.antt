@@ -30,7 +30,7 @@ use Rattle.stored.specs.Form.{stored_of, marks_stored, stored_form}
 use Rattle.stored.specs.Loading.{is_other_version}
 use Rattle.stored.proofs.Fields.{bytes_all}
 use Rattle.stored.proofs.FormsLoad.{stored_in_range}
-use Rattle.stored.proofs.OneForm.{stored_as_it_was}
+use Rattle.stored.proofs.OneForm.{stored_as_it_was, old_unmarked}
 use Rattle.stored.proofs.Results.{accepted_told}
 use Rattle.device.specs.Calls.{Result, reply_room, new_connection}
 use Rattle.device.proofs.Cases.{received_by}
@@ -467,7 +467,8 @@ module _ {R : Type 0} (B : Board R) (k : MeetsDemands B) (s : List ℕ) (bytes :
     oldest : s at 0 ≡ old_version → e ≡ f
     oldest v =
         let w = stored_of f in
-        let form : s ≡ old_form_of w = sym as_it_was ∙ ap (λ (n : ℕ). version_form n w (marks_stored f)) v in
+        let form : s ≡ old_form_of w
+        = sym as_it_was ∙ ap (λ (n : ℕ). version_form n w (marks_stored f)) v ∙ old_unmarked w (marks_stored f) in
         let h = of_class_1 (λ n. omega (arith, v, n)) in
         ap (λ (t : List ℕ). B.shows (B.load t).device) form
         ∙ ap (λ (g : Given R). B.shows g.device) (k.survives_a_swap.old_form_sets_up w h)

@@ -28,35 +28,21 @@ ghost use Rattle.floorlog.specs.Replaying.{IsReplayed, IsPlayedSoFar};
 
 use crate::playing::Player;
 use record::types::Device;
-use setup::wanted::{Class, Wanted};
+use setup::wanted::Wanted;
 use textio::lines::Failure;
 use textio::reader::{ByteSource, Reader};
 use textio::writer::ByteSink;
 
 /// The sample set-up, every place closed.
-#[tactic(auto, unfolding(crate::specs::Playing::sample_device), using(crate::proofs::Samples::sample_is_legal))]
+#[tactic(auto, unfolding(crate::specs::Playing::sample_device), using(crate::proofs::Samples::sample))]
 pub fn sample() -> Device
     ensures sample { result ≡ sample_device }
     ensures legal { is_legal result ≡ true }
 {
-    let lamps = [0u32; 1];
-    let class = Class::One;
-    let wanted = Wanted {
-        name: b"",
-        maker: b"",
-        model: b"",
-        other: b"",
-        password: b"",
-        inputs: b"11",
-        lamps: &lamps,
-        warm: 20,
-        cool: 60,
-        class,
-    };
-    match setup::set_up(&wanted) {
-        Ok(device) => device,
-        Err(_) => record::fresh::blank(),
-    }
+    let wanted = Wanted::of_class_1(b"", b"", b"", b"", b"", b"11", &[0], 20, 60);
+    let mut device = record::fresh::blank();
+    setup::start_in(&mut device, &wanted);
+    device
 }
 
 /// The log that a reader has left, played from a device, which need not be legal; what its lines are answered, and the

@@ -16,17 +16,16 @@ ghost use Rattle.formfile.specs.Begun.{IsBegun, form_room, IsBegunBy, IsReadBy};
 use crc32::crc32;
 use record::types::Device;
 use std::alloc::Global;
+use std::fmt;
 use std::fs::File;
 use std::io::{Error, Read};
 use stored::error::LoadError;
+use stored::storing::FORM_MOST;
 use stored::{loading, storing};
 
 // A byte more than the longest form that its counts, a byte each, can ask for, legal or not: a file that fills this has
 // bytes left over.
 const ROOM: u64 = 68867;
-
-// No form of a record is longer.
-const FORM_MOST: usize = 4504;
 
 /// What a log begins with.
 #[derive(Drop)]
@@ -38,13 +37,24 @@ pub struct Begun {
 }
 
 /// Why there is no device to begin with.
-#[derive(Drop)]
+#[derive(Debug, Drop)]
 pub enum NotBegun {
     /// The form could not be read to its end.
     Unread(Error),
     /// The form does not load.
     Refused(LoadError),
 }
+
+impl fmt::Display for NotBegun {
+    fn fmt<W: fmt::Write>(&self, f: &mut fmt::Formatter<W>) -> fmt::Result {
+        match self {
+            NotBegun::Unread(error) => write!(f, "the form is not read: {error}"),
+            NotBegun::Refused(error) => write!(f, "{error}"),
+        }
+    }
+}
+
+impl std::error::Error for NotBegun {}
 
 impl From<Error> for NotBegun {
     ghost use Rattle.formfile.specs.declared.NotBegun.TheVariants.{Unread};
@@ -57,15 +67,14 @@ impl From<Error> for NotBegun {
 }
 
 // The sum of the form that is stored of a legal record.
+#[tactic(auto, using(stored::proofs::FormMost::stored_fits, crate::proofs::FormSum::form_first))]
 fn form_sum(device: &Device) -> u32
     requires { is_legal device.now ≡ true }
     ensures { result ≡ crc32_of (stored_form device.now) }
 {
     let mut form = [0u8; FORM_MOST];
-    match storing::store(device, &mut form) {
-        Ok(length) => crc32(&form[..length]),
-        Err(_) => 0,
-    }
+    let length = storing::put_form(device, &mut form);
+    crc32(&form[..length])
 }
 
 /// Returns the sample set-up, and the sum of its stored form.

@@ -2,10 +2,12 @@
 --   CountedTo n s left i      a loop has passed i names of the n in s, and `left` is what follows them
 -- Assumes nothing.
 use Rattle.std.proofs.Common.{◌≡◌, ℕ, zero, suc, ◌+◌, ◌-◌, ◌<◌, ◌≤◌, List, [], ◌∷◌, ◌++◌, length, take, drop, refl}
-use Rattle.std.proofs.Common.{true, ap, ◌∙◌, arith, add-one, slice_index_or, drop-cons}
+use Rattle.std.proofs.Common.{true, ◌&&◌, ◌==◌, ap, ◌∙◌, arith, add-one, slice_index_or, drop-cons}
 use Rattle.std.proofs.Math.Seq.{take-append_seam, drop-append_seam}
 use native.Mathlib.Numerals.{unary_clauses}
+use Rattle.std.specs.List.{list_all}
 use Rattle.words.specs.Bytes.{◌at◌}
+use Rattle.words.specs.Texts.{is_input_name}
 use Rattle.record.specs.Wanted.{counted_in}
 use Rattle.record.specs.Rules.{are_names}
 
@@ -26,6 +28,11 @@ counted_many (suc n) s = ap suc (counted_many n (drop (suc (s at 0)) s))
 pub as_many_counted : (m n : ℕ) (s : List ℕ) → are_names m (counted_in n s) ≡ true → m ≡ n
 unfolding are_names
 as_many_counted m n s e = grind (arith, e, counted_many n s)
+
+pub counted_named : (k n : ℕ) (s : List ℕ)
+    → are_names k (counted_in n s) ≡ (n == k && list_all is_input_name (counted_in n s))
+unfolding are_names
+counted_named k n s = grind (arith, counted_many n s)
 
 -- a loop over them
 pub record CountedTo (n : ℕ) (s left : List ℕ) (i : ℕ) : Type 0 where

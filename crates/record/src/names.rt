@@ -1,10 +1,9 @@
 // The names that a set-up of Class 2 is lent (RULES, Class 2).
 ghost use Rattle.std.specs.Prelude.{◌≡◌, suc, take, drop};
-ghost use Rattle.std.specs.List.{list_all};
 ghost use Rattle.words.specs.Bytes.{◌at◌};
-ghost use Rattle.words.specs.Texts.{is_text, is_input_name, info_most};
+ghost use Rattle.words.specs.Texts.{is_text, info_most};
 ghost use Rattle.record.specs.Limits.{only_in_2};
-ghost use Rattle.record.specs.Wanted.{names_in, counted_in};
+ghost use Rattle.record.specs.Wanted.{names_in};
 ghost use Rattle.record.specs.Rules.{are_names};
 
 use crate::class;
@@ -58,27 +57,4 @@ pub fn first_counted(row: &[u8]) -> (&[u8], &[u8])
             rest.split_at(n)
         }
     }
-}
-
-/// Whether there are as many names as Class 2 wants of so many inputs, each after its length in one byte: at most 128
-/// bytes each.
-#[tactic(auto, using(crate::proofs::CountedNames::counted_many), unfolding(crate::specs::Rules::are_names))]
-pub fn counted_fit(class: u8, inputs: usize, row: &[u8], count: usize) -> bool
-    ensures { result ≡ are_names (only_in_2 class inputs) (counted_in count row.now) }
-{
-    count == class::only_in_2(class, inputs) && are_counted(row, count)
-}
-
-// No turn leaves early: one exit has the shorter proof.
-fn are_counted(row: &[u8], count: usize) -> bool
-    ensures { result ≡ list_all is_input_name (counted_in count row.now) }
-{
-    let mut ok = true;
-    let mut left = row;
-    for _ in 0..count {
-        let (name, rest) = first_counted(left);
-        ok = ok & texts::is_input_name(name);
-        left = rest;
-    }
-    ok
 }

@@ -2,10 +2,13 @@
 ghost use Rattle.std.proofs.Common.{arith};
 ghost use Rattle.record.specs.Refusals.{refusal_number};
 
+use reasons::numbers;
+use std::error::Error;
+use std::fmt;
 use text::numbered::Numbered;
 
 /// Why a call on a device record is refused. The record, and the reply memory, are then as they were.
-#[derive(Clone, Copy)]
+#[derive(Clone, Copy, Debug, PartialEq, Eq)]
 pub enum Refusal {
     /// 1: the record is not legal.
     NotLegal,
@@ -37,3 +40,12 @@ impl Numbered for Refusal {
         }
     }
 }
+
+/// What its number says.
+impl fmt::Display for Refusal {
+    fn fmt<W: fmt::Write>(&self, f: &mut fmt::Formatter<W>) -> fmt::Result {
+        f.write_str(numbers::number_text(self.number()))
+    }
+}
+
+impl Error for Refusal {}

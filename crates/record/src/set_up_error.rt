@@ -4,10 +4,13 @@ ghost use Rattle.std.specs.Prelude.{◌≡◌};
 ghost use Rattle.record.specs.SetUpErrors.{set_up_error_number, setting_of};
 
 use crate::types::Setting;
+use reasons::numbers;
+use std::error::Error;
+use std::fmt;
 use text::numbered::Numbered;
 
 /// Why a set-up is refused: the first that holds.
-#[derive(Clone, Copy)]
+#[derive(Clone, Copy, Debug, PartialEq, Eq)]
 pub enum SetUpError {
     /// 3: this setting is out of its range, and each before it is in its own.
     OutOfRange(Setting),
@@ -27,6 +30,15 @@ impl Numbered for SetUpError {
         }
     }
 }
+
+/// What its number says.
+impl fmt::Display for SetUpError {
+    fn fmt<W: fmt::Write>(&self, f: &mut fmt::Formatter<W>) -> fmt::Result {
+        f.write_str(numbers::number_text(self.number()))
+    }
+}
+
+impl Error for SetUpError {}
 
 impl SetUpError {
     /// The setting that is to be changed.

@@ -226,7 +226,7 @@ impl Device {
 }
 
 /// What a set-up is given, in the order in which it is tested (RULES, The legal record and Class 2).
-#[derive(Clone, Copy)]
+#[derive(Clone, Copy, Debug, PartialEq, Eq)]
 pub enum Setting {
     /// Place 1: the projector's name, 0 to 64 bytes in UTF-8 (RULES, Texts).
     Name,

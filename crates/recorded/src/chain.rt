@@ -21,9 +21,11 @@ use history::shown;
 use record::legality::Tested;
 use record::refusal::Refusal;
 use record::types::Device;
+use std::error::Error;
+use std::fmt;
 
 /// Why a line does not belong to the history of a record.
-#[derive(Clone, Copy)]
+#[derive(Clone, Copy, Debug, PartialEq, Eq)]
 pub enum Why {
     /// No LF ends it.
     Unended,
@@ -42,6 +44,23 @@ pub enum Why {
     /// It is a call that is refused.
     Refused(Refusal),
 }
+
+impl fmt::Display for Why {
+    fn fmt<W: fmt::Write>(&self, f: &mut fmt::Formatter<W>) -> fmt::Result {
+        match self {
+            Why::Unended => f.write_str("no line end"),
+            Why::SaysNothing => f.write_str("no such line"),
+            Why::OtherFile => f.write_str("not the next file"),
+            Why::OtherSum => f.write_str("another sum"),
+            Why::OtherCount => f.write_str("another count of lines"),
+            Why::OtherState => f.write_str("the record shows something else"),
+            Why::OtherPlace => f.write_str("another place was opened"),
+            Why::Refused(refusal) => write!(f, "{refusal}"),
+        }
+    }
+}
+
+impl Error for Why {}
 
 fn shows(device: &Device, text: &[u8]) -> bool
     ensures { result ≡ same_by itself text.now (device_shown device.now) }

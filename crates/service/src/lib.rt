@@ -9,6 +9,9 @@ ghost use Rattle.std.specs.Prelude.{◌≡◌, ◌≤◌, ◌++◌, length, drop
 ghost use Rattle.service.specs.Differences.{IsForwards, difference_of, differences};
 ghost use Rattle.service.specs.ComparedHolds.{IsFirstBack, ComparedHolds};
 
+use std::error::Error;
+use std::fmt;
+
 /// The most lamps of a table.
 pub const TABLE_MOST: usize = 64;
 
@@ -29,6 +32,17 @@ pub enum CompareError {
     /// The list for the differences has fewer places than there are readings.
     NoRoom,
 }
+
+impl fmt::Display for CompareError {
+    fn fmt<W: fmt::Write>(&self, f: &mut fmt::Formatter<W>) -> fmt::Result {
+        match self {
+            CompareError::TooMany => f.write_str("more readings than a table has"),
+            CompareError::NoRoom => f.write_str("too few places for the differences"),
+        }
+    }
+}
+
+impl Error for CompareError {}
 
 impl Reading {
     /// Returns the later seconds minus the earlier: negative if the lamp went backwards, as a replaced lamp does.

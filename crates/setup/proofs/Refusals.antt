@@ -7,8 +7,7 @@ use Rattle.record.specs.SetUp.{first_out_of_range, set_up}
 use Rattle.record.specs.SetUpErrors.{check_of}
 use Rattle.record.specs.declared.types.Setting.{Setting}
 use Rattle.record.specs.declared.set_up_error.SetUpError.TheVariants.{OutOfRange, ShortPassword}
-use Rattle.record.proofs.Calls.{refused_out, refused_short, none_refused, checked_set_up, checked_refused, set_up_made}
-use Rattle.setup.proofs.Fits.{lamps_fit}
+use Rattle.record.proofs.Calls.{refused_out, refused_short, none_refused, checked_set_up, checked_refused}
 
 module _ (w : Wanted) where
   pub out_checked : (s : Setting) → Some s ≡ first_out_of_range w → Err (OutOfRange s) ≡ check_of (set_up w)
@@ -23,4 +22,4 @@ module _ (w : Wanted) where
 
 pub ruleset reasons = (short_checked, all_checked)
 
-pub ruleset outcomes = (checked_set_up, checked_refused, lamps_fit, set_up_made)
+pub ruleset outcomes = (checked_set_up, checked_refused)

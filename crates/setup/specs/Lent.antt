@@ -3,6 +3,7 @@
 --   serial_of c          the serial number; none in Class 1. So version_of c
 --   names_lent ns        the names that are lent, each by itself;    names_of c    those of the class
 --   wanted_settings w    the settings that are wanted
+--   with_class_2 serial version names w    the settings w of a projector of Class 2, with what it alone has
 -- Assumes nothing.
 use Rattle.std.specs.Prelude.{ℕ, List, []}
 use Rattle.record.specs.Wanted.{Wanted, wanted_in, names_in, counted_in}
@@ -26,7 +27,7 @@ version_of (Two serial version names) = version.now
 
 abbrev pub names_lent : Names → List (List ℕ)
 names_lent (Row bytes lengths) = names_in lengths.now bytes.now
-names_lent (Counted bytes count) = counted_in count bytes.now
+names_lent (Counted names) = counted_in names.count names.bytes.now
 
 abbrev pub names_of : Class → List (List ℕ)
 names_of One = []
@@ -36,3 +37,6 @@ abbrev pub wanted_settings : Lent → Wanted
 wanted_settings w =
     wanted_in (class_number w.class) w.name.now w.maker.now w.model.now w.other.now w.password.now w.inputs.now
     w.lamps.now w.warm w.cool (serial_of w.class) (version_of w.class) (names_of w.class)
+
+abbrev pub with_class_2 : (serial version : List ℕ) (names : List (List ℕ)) → Wanted → Wanted
+with_class_2 serial version names w = record w { class = 2; serial = serial; version = version; names = names }

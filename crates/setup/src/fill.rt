@@ -47,7 +47,7 @@ pub fn keep_names(list: &mut [InputName; INPUTS_MOST], lent: &Names<'_>, count: 
     list.fill(InputName::EMPTY);
     match *lent {
         Names::Row { bytes, lengths } => keep_row(list, bytes, lengths, count),
-        Names::Counted { bytes, count: many } => keep_counted(list, bytes, many),
+        Names::Counted(names) => keep_counted(list, names.bytes, names.count),
     }
 }
 

@@ -2,10 +2,11 @@
 #![tactic(auto)]
 
 pub mod fill;
+pub mod names;
 pub mod theorems;
 pub mod wanted;
 
-ghost use Rattle.std.specs.Prelude.{◌≡◌, true, OnErr};
+ghost use Rattle.std.specs.Prelude.{◌≡◌, true, OnErr, Ok};
 ghost use Rattle.record.specs.Record.{settings_of, blank};
 ghost use Rattle.record.specs.Given.{gives};
 ghost use Rattle.record.specs.SetUp.{is_set_up, set_up};
@@ -44,6 +45,18 @@ fn keep_settings(settings: &mut Settings, wanted: &Wanted<'_>)
     );
 }
 
+/// The record as an accepted set-up makes it: off, each lamp enabled, every place closed. The settings are those that
+/// can be set up (`Wanted::check`).
+#[tactic(auto, using(crate::proofs::Fits::lamps_fit, record::proofs::Calls::set_up_made))]
+pub fn start_in(device: &mut Device, wanted: &Wanted<'_>)
+    requires { is_set_up (wanted_settings wanted.now) ≡ true }
+    ensures { Ok device.new ≡ set_up (wanted_settings wanted.now) }
+{
+    keep_settings(&mut device.settings, wanted);
+    device.own = fill::start_own(wanted.lamps);
+    device.connections = fresh::all_closed();
+}
+
 /// The record as it is set up: off, each lamp enabled, every place closed. Refused where a setting is out of its range,
 /// else where the password is too short: the record is then the blank one (RULES, The numbers a call gives and
 /// Passwords).
@@ -56,9 +69,7 @@ pub fn set_up_in(device: &mut Device, wanted: &Wanted<'_>) -> Result<(), SetUpEr
         fresh::clear(device);
         return Err(error);
     }
-    keep_settings(&mut device.settings, wanted);
-    device.own = fill::start_own(wanted.lamps);
-    device.connections = fresh::all_closed();
+    start_in(device, wanted);
     Ok(())
 }
 

@@ -4,8 +4,11 @@ ghost use Rattle.record.specs.SetUp.{is_setting_in_range, first_out_of_range, se
 ghost use Rattle.record.specs.SetUpErrors.{check_of};
 ghost use Rattle.record.specs.Limits.{only_in_2};
 ghost use Rattle.record.specs.Rules.{are_names};
+ghost use Rattle.record.specs.Wanted.{wanted_of, names_in};
 ghost use Rattle.setup.specs.Lent.{wanted_settings, class_number, serial_of, version_of, names_lent, names_of};
+ghost use Rattle.setup.specs.Lent.{with_class_2};
 
+use crate::names::CountedNames;
 use record::set_up_error::SetUpError;
 use record::types::Setting;
 use record::{inputs, names, own, settings};
@@ -19,11 +22,8 @@ pub enum Names<'a> {
         bytes: &'a [u8],
         lengths: &'a [usize],
     },
-    /// So many, one after the other, each after its length in one byte (RULES, Stored form).
-    Counted {
-        bytes: &'a [u8],
-        count: usize,
-    },
+    /// As a stored form has them (RULES, Stored form).
+    Counted(CountedNames<'a>),
 }
 
 /// The class of a projector, with what it alone has (RULES, Class 2).
@@ -65,13 +65,19 @@ pub struct Wanted<'a> {
 }
 
 impl<'a> Names<'a> {
+    /// No name.
+    pub const NONE: Names<'static> = Names::Row {
+        bytes: &[],
+        lengths: &[],
+    };
+
     // Whether they are those of so many inputs of the class.
     fn fit(&self, class: u8, inputs: usize) -> bool
         ensures { result ≡ are_names (only_in_2 class inputs) (names_lent self.now) }
     {
         match *self {
             Names::Row { bytes, lengths } => names::names_fit(class, inputs, bytes, lengths),
-            Names::Counted { bytes, count } => names::counted_fit(class, inputs, bytes, count),
+            Names::Counted(names) => names.fit(class, inputs),
         }
     }
 }
@@ -112,16 +118,68 @@ impl<'a> Class<'a> {
         ensures { names_lent result ≡ names_of self.now }
     {
         match *self {
-            Class::One => Names::Row {
-                bytes: &[],
-                lengths: &[],
-            },
+            Class::One => Names::NONE,
             Class::Two { names, .. } => names,
         }
     }
 }
 
 impl<'a> Wanted<'a> {
+    /// The settings of a projector of Class 1, in the order in which they are tested.
+    pub fn of_class_1(
+        name: &'a [u8],
+        maker: &'a [u8],
+        model: &'a [u8],
+        other: &'a [u8],
+        password: &'a [u8],
+        inputs: &'a [u8],
+        lamps: &'a [u32],
+        warm: u32,
+        cool: u32,
+    ) -> Wanted<'a>
+        ensures { wanted_settings result ≡ wanted_of name.now maker.now model.now other.now password.now inputs.now
+            lamps.now warm cool }
+    {
+        Wanted {
+            name,
+            maker,
+            model,
+            other,
+            password,
+            inputs,
+            lamps,
+            warm,
+            cool,
+            class: Class::One,
+        }
+    }
+
+    /// The same settings of a projector of Class 2, with what it alone has: the names one after the other, each of its
+    /// length.
+    pub fn in_class_2(
+        self,
+        serial: &'a [u8],
+        version: &'a [u8],
+        names: &'a [u8],
+        lengths: &'a [usize],
+    ) -> Wanted<'a>
+        ensures { wanted_settings result ≡ with_class_2 serial.now version.now (names_in lengths.now names.now)
+            (wanted_settings self.entry) }
+    {
+        let names = Names::Row {
+            bytes: names,
+            lengths,
+        };
+        Wanted {
+            class: Class::Two {
+                serial,
+                version,
+                names,
+            },
+            ..self
+        }
+    }
+
     fn is_in_range(&self, setting: Setting) -> bool
         ensures { result ≡ is_setting_in_range (wanted_settings self.now) setting }
     {

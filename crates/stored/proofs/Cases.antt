@@ -1,7 +1,7 @@
 -- Loading by its cases: what it gives by the version, by what the form says and leaves, and by what set-up gave.
 -- Assumes nothing.
 use Rattle.std.proofs.Common.{ℕ, ◌<◌, ◌≡◌, Bool, true, false, ◌&&◌, ◌==◌, if◌then◌else◌, List, length, map, replicate}
-use Rattle.std.proofs.Common.{Some, None, Result, Ok, Err, sym, ap, ◌∙◌, arith, eqb-true, OnOk}
+use Rattle.std.proofs.Common.{Some, None, Result, Ok, Err, sym, ap, ◌∙◌, arith, OnOk}
 use Rattle.std.specs.Result.{is_ok}
 use Rattle.text.proofs.Choices.{if_yes, by_not}
 use Rattle.record.specs.Limits.{lamps_most, is_class_number}
@@ -19,9 +19,7 @@ use Rattle.record.proofs.Started.{started_parts}
 use Rattle.stored.proofs.Fields.{length-seconds_in}
 use Rattle.text.specs.Flags.{is_raised, flag_of}
 use Rattle.text.proofs.FlagsTold.{flags_replicate, flags_told}
-use Rattle.stored.specs.Reading.{FormSaid, form}
-use Rattle.stored.specs.Views.{class_said}
-use Rattle.stored.specs.declared.form.Rest.{Rest}
+use Rattle.stored.specs.Form.{FormSaid, form}
 use Rattle.stored.specs.declared.error.LoadError.TheVariants.{LeftOver}
 use Rattle.stored.specs.Loading.{is_other_version, contents, loaded_from, is_marks_of, are_marks}
 use Rattle.stored.specs.Loading.{started_with}
@@ -53,10 +51,6 @@ none_over t u e = grind (arith, e)
 pub ruleset loaded_early = (loaded_other, loaded_cut, loaded_over)
 
 -- ---- by what set-up gave
-
--- the class that is said is the form's
-pub said_class : (n : ℕ) (r : Rest) → (class_said n r).class ≡ r.class
-said_class n r = grind (arith, eqb-true r.class 2)
 
 module _ (w : Wanted) where
   pub none_of_class : is_class_number w.class ≡ false → is_set_up w ≡ false
@@ -102,6 +96,6 @@ module _ (w : Wanted) where
         ∙ if_yes _ _ (all_are_marks n (lamps_few w.lamps (each_in_range w ok Lamps)))
         ∙ ap acceptance_of (started_with-replicate w ok)
 
-pub ruleset said_contents = (contents_unmarked, length-seconds_in)
+pub ruleset said_contents = (contents_unmarked)
 
-pub ruleset not_set_up = (none_of_class, too_many_lamps, said_class, length-seconds_in)
+pub ruleset not_set_up = (none_of_class, too_many_lamps, length-seconds_in)

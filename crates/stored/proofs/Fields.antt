@@ -20,8 +20,8 @@ use Rattle.text.specs.Scans.{itself}
 use Rattle.text.proofs.Bases.{Digits}
 use Rattle.numbers.specs.HighestFirst.{highest_first, number_in}
 use Rattle.numbers.proofs.HighestFirst.{length-highest_first, highest_back, highest_one_form}
-use Rattle.stored.specs.Form.{section, text_section, texts_bytes, seconds_bytes}
-use Rattle.stored.specs.Reading.{Field, ◌giving◌, given, byte, bytes, number, section_of, text, texts, seconds_in}
+use Rattle.stored.specs.Sections.{section, text_section, texts_bytes, seconds_bytes, seconds_in, lamps_seconds}
+use Rattle.stored.specs.Sections.{Field, ◌giving◌, given, byte, bytes, number, section_of, text, texts}
 use Rattle.text.proofs.InTurn.{length-each_in_turn}
 use Rattle.record.specs.Limits.{lamps_most}
 use Rattle.record.specs.Record.{in_room}
@@ -111,6 +111,13 @@ pub reading : {A B : Type 0} (r : Field A) {f : A → Field B} {s : List ℕ} {y
     → (r giving f) s ≡ Some y → ((x : A) (rest : List ℕ) → r s ≡ Some (x, rest) → f x rest ≡ Some y → G) → G
 reading {A} {B} r {f} {s} {y} {G} e next = grind arith
 
+-- and of what it read makes what is said
+pub reading_part : {A B C : Type 0} (r : Field A) {g : A → B} (f : B → Field C) {s : List ℕ} {y : C × List ℕ}
+    {G : Type 0}
+    → ((r giving λ x. given (g x)) giving λ z. f z) s ≡ Some y
+    → ((x : A) (rest : List ℕ) → r s ≡ Some (x, rest) → f (g x) rest ≡ Some y → G) → G
+reading_part {A} {B} {C} r {g} f {s} {y} {G} e next = grind arith
+
 -- what holds of what was given holds of what was read
 pub ended : {A : Type 0} (P : A → List ℕ → Type 0) {x y : A} {s rest : List ℕ}
     → ◌≡◌ {A = Option (A × List ℕ)} (Some (x, s)) (Some (y, rest)) → P x s → P y rest
@@ -125,6 +132,9 @@ begins_then {s} {a} {t} {b} {rest} p q = record {
       let e = p.joined c in
       grind (arith, e, q.joined (rest_bytes a t e c), append_assoc a b rest);
 }
+
+pub begins_none : (s : List ℕ) → Begins s [] s
+begins_none s = record { joined = λ b. refl }
 
 pub byte_begins : {s : List ℕ} {x : ℕ} {rest : List ℕ} → byte s ≡ Some (x, rest) → Begins s (x ∷ []) rest
 unfolding byte
@@ -224,18 +234,28 @@ seconds_again (suc n) s l b =
     grind (arith, parts, front, rest, length-take-le 4 s)
 
 -- as a form has them
-pub lamps_begin : {s raw rest : List ℕ} → section_of 4 s ≡ Some (raw, rest)
-    → let xs = seconds_in (length raw / 4) raw in Begins s (section (length xs) (seconds_bytes xs)) rest
-lamps_begin {s} {raw} {rest} e =
+pub lamps_form : (xs : List ℕ) → list_all is_lamp xs ≡ true
+    → IsForm lamps_seconds.read xs (section (length xs) (seconds_bytes xs))
+lamps_form xs h =
+    let many : length (seconds_bytes xs) / 4 ≡ length xs = omega (arith, seconds_long xs) in
+    form_as (section_form 4 (length xs) (seconds_bytes xs) (seconds_long xs)) _
+    (ap (λ (k : ℕ). seconds_in k (seconds_bytes xs)) many ∙ seconds_back xs h)
+
+pub lamps_begin : {s xs rest : List ℕ} → lamps_seconds.read s ≡ Some (xs, rest)
+    → Begins s (section (length xs) (seconds_bytes xs)) rest
+lamps_begin {s} e =
+    reading (section_of 4) e
+    (λ raw left r h.
     let n = length raw / 4 in
-    let c = section_counted 4 s raw rest e in
+    let c = section_counted 4 s raw left r in
     let many : c.count ≡ length (seconds_in n raw) = omega (arith, length-seconds_in n raw, c.long) in
-    record {
+    ended (λ xs rest. Begins s (section (length xs) (seconds_bytes xs)) rest) h
+    (record {
       joined = λ b.
-          let some : Bytes raw = rest_bytes (c.count ∷ []) raw refl (front_bytes (c.count ∷ raw) rest c.spelled b) in
+          let some : Bytes raw = rest_bytes (c.count ∷ []) raw refl (front_bytes (c.count ∷ raw) left c.spelled b) in
           c.spelled
-          ∙ (λ j. many j ∷ (sym (seconds_again n raw (omega (arith, c.long)) some) j ++ rest));
-    }
+          ∙ (λ j. many j ∷ (sym (seconds_again n raw (omega (arith, c.long)) some) j ++ left));
+    }))
 
 -- as the code reads them back from a room
 pub room_read : (n : ℕ) (s : List ℕ) → take n (in_room lamps_most (seconds_in n s)) ≡ seconds_in n s

@@ -2,7 +2,7 @@
 -- than `form_most`; proofs/Samples has one that is as long.
 -- Assumes nothing.
 use Rattle.std.specs.List.{list_all}
-use Rattle.std.proofs.Common.{ℕ, ◌+◌, ◌*◌, ◌≤◌, ◌≡◌, Bool, true, ◌==◌, List, [], ◌∷◌, length, arith, length-append}
+use Rattle.std.proofs.Common.{ℕ, ◌+◌, ◌*◌, ◌≤◌, ◌≡◌, Bool, true, ◌==◌, List, [], ◌∷◌, length, map, arith, length-append}
 use Rattle.std.proofs.Common.{eqb-true}
 use Rattle.std.proofs.lemmas.List.{length-map}
 use Rattle.text.proofs.Choices.{both_left}
@@ -19,18 +19,21 @@ use Rattle.record.proofs.Rules.{inputs_few, lamps_few, names_many, names_each, t
 use Rattle.record.proofs.FactsTold.{legal_is}
 use Rattle.record.proofs.OutOfRange.{each_in_range}
 use Rattle.text.specs.Flags.{flag_of}
-use Rattle.stored.specs.Form.{form_version, marks_section, form_of, form_most, stored_of, marks_stored}
-use Rattle.stored.specs.Form.{texts_bytes, texts_in_class_2, class_part_text, form_with, stored_form}
+use Rattle.stored.specs.Sections.{texts_bytes}
+use Rattle.stored.specs.Form.{form_version, FormSaid, parts_written, parts_with_class, marks_part, class_part}
+use Rattle.stored.specs.Form.{form_bytes, settings_marked, form_of, form_most, stored_of, marks_stored, stored_form}
 use Rattle.stored.proofs.Fields.{seconds_long}
 use Rattle.stored.specs.Loading.{is_marks_of}
 use Rattle.stored.proofs.FormsLoad.{stored_in_range, stored_marks}
 
-pub form_long : (v : ℕ) (marks rest : List ℕ) (w : Wanted)
-    → length (form_with v marks rest w)
-    ≡ 12 + (length w.name + length w.maker + length w.model + length w.other + length w.password)
-    + length w.inputs + 4 * length w.lamps + length marks + length rest
-unfolding form_with
-form_long v marks rest w = grind (arith, length-append, length-highest_first, seconds_long)
+pub form_long : (v : ℕ) (f : FormSaid)
+    → length (form_bytes v f)
+    ≡ 12 + (length f.settings.name + length f.settings.maker + length f.settings.model + length f.settings.other
+    + length f.settings.password)
+    + length f.settings.inputs + 4 * length f.settings.lamps + length ((marks_part v).written f)
+    + length ((class_part v).written f)
+unfolding form_bytes
+form_long v f = grind (arith, length-append, length-highest_first, seconds_long)
 
 -- names of 128 bytes at most, each with its count
 names_most : (ts : List (List ℕ)) → list_all is_input_name ts ≡ true → length (texts_bytes ts) ≤ 129 * length ts
@@ -39,14 +42,13 @@ names_most [] e = omega arith
 names_most (t ∷ ts) e = grind (arith, e, length-append t (texts_bytes ts), input_name_long t, names_most ts)
 
 -- the class, and what Class 2 alone has
-class_most : (w : Wanted) → is_set_up w ≡ true → length (class_part_text w.class (texts_in_class_2 w)) ≤ 4195
-unfolding texts_bytes class_part_text
-class_most w ok =
+class_most : (w : Wanted) (m : List ℕ) → is_set_up w ≡ true
+    → length (parts_written parts_with_class (record { settings = w; marks = m })) ≤ 4195
+class_most w m ok =
     let met = each_in_range w ok in
     grind (
       arith,
-      length-append w.serial (texts_bytes (w.version ∷ w.names)),
-      length-append w.version (texts_bytes w.names),
+      length-append,
       names_most w.names (names_each _ w.names (met Names)),
       names_many _ w.names (met Names),
       text_most w.serial _ (met Serial),
@@ -60,8 +62,9 @@ form_within_most w ms ok marks =
     let met = each_in_range w ok in
     omega (
       arith,
-      form_long form_version (marks_section ms) (class_part_text w.class (texts_in_class_2 w)) w,
-      class_most w ok,
+      form_long form_version (settings_marked w ms),
+      class_most w (map flag_of ms) ok,
+      length-append (map flag_of ms) [],
       length-map ms flag_of,
       eqb-true (length ms) (length w.lamps) (both_left (length ms == length w.lamps) _ marks),
       name_long w.name (met Name),

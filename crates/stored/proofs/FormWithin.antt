@@ -4,16 +4,16 @@
 --   Within k P r         so it does where k bytes are there
 -- Assumes nothing.
 use Rattle.std.proofs.Common.{◌≡◌, ℕ, zero, suc, ◌+◌, ◌*◌, ◌/◌, ◌<◌, ◌≤◌, Bool, true, false, List, [], ◌∷◌, ◌++◌}
-use Rattle.std.proofs.Common.{length, take, drop, Some, refl, ap, ◌∙◌, sym, arith, if◌then◌else◌, nat_lt, ◌==◌}
+use Rattle.std.proofs.Common.{length, take, drop, Some, refl, ap, ◌∙◌, sym, arith, if◌then◌else◌, nat_lt, ◌==◌, not}
 use Rattle.std.proofs.Common.{length-append, length-drop, length-take-le, le-ltb, ltb-true, ltb-false, take-append-drop}
 use Rattle.std.proofs.lemmas.Grind.{common_steps}
 use Rattle.std.proofs.lemmas.List.{take_all, take-append-le, drop-append-le}
 use Rattle.text.proofs.Choices.{if_no}
 use Rattle.record.specs.Given.{refusal_with}
 use Rattle.record.specs.Record.{blank}
-use Rattle.stored.specs.Form.{form_version}
-use Rattle.stored.specs.Reading.{Field, field_and_then, ◌giving◌, given, byte, bytes, number, section_of, text, texts}
-use Rattle.stored.specs.Reading.{class_alone, texts_of_2, class_part, class_in, marks_of, FormSaid, form}
+use Rattle.stored.specs.Sections.{Field, field_and_then, ◌giving◌, given, byte, bytes, number, section_of, text, texts}
+use Rattle.stored.specs.Sections.{lamps_seconds}
+use Rattle.stored.specs.Form.{form_version, old_version, FormSaid, marks_part, class_part, form}
 use Rattle.stored.specs.Loading.{is_other_version, loaded_from}
 use Rattle.stored.proofs.Fields.{Bytes, rest_bytes}
 
@@ -115,40 +115,66 @@ within_texts (suc n) =
     (within_then 256 (256 * n + 0) within_text
     (λ t p. within_then (256 * n) 0 (within_texts n) (λ ts q. within_given 0 (t ∷ ts) tt)))
 
-within_marks : (v n : ℕ) → Within 256 Any (marks_of v n)
-unfolding marks_of
-within_marks v n = grind (arith, within_if, within_given, within_more, within_text)
+-- ---- the parts: so many inputs as one count can tell, whatever is said after them
 
-within_class : (v n : ℕ) → n ≤ 255 → Within 65793 Any (class_in v n)
-unfolding class_in class_part texts_of_2
-within_class v n few =
+abbrev Few : FormSaid → Type 0
+Few y = length y.settings.inputs ≤ 510
+
+within_part : {A : Type 0} (k : ℕ) {P : A → Type 0} {r : Field A} (g : A → FormSaid) → Within k P r
+    → ((x : A) → P x → Few (g x)) → Within k Few (r giving λ x. given (g x))
+within_part k g w few =
+    within_more (k + 0) k (omega arith) (λ x p. p) (within_then k 0 w (λ x p. within_given 0 (g x) (few x p)))
+
+within_text_part : (g : List ℕ → FormSaid) → ((s : List ℕ) → Few (g s)) → Within 256 Few (text giving λ s. given (g s))
+within_text_part g few = within_part 256 g within_text (λ s p. few s)
+
+within_number_part : (g : ℕ → FormSaid) → ((n : ℕ) → Few (g n)) → Within 2 Few (number 2 giving λ n. given (g n))
+within_number_part g few = within_part 2 g (within_number 2) (λ n p. few n)
+
+within_lamps : Within 1021 Any lamps_seconds.read
+within_lamps =
+    within_more (1021 + 0) 1021 (omega arith) (λ x p. p)
+    (within_then 1021 0 (within_section 4 (λ n h. omega arith)) (λ s p. within_given 0 _ tt))
+
+within_marks : (v : ℕ) (y : FormSaid) → Few y → Within 256 Few ((marks_part v).read y)
+within_marks v y few =
+    within_if (not (v == old_version))
+    (within_then 256 0 (within_text_part _ (λ s. few)) (λ z p. within_given 0 z p)) (within_given 256 y few)
+
+within_class : (v : ℕ) (y : FormSaid) → Few y → Within 65793 Few ((class_part v).read y)
+within_class v y few =
+    let n = length y.settings.inputs / 2 in
     within_if (v == form_version)
-    (within_then 1 65792 within_byte
-    (λ k h. within_if (k == 2)
-    (within_then 256 65536 within_text
-    (λ a p. within_then 256 65280 within_text
-    (λ b q. within_more (256 * n + 0) 65280 (omega arith) (λ x p. p)
-    (within_then (256 * n) 0 (within_texts n) (λ c e. within_given 0 _ tt)))))
-    (within_given 65792 (class_alone k) tt)))
-    (within_given 65793 (class_alone 1) tt)
+    (within_then 1 65792 (within_part 1 _ within_byte (λ k p. few))
+    (λ z p. within_then 65792 0
+    (within_if (z.settings.class == 2)
+    (within_then 256 65536 (within_text_part _ (λ s. p))
+    (λ a p. within_then 256 65280 (within_text_part _ (λ s. p))
+    (λ b p. within_then 65280 0
+    (within_part 65280 _
+    (within_more (256 * (length b.settings.inputs / 2)) 65280 (omega (arith, p)) (λ x q. q) (within_texts _))
+    (λ ts q. p))
+    (λ c p. within_given 0 c p))))
+    (within_given 65792 z p))
+    (λ z p. within_given 0 z p)))
+    (within_given 65793 y few)
 
-pub within_form : Within 68866 Any form
+pub within_form : Within 68866 Few form
 unfolding form
 within_form =
     within_then 1 68865 within_byte
-    (λ v p. within_then 256 68609 within_text
-    (λ a p. within_then 256 68353 within_text
-    (λ b p. within_then 256 68097 within_text
-    (λ c p. within_then 256 67841 within_text
-    (λ d p. within_then 256 67585 within_text
-    (λ e p. within_then 511 67074 (within_section 2 (λ n h. omega arith))
-    (λ f few. within_then 1021 66053 (within_section 4 (λ n h. omega arith))
-    (λ g p. within_then 256 65797 (within_marks v (length g / 4))
-    (λ h p. within_then 2 65795 (within_number 2)
-    (λ i p. within_then 2 65793 (within_number 2)
-    (λ j p. within_more (65793 + 0) 65793 (omega arith) (λ x p. p)
-    (within_then 65793 0 (within_class v (length f / 2) (omega (arith, few)))
-    (λ k p. within_given 0 _ tt)))))))))))))
+    (λ v p. within_then 256 68609 (within_text_part _ (λ s. omega arith))
+    (λ a p. within_then 256 68353 (within_text_part _ (λ s. p))
+    (λ b p. within_then 256 68097 (within_text_part _ (λ s. p))
+    (λ c p. within_then 256 67841 (within_text_part _ (λ s. p))
+    (λ d p. within_then 256 67585 (within_text_part _ (λ s. p))
+    (λ e p. within_then 511 67074
+    (within_part 511 _ (within_section 2 (λ n h. omega arith)) (λ s q. omega (arith, q)))
+    (λ f p. within_then 1021 66053 (within_part 1021 _ within_lamps (λ s q. p))
+    (λ g p. within_then 256 65797 (within_marks v g p)
+    (λ h p. within_then 2 65795 (within_number_part _ (λ n. p))
+    (λ i p. within_then 2 65793 (within_number_part _ (λ n. p))
+    (λ j p. within_then 65793 0 (within_class v j p) (λ k p. within_given 0 k p))))))))))))
 
 -- what has bytes left over is told so, whatever they are
 left_over_told : (s : List ℕ) (f : FormSaid) (x : ℕ) (xs : List ℕ) → form s ≡ Some (f, x ∷ xs)
@@ -161,7 +187,7 @@ pub loaded_from-append : (s t : List ℕ) → Bytes s → 68867 ≤ length s →
 loaded_from-append [] t b long = absurd (omega arith)
 loaded_from-append (v ∷ s) t b long = by r.rest r.read (r.more t) (omega (arith, r.few))
   where
-    r : ReadWithin 68866 Any form (v ∷ s)
+    r : ReadWithin 68866 Few form (v ∷ s)
     r = within_form.reads (v ∷ s) b (omega arith)
 
     by : (rest : List ℕ) → form (v ∷ s) ≡ Some (r.value, rest) → form (v ∷ (s ++ t)) ≡ Some (r.value, rest ++ t)

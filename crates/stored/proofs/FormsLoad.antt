@@ -11,9 +11,8 @@ use Rattle.record.specs.Wanted.{Wanted}
 use Rattle.record.specs.Given.{acceptance_of, set_up_given}
 use Rattle.record.specs.SetUp.{is_set_up, set_up, is_setting_in_range}
 use Rattle.record.proofs.Calls.{set_up_accepted, set_up_shown}
-use Rattle.stored.specs.Form.{form_version, marked_version, old_version, form_with, form_of, marked_form_of}
-use Rattle.stored.specs.Form.{old_form_of, version_form, name_stored, stored_of, marks_stored, stored_form}
-use Rattle.stored.specs.Reading.{form}
+use Rattle.stored.specs.Form.{form_version, marked_version, old_version, form_bytes, form_of, marked_form_of}
+use Rattle.stored.specs.Form.{old_form_of, version_form, name_stored, stored_of, marks_stored, stored_form, form}
 use Rattle.stored.specs.Loading.{is_other_version, is_marks_of, contents, started_with, loaded_from, mark_room}
 use Rattle.stored.proofs.Cases.{loaded_cut, loaded_over, loaded_whole, contents_of, contents_unmarked, saying}
 use Rattle.stored.proofs.Cases.{started_if}
@@ -54,15 +53,15 @@ module _ (v : ℕ) (known : is_other_version (v ∷ []) ≡ false) (w : Wanted) 
   written = form_written v w ok older ms
 
   pub version_over : (x : ℕ) (xs : List ℕ) → (loaded_from (s ++ x ∷ xs)).number ≡ 22
-  unfolding form_with
+  unfolding form_bytes
   version_over x xs = grind (arith, loaded_over (s ++ x ∷ xs) known (written.again (x ∷ xs)))
 
   pub version_cut : (k : ℕ) → k < length s → (loaded_from (take k s)).number ≡ 21
-  unfolding form_with
+  unfolding form_bytes
   version_cut k l = grind (arith, loaded_cut (take k s) (is_other_version-take k s known) (written.cut k l))
 
   version_loads : loaded_from s ≡ contents (says v w ok older ms)
-  unfolding form_with
+  unfolding form_bytes
   version_loads = loaded_whole s known (ap form (sym (append-nil s)) ∙ written.again []) refl
 
 -- with marks of the lamps

@@ -3,18 +3,14 @@
 -- them as its form.
 --   bytes_of v n ms         the bytes of the marks ms of n lamps: the oldest version, which has none, says that each is
 --                           set
---   formed v f              the form of the version v that says f
 --   ReadAs s f rest         what bytes tell that were read: their form, and what the older versions lack
 -- Assumes nothing.
-use Rattle.std.proofs.Common.{ℕ, ◌/◌, ◌^◌, ◌<◌, ◌≤◌, ◌≡◌, Bool, true, false, ◌==◌, if◌then◌else◌, List, [], ◌∷◌, ◌++◌}
-use Rattle.std.proofs.Common.{length, map, replicate, Some, refl, sym, ap, subst, ◌∙◌, arith, append_assoc, eqb-true}
-use Rattle.std.proofs.Common.{leb-true}
-use Rattle.std.proofs.lemmas.List.{length-map}
-use Rattle.text.specs.InTurn.{each_in_turn}
-use Rattle.text.proofs.Choices.{if_no, both_right}
+use Rattle.std.proofs.Common.{ℕ, ◌/◌, ◌^◌, ◌<◌, ◌≤◌, ◌≡◌, Bool, true, false, not, ◌==◌, if◌then◌else◌, List}
+use Rattle.std.proofs.Common.{[], ◌∷◌, ◌++◌, length, map, replicate, Some, refl, sym, ap, subst, ◌∙◌, arith, leb-true}
+use Rattle.text.proofs.Choices.{if_yes, if_no, both_right}
 use Rattle.words.specs.Bytes.{◌at◌}
 use Rattle.record.specs.Limits.{stretch_most}
-use Rattle.record.specs.Wanted.{Wanted}
+use Rattle.record.specs.Wanted.{Wanted, wanted_of}
 use Rattle.record.specs.Rules.{is_stretch}
 use Rattle.record.specs.SetUp.{is_setting_in_range, is_set_up}
 use Rattle.record.specs.declared.types.Setting.{Setting}
@@ -23,83 +19,91 @@ use Rattle.record.proofs.Rules.{lamps_within, text_most, names_many}
 use Rattle.record.proofs.OutOfRange.{each_in_range}
 use Rattle.record.proofs.Started.{inputs_halved}
 use Rattle.text.specs.Flags.{flag_of}
-use Rattle.stored.specs.Form.{form_version, old_version, text_section, seconds_bytes, marks_section}
-use Rattle.stored.specs.Form.{texts_bytes, texts_in_class_2, class_part_text, form_with, version_form}
-use Rattle.stored.specs.Reading.{given, byte, number, section_of, text, texts, seconds_in, ClassPart, class_alone}
-use Rattle.stored.specs.Reading.{texts_of_2, class_part, class_in, marks_of, FormSaid, form}
-use Rattle.stored.proofs.Fields.{if_form, section_counted, IsForm, given_form, form_then, form_as, byte_form}
-use Rattle.stored.proofs.Fields.{section_form, text_form, number_form, texts_form, Begins, begins_then, byte_begins}
-use Rattle.stored.proofs.Fields.{text_begins, inputs_begin, number_begins, texts_begin, reading, ended}
-use Rattle.stored.proofs.Fields.{length-seconds_in, seconds_back, seconds_long, lamps_begin}
-
-abbrev pub marks_part : ℕ → List ℕ → List ℕ
-marks_part v m = if v == old_version then [] else text_section m
-
-abbrev pub class_text : ClassPart → List ℕ
-class_text c = class_part_text c.class (c.serial ∷ c.version ∷ c.names)
-
-abbrev pub rest_part : ℕ → ClassPart → List ℕ
-rest_part v c = if v == form_version then class_text c else []
+use Rattle.stored.specs.Sections.{given, byte, number, section_of, text, texts, texts_bytes}
+use Rattle.stored.specs.Sections.{lamps_seconds}
+use Rattle.stored.specs.Form.{form_version, old_version, FormSaid, parts_written, parts_read}
+use Rattle.stored.specs.Form.{parts_in_class_2, marks_alone, parts_after_marks}
+use Rattle.stored.specs.Form.{parts_with_class, marks_part, class_part, settings_marked, form_bytes, form, version_form}
+use Rattle.stored.proofs.Fields.{if_form, IsForm, given_form, form_then, form_as, byte_form, section_form, text_form}
+use Rattle.stored.proofs.Fields.{number_form, texts_form, lamps_form, Begins, begins_none, begins_then, byte_begins}
+use Rattle.stored.proofs.Fields.{text_begins, inputs_begin, lamps_begin, number_begins, texts_begin, reading}
+use Rattle.stored.proofs.Fields.{reading_part, ended}
 
 -- ---- written
 
 abbrev pub bytes_of : ℕ → ℕ → List Bool → List ℕ
 bytes_of v n ms = if v == old_version then replicate n 1 else map flag_of ms
 
-marks_form : (v n : ℕ) (ms : List Bool)
-    → IsForm (marks_of v n) (bytes_of v n ms) (if v == old_version then [] else marks_section ms)
-unfolding marks_of
-marks_form v n ms =
-    let marks = section_form 1 (length ms) (map flag_of ms) (omega (arith, length-map ms flag_of)) in
-    record { again = λ t. grind (arith, marks.again t); cut = λ k l. grind (arith, marks.cut k) }
+not_true : (b : Bool) → not b ≡ true → b ≡ false
+not_true b h = grind arith
+
+not_false : (b : Bool) → not b ≡ false → b ≡ true
+not_false b h = grind arith
+
+-- where it has none, each stands already
+marks_form : (v n : ℕ) (y : FormSaid) (w : Wanted) (ms : List Bool) → y.marks ≡ replicate n 1
+    → IsForm ((marks_part v).read y) (record y { marks = bytes_of v n ms })
+    ((marks_part v).written (settings_marked w ms))
+marks_form v n y w ms each =
+    if_form (not (v == old_version))
+    (λ has.
+    form_then
+    (form_as (text_form (map flag_of ms)) _
+    (λ j. record y { marks = sym (if_no (replicate n 1) (map flag_of ms) (not_true _ has)) j })) _ (given_form _))
+    (λ none.
+    subst (λ (m : List ℕ). IsForm {A = FormSaid} (given y) (record y { marks = m }) [])
+    (each ∙ sym (if_yes (replicate n 1) (map flag_of ms) (not_false _ none))) (given_form y))
 
 pub nothing : {A : Type 0} (s : List A) → length s ≤ 0 → s ≡ []
 nothing [] l = refl
 nothing (x ∷ s) l = absurd (omega arith)
 
-abbrev input_count : Wanted → ℕ
-input_count w = length w.inputs / 2
-
-module _ (w : Wanted) (ok : is_set_up w ≡ true) where
+module _ (w : Wanted) (ok : is_set_up w ≡ true) (m : List ℕ) where
   met : (s : Setting) → is_setting_in_range w s ≡ true
   met = each_in_range w ok
 
-  abbrev class_said : ClassPart
-  class_said = record { class = w.class; serial = w.serial; version = w.version; names = w.names }
+  -- before the class is said, and after it
+  abbrev unclassed : FormSaid
+  unclassed = record { settings = record w { class = 1; serial = []; version = []; names = [] }; marks = m }
+
+  abbrev classed : FormSaid
+  classed = record { settings = w; marks = m }
 
   -- no other class has anything more
-  is_alone : (w.class == 2) ≡ false → class_alone w.class ≡ class_said
+  is_alone : (w.class == 2) ≡ false → record w { serial = []; version = []; names = [] } ≡ w
   is_alone e =
-      grind (
-        arith,
-        e,
-        nothing w.serial,
-        nothing w.version,
-        nothing w.names,
-        text_most w.serial _ (met Serial),
-        text_most w.version _ (met Version),
-        names_many _ w.names (met Names),
-      )
+      let serial : w.serial ≡ [] = grind (arith, e, nothing w.serial, text_most w.serial _ (met Serial)) in
+      let version : w.version ≡ [] = grind (arith, e, nothing w.version, text_most w.version _ (met Version)) in
+      let names : w.names ≡ [] = grind (arith, e, nothing w.names, names_many _ w.names (met Names)) in
+      (λ j. record w { serial = sym serial j; version = sym version j; names = sym names j })
 
-  part_form : IsForm (class_part (input_count w)) class_said (class_text class_said)
-  unfolding class_part class_part_text texts_of_2 texts_bytes
-  part_form =
-      form_then (byte_form w.class) _
+  with_class_form : IsForm (parts_read parts_with_class unclassed) classed (parts_written parts_with_class classed)
+  with_class_form =
+      form_then (form_as (byte_form w.class) _ refl) _
+      (form_then
       (if_form (w.class == 2)
       (λ two.
-      let many : length w.names ≡ input_count w = grind (arith, two, names_many _ w.names (met Names)) in
+      let many : length w.names ≡ length w.inputs / 2 = grind (arith, two, names_many _ w.names (met Names)) in
       let names = subst (λ (k : ℕ). IsForm (texts k) w.names (texts_bytes w.names)) many (texts_form w.names) in
-      form_then (text_form w.serial) _
-      (form_then (text_form w.version) _
-      (form_as names _ (λ j. record class_said { class = sym (eqb-true w.class 2 two) j }))))
+      form_then (form_as (text_form w.serial) _ refl) _
+      (form_then (form_as (text_form w.version) _ refl) _
+      (form_then (form_as names _ refl) _ (given_form classed))))
       (λ other.
-      subst (λ (c : ClassPart). IsForm (given (class_alone w.class)) c []) (is_alone other)
-      (given_form (class_alone w.class))))
+      subst
+      (λ (u : Wanted). IsForm {A = FormSaid}
+      (given (record { settings = record w { serial = []; version = []; names = [] }; marks = m }))
+      (record { settings = u; marks = m }) []) (is_alone other) (given_form _))) _
+      (given_form classed))
 
   class_form : (v : ℕ) → ((v == form_version) ≡ false → w.class ≡ 1)
-      → IsForm (class_in v (input_count w)) class_said (rest_part v class_said)
-  unfolding class_in
-  class_form v older = grind (arith, if_form, part_form, is_alone, given_form)
+      → IsForm ((class_part v).read unclassed) classed ((class_part v).written classed)
+  class_form v older =
+      if_form (v == form_version) (λ newest. with_class_form)
+      (λ no.
+      let one = older no in
+      subst (λ (u : Wanted). IsForm {A = FormSaid} (given unclassed) (record { settings = u; marks = m }) [])
+      ((λ j. record w { class = sym one j; serial = []; version = []; names = [] })
+      ∙ is_alone (grind (arith, one))) (given_form unclassed))
 
 stretch_fits : (n : ℕ) → is_stretch n ≡ true → n < 256 ^ 2
 stretch_fits n h = omega (arith, leb-true n stretch_most (both_right _ _ h))
@@ -111,120 +115,165 @@ module _ (v : ℕ) (w : Wanted) (ok : is_set_up w ≡ true) (older : (v == form_
   says = record { settings = w; marks = bytes_of v (length w.lamps) ms }
 
   pub form_written : IsForm form says (version_form v w ms)
-  unfolding form form_with
+  unfolding form form_bytes
   form_written =
       let halves = sym (inputs_halved _ w.inputs (each_in_range w ok Inputs)) in
-      let long = seconds_long w.lamps in
-      let many : length (seconds_bytes w.lamps) / 4 ≡ length w.lamps = omega arith in
-      let back : seconds_in (length (seconds_bytes w.lamps) / 4) (seconds_bytes w.lamps) ≡ w.lamps
-      = ap (λ (k : ℕ). seconds_in k (seconds_bytes w.lamps)) many
-      ∙ seconds_back w.lamps (lamps_within w.lamps (each_in_range w ok Lamps)) in
-      simp append_assoc
-      (form_then (byte_form v) _
-      (form_then (text_form w.name) _
-      (form_then (text_form w.maker) _
-      (form_then (text_form w.model) _
-      (form_then (text_form w.other) _
-      (form_then (text_form w.password) _
-      (form_then (section_form 2 (input_count w) w.inputs halves) _
-      (form_then (section_form 4 (length w.lamps) (seconds_bytes w.lamps) long) _
-      (form_then (marks_form v (length (seconds_bytes w.lamps) / 4) ms) _
-      (form_then (number_form 2 w.warm (stretch_fits w.warm (each_in_range w ok WarmUp))) _
-      (form_then (number_form 2 w.cool (stretch_fits w.cool (each_in_range w ok Cooling))) _
-      (form_as (class_form w ok v older) _
-      (λ j. record { settings = record w { lamps = back j }; marks = bytes_of v (many j) ms })))))))))))))
+      form_then (byte_form v) _
+      (form_then (form_as (text_form w.name) _ refl) _
+      (form_then (form_as (text_form w.maker) _ refl) _
+      (form_then (form_as (text_form w.model) _ refl) _
+      (form_then (form_as (text_form w.other) _ refl) _
+      (form_then (form_as (text_form w.password) _ refl) _
+      (form_then (form_as (section_form 2 (length w.inputs / 2) w.inputs halves) _ refl) _
+      (form_then (form_as (lamps_form w.lamps (lamps_within w.lamps (each_in_range w ok Lamps))) _ refl) _
+      (form_then (marks_form v (length w.lamps) _ w ms refl) _
+      (form_then (form_as (number_form 2 w.warm (stretch_fits w.warm (each_in_range w ok WarmUp))) _ refl) _
+      (form_then (form_as (number_form 2 w.cool (stretch_fits w.cool (each_in_range w ok Cooling))) _ refl) _
+      (form_then (class_form w ok says.marks v older) _ (given_form says))))))))))))
 
 -- ---- read
 
--- the form of the version v that says f
-abbrev pub formed : ℕ → FormSaid → List ℕ
-formed v f =
-    form_with v (marks_part v f.marks)
-    (if v == form_version then class_part_text f.settings.class (texts_in_class_2 f.settings) else []) f.settings
+-- the marks, where the version has them
+record MarksRead (has : Bool) (y : FormSaid) (s : List ℕ) (z : FormSaid) (rest : List ℕ) : Type 0 where
+  pub kept : z ≡ record y { marks = z.marks }
+  pub begins : Begins s (if has then parts_written marks_alone z else []) rest
+  pub none : has ≡ false → z.marks ≡ y.marks
 
-marks_begin : (v n : ℕ) {s m rest : List ℕ} → marks_of v n s ≡ Some (m, rest) → Begins s (marks_part v m) rest
-unfolding marks_of
-marks_begin v n {s} {m} {rest} e = record { joined = λ b. grind (arith, e, section_counted 1 s m rest) }
+marks_read : (has : Bool) (y : FormSaid) {s : List ℕ} {z : FormSaid} {rest : List ℕ}
+    → (if has then parts_read marks_alone y else given y) s ≡ Some (z, rest) → MarksRead has y s z rest
+marks_read true y {s} e =
+    reading_part text _ e
+    (λ m s1 r1 e1.
+    ended (λ z rest. MarksRead true y s z rest) e1
+    (record { kept = refl; begins = begins_then (text_begins r1) (begins_none s1); none = λ h. absurd (cc) }))
+marks_read false y {s} e =
+    ended (λ z rest. MarksRead false y s z rest) e
+    (record { kept = refl; begins = begins_none s; none = λ h. refl })
 
--- opened
-abbrev part : ClassPart → List ℕ
-part c = c.class ∷ (if c.class == 2 then each_in_turn text_section (c.serial ∷ c.version ∷ c.names) else [])
+-- what Class 2 alone has
+record InClass2 (two : Bool) (y : FormSaid) (s : List ℕ) (z : FormSaid) (rest : List ℕ) : Type 0 where
+  pub kept : z
+      ≡ record y {
+        settings = record y.settings {
+          serial = z.settings.serial;
+          version = z.settings.version;
+          names = z.settings.names;
+        };
+      }
+  pub begins : Begins s (if two then parts_written parts_in_class_2 z else []) rest
 
-part_begins : (n : ℕ) {s : List ℕ} {c : ClassPart} {rest : List ℕ} → class_part n s ≡ Some (c, rest)
-    → Begins s (class_text c) rest
-unfolding class_part class_part_text texts_of_2 texts_bytes
-part_begins n {s} e = reading byte e (λ k s1 r1 e1. by k s1 (byte_begins r1) (k == 2) refl e1)
-  where
-    by : (k : ℕ) (s1 : List ℕ) {c : ClassPart} {rest : List ℕ} → Begins s (k ∷ []) s1 → (two : Bool) → (k == 2) ≡ two
-        → (if two then texts_of_2 n else given (class_alone k)) s1 ≡ Some (c, rest) → Begins s (part c) rest
-    by k s1 p true h e =
-        reading text e
-        (λ serial s2 r2 e2. reading text e2
-        (λ version s3 r3 e3. reading (texts n) e3
-        (λ names s4 r4 e4.
-        ended (λ c rest. Begins s (part c) rest) e4
-        (begins_then (subst (λ (k : ℕ). Begins s (k ∷ []) s1) (eqb-true k 2 h) p)
-        (begins_then (text_begins r2) (begins_then (text_begins r3) (texts_begin n r4)))))))
-    by k s1 p false h e =
-        ended (λ c rest. Begins s (part c) rest) e
-        (subst (λ (l : List ℕ). Begins s (k ∷ l) s1) (sym (if_no _ [] h)) p)
+class_2_read : (two : Bool) (y : FormSaid) {s : List ℕ} {z : FormSaid} {rest : List ℕ}
+    → (if two then parts_read parts_in_class_2 y else given y) s ≡ Some (z, rest) → InClass2 two y s z rest
+class_2_read true y {s} e =
+    let n = length y.settings.inputs / 2 in
+    reading_part text _ e
+    (λ serial s1 r1 e1. reading_part text _ e1
+    (λ version s2 r2 e2. reading_part (texts n) _ e2
+    (λ names s3 r3 e3.
+    ended (λ z rest. InClass2 true y s z rest) e3
+    (record {
+      kept = refl;
+      begins =
+          begins_then (text_begins r1)
+          (begins_then (text_begins r2) (begins_then (texts_begin n r3) (begins_none s3)));
+    }))))
+class_2_read false y {s} e =
+    ended (λ z rest. InClass2 false y s z rest) e (record { kept = refl; begins = begins_none s })
 
-class_begins : (v n : ℕ) {s : List ℕ} {c : ClassPart} {rest : List ℕ} → class_in v n s ≡ Some (c, rest)
-    → Begins s (rest_part v c) rest
-unfolding class_in
-class_begins v n {s} {c} {rest} e = record {
-  joined = λ b.
-      let part : class_part n s ≡ Some (c, rest) → s ≡ class_text c ++ rest = λ h. (part_begins n h).joined b in
-      grind (arith, e, part);
-}
+-- the class, where the version has one
+record ClassRead (has : Bool) (y : FormSaid) (s : List ℕ) (z : FormSaid) (rest : List ℕ) : Type 0 where
+  pub kept : z
+      ≡ record y {
+        settings = record y.settings {
+          class = z.settings.class;
+          serial = z.settings.serial;
+          version = z.settings.version;
+          names = z.settings.names;
+        };
+      }
+  pub begins : Begins s (if has then parts_written parts_with_class z else []) rest
+  pub none : has ≡ false → z.settings.class ≡ y.settings.class
 
--- no older version is of another class
-older_class : (v n : ℕ) (s : List ℕ) {c : ClassPart} {rest : List ℕ} → class_in v n s ≡ Some (c, rest)
-    → (v == form_version) ≡ false → c.class ≡ 1
-unfolding class_in
-older_class v n s e h = grind (arith, e, h)
-
--- and the oldest has every mark
-old_marked : (v n : ℕ) (s : List ℕ) {m rest : List ℕ} → marks_of v n s ≡ Some (m, rest) → (v == old_version) ≡ true
-    → m ≡ replicate n 1
-unfolding marks_of
-old_marked v n s e h = grind (arith, e, h)
+class_read : (has : Bool) (y : FormSaid) {s : List ℕ} {z : FormSaid} {rest : List ℕ}
+    → (if has then parts_read parts_with_class y else given y) s ≡ Some (z, rest) → ClassRead has y s z rest
+class_read true y {s} e =
+    reading_part byte _ e
+    (λ k s1 r1 e1.
+    let y1 : FormSaid = record y { settings = record y.settings { class = k } } in
+    reading (if k == 2 then parts_read parts_in_class_2 y1 else given y1) e1
+    (λ z s2 r2 e2.
+    let two = class_2_read (k == 2) y1 r2 in
+    let class : k ≡ z.settings.class = sym (ap (λ (x : FormSaid). x.settings.class) two.kept) in
+    ended (λ z rest. ClassRead true y s z rest) e2
+    (record {
+      kept = two.kept
+          ∙ (λ j. record y {
+            settings = record y.settings {
+              class = class j;
+              serial = z.settings.serial;
+              version = z.settings.version;
+              names = z.settings.names;
+            };
+          });
+      begins =
+          subst
+          (λ (n : ℕ). Begins s ((n ∷ []) ++ ((if n == 2 then parts_written parts_in_class_2 z else []) ++ [])) s2)
+          class (begins_then (byte_begins r1) (begins_then two.begins (begins_none s2)));
+      none = λ h. absurd (cc);
+    })))
+class_read false y {s} e =
+    ended (λ z rest. ClassRead false y s z rest) e
+    (record { kept = refl; begins = begins_none s; none = λ h. refl })
 
 pub record ReadAs (s : List ℕ) (f : FormSaid) (rest : List ℕ) : Type 0 where
-  pub formed : Begins s (formed (s at 0) f) rest
+  pub formed : Begins s (form_bytes (s at 0) f) rest
   pub class : ((s at 0) == form_version) ≡ false → f.settings.class ≡ 1
   pub marks : ((s at 0) == old_version) ≡ true → f.marks ≡ replicate (length f.settings.lamps) 1
 
 pub form_read : (s : List ℕ) {f : FormSaid} {rest : List ℕ} → form s ≡ Some (f, rest) → ReadAs s f rest
-unfolding form form_with byte
+unfolding form form_bytes byte
 form_read [] e = absurd (cc)
-form_read (v ∷ s) e =
-    reading text e
-    (λ name s1 r1 e1. reading text e1
-    (λ maker s2 r2 e2. reading text e2
-    (λ model s3 r3 e3. reading text e3
-    (λ other s4 r4 e4. reading text e4
-    (λ password s5 r5 e5. reading (section_of 2) e5
-    (λ inputs s6 r6 e6. reading (section_of 4) e6
-    (λ lamps s7 r7 e7. reading (marks_of v (length lamps / 4)) e7
-    (λ marks s8 r8 e8. reading (number 2) e8
-    (λ warm s9 r9 e9. reading (number 2) e9
-    (λ cool s10 r10 e10. reading (class_in v (length inputs / 2)) e10
-    (λ class s11 r11 e11.
+form_read (v ∷ s) {f} {rest} e =
+    reading_part text _ e
+    (λ name s1 r1 e1. reading_part text _ e1
+    (λ maker s2 r2 e2. reading_part text _ e2
+    (λ model s3 r3 e3. reading_part text _ e3
+    (λ other s4 r4 e4. reading_part text _ e4
+    (λ password s5 r5 e5. reading_part (section_of 2) _ e5
+    (λ inputs s6 r6 e6. reading_part lamps_seconds.read _ e6
+    (λ lamps s7 r7 e7.
+    let before : FormSaid = record {
+      settings = wanted_of name maker model other password inputs lamps 0 0;
+      marks = replicate (length lamps) 1;
+    } in
+    reading ((marks_part v).read before) e7
+    (λ y s8 r8 e8.
+    let marks = marks_read (not (v == old_version)) before r8 in
+    let marked : FormSaid = record before { marks = y.marks } in
+    reading_part (number 2) _
+    (subst (λ (x : FormSaid). parts_read (parts_after_marks v) x s8 ≡ Some (f, rest)) marks.kept e8)
+    (λ warm s9 r9 e9. reading_part (number 2) _ e9
+    (λ cool s10 r10 e10.
+    let timed : FormSaid = record marked { settings = record marked.settings { warm = warm; cool = cool } } in
+    reading ((class_part v).read timed) e10
+    (λ z s11 r11 e11.
+    let class = class_read (v == form_version) timed r11 in
     ended (λ f rest. ReadAs (v ∷ s) f rest) e11
+    (subst (λ (f : FormSaid). ReadAs (v ∷ s) f s11) (sym class.kept)
     (record {
       formed =
-          let texts =
-          begins_then (begins_then (begins_then (begins_then (text_begins r1) (text_begins r2)) (text_begins r3))
-          (text_begins r4)) (text_begins r5) in
-          let lists =
-          begins_then (begins_then (begins_then texts (inputs_begin r6)) (lamps_begin r7))
-          (marks_begin v (length lamps / 4) r8) in
           begins_then {a = v ∷ []} (record { joined = λ b. refl })
-          (begins_then (begins_then (begins_then lists (number_begins 2 r9)) (number_begins 2 r10))
-          (class_begins v (length inputs / 2) r11));
-      class = older_class v (length inputs / 2) s10 r11;
-      marks = λ h.
-          old_marked v (length lamps / 4) s7 r8 h
-          ∙ ap (λ (n : ℕ). replicate n 1) (sym (length-seconds_in (length lamps / 4) lamps));
-    }))))))))))))
+          (begins_then (text_begins r1)
+          (begins_then (text_begins r2)
+          (begins_then (text_begins r3)
+          (begins_then (text_begins r4)
+          (begins_then (text_begins r5)
+          (begins_then (inputs_begin r6)
+          (begins_then (lamps_begin r7)
+          (begins_then marks.begins
+          (begins_then (number_begins 2 r9)
+          (begins_then (number_begins 2 r10)
+          (begins_then class.begins (begins_none s11))))))))))));
+      class = class.none;
+      marks = λ h. marks.none (ap not h);
+    })))))))))))))

@@ -56,7 +56,7 @@ slice_index_or-mark_room ms k =
 
 -- as a legal record has them
 module _ (n : ℕ) (fs : List ℕ) (legal : is_marks n fs ≡ true) (few : n ≤ lamps_most) where
-  front_again : map flag_of (take n (map is_raised fs)) ≡ take n fs
+  pub front_again : map flag_of (take n (map is_raised fs)) ≡ take n fs
   front_again = sym (take-map flag_of n (map is_raised fs)) ∙ ap (take n) (flags_again fs (marks_flags n fs legal))
 
   pub front_seen : length (take n (map is_raised fs)) ≡ n

@@ -2,8 +2,8 @@
 -- they load. So those of the newest, stored again, are the same bytes; those of the old one become the newest form of
 -- the same, each lamp enabled; and no two byte strings of one version load as one record.
 -- Assumes nothing.
-use Rattle.std.proofs.Common.{ℕ, ◌≡◌, true, ◌==◌, List, [], ◌∷◌, length, map, replicate, sym, ap, ◌∙◌, arith}
-use Rattle.std.proofs.Common.{append-nil, if◌then◌else◌}
+use Rattle.std.proofs.Common.{ℕ, ◌≡◌, Bool, true, List, [], length, map, replicate, refl, sym, ap, ◌∙◌, arith}
+use Rattle.std.proofs.Common.{append-nil}
 use Rattle.std.proofs.lemmas.List.{length-map}
 use Rattle.words.specs.Bytes.{◌at◌}
 use Rattle.record.specs.Wanted.{Wanted}
@@ -11,14 +11,14 @@ use Rattle.record.specs.declared.types.Device.{Device}
 use Rattle.record.specs.Given.{Given}
 use Rattle.text.specs.Flags.{is_raised}
 use Rattle.text.proofs.FlagsTold.{flags_replicate, flags_told, flags_again}
-use Rattle.stored.specs.Form.{text_section, marks_section, texts_in_class_2, class_part_text, form_with, form_version}
-use Rattle.stored.specs.Form.{old_version, version_form, stored_of, marks_stored, stored_form}
+use Rattle.stored.specs.Form.{form_bytes, form_version, old_version, version_form, old_form_of, stored_of}
+use Rattle.stored.specs.Form.{marks_stored, stored_form}
 use Rattle.stored.specs.Loading.{said_in, settings_in, mark_bytes_in, marks_read, started_with, loaded_from}
 use Rattle.stored.proofs.Marks.{AreMarks, marks_are}
 use Rattle.stored.proofs.Results.{IsAccepted, accepted_told, accepted_set_up}
 use Rattle.stored.proofs.FormsLoad.{started_stored, marks_stored-started_with}
 use Rattle.stored.proofs.Fields.{Bytes}
-use Rattle.stored.proofs.Grammar.{ReadAs, formed, form_read}
+use Rattle.stored.proofs.Grammar.{ReadAs, form_read}
 
 -- what a load gives, stored: the settings and the marks in the bytes
 module _ (s : List ℕ) (e : (loaded_from s).number ≡ 0) where
@@ -41,18 +41,15 @@ module _ (s : List ℕ) (e : (loaded_from s).number ≡ 0) where
   settings_stored = ap stored_of gave ∙ started_stored (settings_in s) told.contents
 
   marks_stored_lem : marks_stored d ≡ marks_read s
-  unfolding class_part_text form_with loaded_from
+  unfolding form_bytes loaded_from
   marks_stored_lem = grind (arith, gave, marks_stored-started_with, length-map)
 
   -- the bytes are their version's form of what stands in them
   version_again : Bytes s → version_form (s at 0) (settings_in s) (marks_read s) ≡ s
   version_again b =
-      let w = settings_in s in
-      let same : marks_section (marks_read s) ≡ text_section (mark_bytes_in s)
-      = (λ j. length-map (mark_bytes_in s) is_raised j ∷ flags_again (mark_bytes_in s) marks.each j) in
-      ap (λ (m : List ℕ). form_with (s at 0) (if (s at 0) == old_version then [] else m)
-      (if (s at 0) == form_version then class_part_text w.class (texts_in_class_2 w) else []) w) same
-      ∙ sym (append-nil (formed (s at 0) (said_in s)))
+      ap (λ (m : List ℕ). form_bytes (s at 0) (record { settings = settings_in s; marks = m }))
+      (flags_again (mark_bytes_in s) marks.each)
+      ∙ sym (append-nil (form_bytes (s at 0) (said_in s)))
       ∙ sym (read.formed.joined b)
 
   -- stored again as their version has it, the same bytes
@@ -61,6 +58,11 @@ module _ (s : List ℕ) (e : (loaded_from s).number ≡ 0) where
 
   pub stored_again : Bytes s → s at 0 ≡ form_version → stored_form d ≡ s
   stored_again b o = ap (λ (v : ℕ). version_form v (stored_of d) (marks_stored d)) (sym o) ∙ stored_as_it_was b
+
+-- the oldest has no marks
+pub old_unmarked : (w : Wanted) (ms : List Bool) → version_form old_version w ms ≡ old_form_of w
+unfolding form_bytes
+old_unmarked w ms = refl
 
 -- each lamp of an old form is enabled
 pub old_enabled : (s : List ℕ) (e : (loaded_from s).number ≡ 0) → s at 0 ≡ old_version
@@ -77,5 +79,5 @@ old_enabled s e o =
 pub forms_apart : (s t : List ℕ) → Bytes s → Bytes t → (loaded_from s).number ≡ 0 → (loaded_from t).number ≡ 0
     → s at 0 ≡ t at 0
     → (loaded_from s).device ≡ (loaded_from t).device → s ≡ t
-unfolding class_part_text form_with loaded_from
+unfolding form_bytes loaded_from
 forms_apart s t b c e f version same = grind (arith, stored_as_it_was)

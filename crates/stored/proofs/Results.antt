@@ -19,8 +19,7 @@ use Rattle.record.proofs.LegalTold.{own_of_legal}
 use Rattle.record.proofs.HostKept.{is_legal-with_own}
 use Rattle.record.proofs.Started.{started_parts, started_legal}
 use Rattle.text.specs.Outcomes.{WrittenAs, nothing_written}
-use Rattle.stored.specs.Form.{form_version, stored_form, storing_rows, stored_by}
-use Rattle.stored.specs.Reading.{FormSaid, form}
+use Rattle.stored.specs.Form.{form_version, FormSaid, form, stored_form, storing_rows, stored_by}
 use Rattle.stored.specs.Told.{loading_told}
 use Rattle.stored.specs.declared.error.LoadError.{LoadError}
 use Rattle.stored.specs.Loading.{is_other_version, ends_early, leaves_more, said_by_form, said_in, settings_in}

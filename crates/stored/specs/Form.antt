@@ -3,43 +3,50 @@
 -- (seconds as four bytes); last W and C as two bytes each; all highest first". Version 2 has "a section of marks, one
 -- byte 0 or 1 each, after the lamps .. Each version has one form; the newest is written" (RULES, Lamps). Version 3 has
 -- the class after C in one byte, and in Class 2 a serial number, a version and a name for each input, each after its
--- count (RULES, Class 2).
+-- count (RULES, Class 2). `parts` lists what a form has: by this list it is written, and by this list it is read.
 --   form_version               the version byte of the newest form. Still loaded: marked_version, which has marks and
 --                              no class; old_version, which has neither
---   section count items        a section: its count, then what is section_of
---   text_section s             of a text, whose items are its bytes
---   seconds_bytes xs           the seconds of each lamp, four bytes a lamp
---   marks_section ms           the section of the marks ms, a flag each
---   texts_bytes ts             texts, each after its count
---   texts_in_class_2 w         the texts of the settings w that Class 2 alone has
---   class_part_text k ts       the class k, and these texts in Class 2
---   form_with v marks rest w   a form of the settings w: of the version v, which has these bytes after the lamps, these
---                              after C
---   form_of w ms               the newest form: of the settings w, the lamps with the marks ms
---   marked_form_of w ms        version 2's form of the settings w of Class 1;    old_form_of w    version 1's
---   version_form v w ms        the form of the version v
+--   FormSaid                   what a form says: the settings, the lamps' seconds among them, and the bytes of marks
+--   Part                       a part of a form: what is written of it where so much is said, and how it is read after
+--                              what was said before it
+--   part f get set             the value that `get` has of what is said, and that `set` adds to it, in the format f;
+--                              setting f get set    a value of the settings
+--   parts_written, parts_read  parts, one after the other
+--   where_said c ps            the parts ps, where c holds of what is said before them; else nothing
+--   each_enabled y xs          lamps of the seconds xs, each enabled: a form has their marks, if any, after them
+--   marks_part v               the marks (marks_alone), which the oldest version has not
+--   class_part v               the class, which the newest has, with what Class 2 has (parts_in_class_2)
+--   parts v                    the parts of a form of the version v, after its first byte
+--   nothing_said               what is said before the first of them: Class 1, unless another is said
+--   form_bytes v f             the form of the version v that says f
+--   form                       how a form is read, of whatever version
+--   settings_marked w ms       the settings w are said, and the marks ms, a flag each
+--   version_form v w ms        the form of the version v that says them
+--   form_of w ms               the newest;    marked_form_of w ms    version 2's, of settings of Class 1
+--   old_form_of w              version 1's
 --   form_most                  no form is longer
 --   text_stored t              what is stored of a text: the bytes that it has;    name_stored t    of an input's name
 --   stored_of d                what is stored of a record: its settings, and each lamp's seconds as they are now
 --   marks_stored d             and each lamp's mark
---   stored_form d              the form of both
+--   said_stored d              a form says both;    stored_form d    the form of both
 --   storing_rows d room        when it is refused, and with which number: memory is short by this form's own length
 --   stored_by d room           refused with no byte, or the form
 -- Assumes nothing.
-use Rattle.std.specs.Prelude.{ℕ, ◌*◌, ◌/◌, Bool, not, List, [], ◌∷◌, ◌++◌, map, length, take}
+use Rattle.std.specs.Prelude.{ℕ, ◌*◌, ◌/◌, Bool, not, List, [], ◌∷◌, map, length, take, replicate}
 use Rattle.std.specs.Prelude.{if◌then◌else◌, nat_lt, ◌==◌}
 use Rattle.text.specs.Flags.{flag_of}
 use Rattle.text.specs.InTurn.{each_in_turn}
 use Rattle.text.specs.Rows.{Row, ◌when◌, by_rows}
 use Rattle.text.specs.Outcomes.{WrittenAs, nothing_written}
-use Rattle.numbers.specs.HighestFirst.{highest_first}
 use Rattle.record.specs.Limits.{only_in_2}
-use Rattle.record.specs.Wanted.{Wanted}
+use Rattle.record.specs.Wanted.{Wanted, wanted_of}
 use Rattle.record.specs.Legal.{is_legal}
 use Rattle.record.specs.Views.{marks_seen}
 use Rattle.record.specs.declared.types.Text.{Text}
 use Rattle.record.specs.declared.types.InputName.{InputName}
 use Rattle.record.specs.declared.types.Device.{Device}
+use Rattle.stored.specs.Sections.{Field, ◌giving◌, given, byte, Format, in_byte, in_two_bytes, a_text, a_list}
+use Rattle.stored.specs.Sections.{lamps_seconds, many_texts}
 
 abbrev pub form_version : ℕ
 form_version = 3
@@ -50,48 +57,108 @@ marked_version = 2
 abbrev pub old_version : ℕ
 old_version = 1
 
-abbrev pub section : ℕ → List ℕ → List ℕ
-section count items = count ∷ items
+pub record FormSaid : Type 0 where
+  pub settings : Wanted
+  pub marks : List ℕ
 
-abbrev pub text_section : List ℕ → List ℕ
-text_section s = section (length s) s
+pub record Part : Type 0 where
+  pub written : FormSaid → List ℕ
+  pub read : FormSaid → Field FormSaid
 
-unfoldable pub seconds_bytes : List ℕ → List ℕ
-seconds_bytes xs = each_in_turn (highest_first 4) xs
+abbrev pub part : {A : Type 0} → (FormSaid → Format A) → (FormSaid → A) → (FormSaid → A → FormSaid) → Part
+part f get set = record {
+  written = λ x. (f x).written (get x);
+  read = λ y.
+      (f y).read giving λ a.
+      given (set y a);
+}
 
-abbrev pub marks_section : List Bool → List ℕ
-marks_section ms = section (length ms) (map flag_of ms)
+abbrev pub setting : {A : Type 0} → Format A → (Wanted → A) → (Wanted → A → Wanted) → Part
+setting f get set = part (λ y. f) (λ x. get x.settings) (λ y a. record y { settings = set y.settings a })
 
-unfoldable pub texts_bytes : List (List ℕ) → List ℕ
-texts_bytes ts = each_in_turn text_section ts
+abbrev pub parts_written : List Part → FormSaid → List ℕ
+parts_written ps x = each_in_turn (λ p. p.written x) ps
 
-abbrev pub texts_in_class_2 : Wanted → List (List ℕ)
-texts_in_class_2 w = w.serial ∷ w.version ∷ w.names
+abbrev pub parts_read : List Part → FormSaid → Field FormSaid
+parts_read [] y = given y
+parts_read (p ∷ ps) y = p.read y giving λ z. parts_read ps z
 
-unfoldable pub class_part_text : ℕ → List (List ℕ) → List ℕ
-class_part_text k ts = k ∷ (if k == 2 then texts_bytes ts else [])
+abbrev pub where_said : (FormSaid → Bool) → List Part → Part
+where_said c ps = record {
+  written = λ x. if c x then parts_written ps x else [];
+  read = λ y. if c y then parts_read ps y else given y;
+}
 
-unfoldable pub form_with : ℕ → List ℕ → List ℕ → Wanted → List ℕ
-form_with version marks rest w =
-    version
-    ∷ (text_section w.name ++ text_section w.maker ++ text_section w.model ++ text_section w.other
-    ++ text_section w.password ++ section (length w.inputs / 2) w.inputs
-    ++ section (length w.lamps) (seconds_bytes w.lamps) ++ marks
-    ++ highest_first 2 w.warm ++ highest_first 2 w.cool ++ rest)
+abbrev pub each_enabled : FormSaid → List ℕ → FormSaid
+each_enabled y xs = record { settings = record y.settings { lamps = xs }; marks = replicate (length xs) 1 }
 
-abbrev pub form_of : Wanted → List Bool → List ℕ
-form_of w ms = form_with form_version (marks_section ms) (class_part_text w.class (texts_in_class_2 w)) w
+abbrev pub marks_alone : List Part
+marks_alone = part (λ y. a_text) (λ x. x.marks) (λ y m. record y { marks = m }) ∷ []
 
-abbrev pub marked_form_of : Wanted → List Bool → List ℕ
-marked_form_of w ms = form_with marked_version (marks_section ms) [] w
+abbrev pub marks_part : ℕ → Part
+marks_part v = where_said (λ x. not (v == old_version)) marks_alone
 
-abbrev pub old_form_of : Wanted → List ℕ
-old_form_of w = form_with old_version [] [] w
+abbrev pub parts_in_class_2 : List Part
+parts_in_class_2 =
+    setting a_text (λ w. w.serial) (λ w s. record w { serial = s })
+    ∷ setting a_text (λ w. w.version) (λ w s. record w { version = s })
+    ∷ part (λ y. many_texts (length y.settings.inputs / 2)) (λ x. x.settings.names)
+    (λ y ts. record y { settings = record y.settings { names = ts } })
+    ∷ []
+
+abbrev pub parts_with_class : List Part
+parts_with_class =
+    setting in_byte (λ w. w.class) (λ w k. record w { class = k })
+    ∷ where_said (λ x. x.settings.class == 2) parts_in_class_2
+    ∷ []
+
+abbrev pub class_part : ℕ → Part
+class_part v = where_said (λ x. v == form_version) parts_with_class
+
+abbrev pub parts_after_marks : ℕ → List Part
+parts_after_marks v =
+    setting in_two_bytes (λ w. w.warm) (λ w n. record w { warm = n })
+    ∷ setting in_two_bytes (λ w. w.cool) (λ w n. record w { cool = n })
+    ∷ class_part v
+    ∷ []
+
+abbrev pub parts : ℕ → List Part
+parts v =
+    setting a_text (λ w. w.name) (λ w s. record w { name = s })
+    ∷ setting a_text (λ w. w.maker) (λ w s. record w { maker = s })
+    ∷ setting a_text (λ w. w.model) (λ w s. record w { model = s })
+    ∷ setting a_text (λ w. w.other) (λ w s. record w { other = s })
+    ∷ setting a_text (λ w. w.password) (λ w s. record w { password = s })
+    ∷ setting a_list (λ w. w.inputs) (λ w s. record w { inputs = s })
+    ∷ part (λ y. lamps_seconds) (λ x. x.settings.lamps) each_enabled
+    ∷ marks_part v
+    ∷ parts_after_marks v
+
+abbrev pub nothing_said : FormSaid
+nothing_said = record { settings = wanted_of [] [] [] [] [] [] [] 0 0; marks = [] }
+
+unfoldable pub form_bytes : ℕ → FormSaid → List ℕ
+form_bytes v f = v ∷ parts_written (parts v) f
+
+unfoldable pub form : Field FormSaid
+form =
+    byte giving λ v.
+    parts_read (parts v) nothing_said
+
+abbrev pub settings_marked : Wanted → List Bool → FormSaid
+settings_marked w ms = record { settings = w; marks = map flag_of ms }
 
 abbrev pub version_form : ℕ → Wanted → List Bool → List ℕ
-version_form v w ms =
-    form_with v (if v == old_version then [] else marks_section ms)
-    (if v == form_version then class_part_text w.class (texts_in_class_2 w) else []) w
+version_form v w ms = form_bytes v (settings_marked w ms)
+
+abbrev pub form_of : Wanted → List Bool → List ℕ
+form_of w ms = version_form form_version w ms
+
+abbrev pub marked_form_of : Wanted → List Bool → List ℕ
+marked_form_of w ms = version_form marked_version w ms
+
+abbrev pub old_form_of : Wanted → List ℕ
+old_form_of w = version_form old_version w []
 
 -- a version; a name of 64 bytes; three texts and a password of 32; 32 inputs; 8 lamps and their marks; W and C; the
 -- class; two texts of 32 bytes, and 32 names of 128
@@ -124,6 +191,9 @@ stored_of d = record {
 
 abbrev pub marks_stored : Device → List Bool
 marks_stored d = take d.settings.lamp_count (marks_seen d.own)
+
+abbrev pub said_stored : Device → FormSaid
+said_stored d = settings_marked (stored_of d) (marks_stored d)
 
 abbrev pub stored_form : Device → List ℕ
 stored_form d = form_of (stored_of d) (marks_stored d)

@@ -1,5 +1,5 @@
+pub mod Sections
 pub mod Form
-pub mod Reading
 pub mod Reads
 pub mod Views
 pub mod Loading

@@ -22,15 +22,14 @@ use Rattle.text.specs.Flags.{is_flag, is_raised, flag_of}
 use Rattle.text.specs.Rooms.{filled_room}
 use Rattle.text.specs.Rows.{Row, ◌when◌, by_rows}
 use Rattle.record.specs.Limits.{lamps_most}
-use Rattle.record.specs.Wanted.{Wanted, wanted_of}
+use Rattle.record.specs.Wanted.{Wanted}
 use Rattle.record.specs.Rules.{is_marks}
 use Rattle.record.specs.Updates.{with_own, with_marks}
 use Rattle.record.specs.Record.{start_device, blank}
 use Rattle.record.specs.Given.{Given, acceptance_of, refusal_with}
 use Rattle.record.specs.SetUp.{is_set_up}
 use Rattle.record.specs.declared.types.Device.{Device}
-use Rattle.stored.specs.Form.{form_version, marked_version, old_version}
-use Rattle.stored.specs.Reading.{FormSaid, form}
+use Rattle.stored.specs.Form.{form_version, marked_version, old_version, FormSaid, nothing_said, form}
 
 abbrev pub is_other_version : List ℕ → Bool
 is_other_version [] = false
@@ -52,7 +51,7 @@ is_left_over s = leaves_more (form s)
 
 -- nothing is said by what is cut short
 abbrev pub said_by_form : Option (FormSaid × List ℕ) → FormSaid
-said_by_form None = record { settings = wanted_of [] [] [] [] [] [] [] 0 0; marks = [] }
+said_by_form None = nothing_said
 said_by_form (Some f) = f.0
 
 abbrev pub said_in : List ℕ → FormSaid

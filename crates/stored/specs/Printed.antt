@@ -17,7 +17,7 @@ use Rattle.text.specs.Words.{◌from◌to◌}
 use Rattle.record.specs.Limits.{lamp_limit}
 use Rattle.record.specs.Wanted.{Wanted, wanted_of, wanted_of_2, with_password}
 use Rattle.record.specs.Record.{zeros}
-use Rattle.stored.specs.Form.{form_version, form_with, form_of}
+use Rattle.stored.specs.Form.{form_version, form_bytes, form_of}
 use Rattle.stored.specs.Loading.{loaded_from}
 
 infix 30 ◌is_loaded_as◌
@@ -141,7 +141,7 @@ abbrev pub marks_rows : List LoadedRow
 marks_rows =
     (form_of cutting_room (true ∷ []) is_loaded_as 23)
     ∷ (form_of cutting_room (true ∷ true ∷ true ∷ []) is_loaded_as 23)
-    ∷ (form_with form_version (hex "020102") (hex "01") cutting_room is_loaded_as 23)
+    ∷ (form_bytes form_version (record { settings = cutting_room; marks = hex "0102" }) is_loaded_as 23)
     ∷ (form_of cutting_room (false ∷ false ∷ []) is_loaded_as 23)
     ∷ (form_of (wanted_of [] [] [] [] [] (codes "11") [] 20 60) [] is_loaded_as 0)
     ∷ []

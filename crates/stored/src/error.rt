@@ -2,10 +2,13 @@
 ghost use Rattle.std.proofs.Common.{arith};
 ghost use Rattle.stored.specs.Told.{load_error_number};
 
+use reasons::numbers;
+use std::error::Error;
+use std::fmt;
 use text::numbered::Numbered;
 
 /// Why a stored form does not load: the first that holds. Nothing of it is then kept.
-#[derive(Clone, Copy)]
+#[derive(Clone, Copy, Debug, PartialEq, Eq)]
 pub enum LoadError {
     /// 20: the first byte is no version that is known.
     OtherVersion,
@@ -31,3 +34,12 @@ impl Numbered for LoadError {
         }
     }
 }
+
+/// What its number says.
+impl fmt::Display for LoadError {
+    fn fmt<W: fmt::Write>(&self, f: &mut fmt::Formatter<W>) -> fmt::Result {
+        f.write_str(numbers::number_text(self.number()))
+    }
+}
+
+impl Error for LoadError {}

@@ -1,9 +1,11 @@
 // A stored form, read from left to right as its grammar has it (RULES, Stored form, Lamps and Class 2).
 ghost use Rattle.std.specs.Prelude.{◌≡◌, false, IfSome, IsNone};
 ghost use Rattle.record.specs.Limits.{is_class_number};
-ghost use Rattle.stored.specs.Reading.{texts_of_2, class_part, class_in, marks_of, form};
+ghost use Rattle.setup.specs.Lent.{class_number, serial_of, version_of, names_of};
+ghost use Rattle.stored.specs.Form.{parts_read, parts_in_class_2, parts_with_class, marks_part, class_part};
+ghost use Rattle.stored.specs.Form.{form};
 ghost use Rattle.stored.specs.Reads.{Reads};
-ghost use Rattle.stored.specs.Views.{marks_said, class_said, class_lent, said_of};
+ghost use Rattle.stored.specs.Views.{said_of};
 
 use crate::error::LoadError;
 use crate::reader::Reader;
@@ -15,19 +17,6 @@ pub const OLD_VERSION: u8 = 1;
 
 /// The version before there were classes.
 pub const MARKED_VERSION: u8 = 2;
-
-/// The class, and what Class 2 has: a serial number, a version, and the names of its inputs, each after its count.
-#[derive(Clone, Copy)]
-pub struct Rest<'a> {
-    /// The class byte, whatever it is; 1 where the version has none.
-    pub class: u8,
-    /// The serial number, without its count; empty but in Class 2.
-    pub serial: &'a [u8],
-    /// The version of the software, without its count; empty but in Class 2.
-    pub version: &'a [u8],
-    /// The names, one after the other, each after its count in one byte; empty but in Class 2.
-    pub names: &'a [u8],
-}
 
 /// What a form says. Of a lamp these are the four bytes of its seconds; the oldest version has no marks.
 #[derive(Clone, Copy)]
@@ -52,25 +41,41 @@ pub struct Form<'a> {
     pub warm: u32,
     /// C in seconds, 0 to 65,535; 1 to 600 where the form loads.
     pub cool: u32,
-    /// The class, and what stands after it; Class 1 alone in versions 1 and 2.
-    pub rest: Rest<'a>,
+    /// The class byte, whatever it is; 1 where the version has none.
+    pub class: u8,
+    /// The serial number, 0 to 255 bytes; at most 32 where the form loads. Only Class 2 has it, and what follows.
+    pub serial: &'a [u8],
+    /// The version of the software, 0 to 255 bytes; at most 32 where the form loads.
+    pub version: &'a [u8],
+    /// A name for each input, 0 to 255 bytes each; at most 128 where the form loads.
+    pub names: Names<'a>,
 }
 
-impl<'a> Rest<'a> {
-    fn alone(class: u8) -> Rest<'a>
-        ensures class { result.class ≡ class }
-    {
-        Rest {
-            class,
-            serial: &[],
-            version: &[],
-            names: &[],
-        }
-    }
+impl<'a> Form<'a> {
+    // Nothing is read yet: the class is 1 unless another one is.
+    const NOTHING: Form<'static> = Form {
+        name: &[],
+        maker: &[],
+        model: &[],
+        other: &[],
+        password: &[],
+        inputs: &[],
+        lamps: &[],
+        marks: None,
+        warm: 0,
+        cool: 0,
+        class: 1,
+        serial: &[],
+        version: &[],
+        names: Names::NONE,
+    };
 
-    /// The class with what it has of n inputs, if there is such a class.
-    pub fn class(&self, n: usize) -> Option<Class<'a>>
-        ensures lent { IfSome result (λ c. class_lent c ≡ class_said n self.now) }
+    /// The class with what it has, if there is such a class.
+    pub fn class(&self) -> Option<Class<'a>>
+        ensures number { IfSome result (λ c. class_number c ≡ (said_of self.now).settings.class) }
+        ensures serial { IfSome result (λ c. serial_of c ≡ (said_of self.now).settings.serial) }
+        ensures version { IfSome result (λ c. version_of c ≡ (said_of self.now).settings.version) }
+        ensures names { IfSome result (λ c. names_of c ≡ (said_of self.now).settings.names) }
         ensures none { IsNone result → is_class_number self.now.class ≡ false }
     {
         match self.class {
@@ -78,10 +83,7 @@ impl<'a> Rest<'a> {
             2 => Some(Class::Two {
                 serial: self.serial,
                 version: self.version,
-                names: Names::Counted {
-                    bytes: self.names,
-                    count: n,
-                },
+                names: self.names,
             }),
             _ => None,
         }
@@ -89,82 +91,74 @@ impl<'a> Rest<'a> {
 }
 
 impl<'a> Reader<'a> {
-    #[tactic(auto, unfolding(crate::specs::Reading::marks_of))]
-    fn marks(&mut self, version: u8, n: usize) -> Result<Option<&'a [u8]>, LoadError>
-        ensures { Reads (marks_said n) result self.new (marks_of version n self.old) }
+    // The marks, which the oldest version has not.
+    fn marks(&mut self, version: u8, form: &mut Form<'a>) -> Result<(), LoadError>
+        ensures class { form.new.class ≡ form.old.class }
+        ensures read { Reads (λ u. said_of form.new) result self.new
+            ((marks_part version).read (said_of form.old) self.old) }
     {
         if version == OLD_VERSION {
-            return Ok(None);
+            return Ok(());
         }
-        let marks = self.text()?;
-        Ok(Some(marks))
+        form.marks = Some(self.text()?);
+        Ok(())
     }
 
-    #[tactic(auto, unfolding(crate::specs::Reading::texts_of_2))]
-    fn texts_of_2(&mut self, n: usize) -> Result<Rest<'a>, LoadError>
-        ensures { Reads (class_said n) result self.new (texts_of_2 n self.old) }
+    // What Class 2 alone has.
+    fn in_class_2(&mut self, form: &mut Form<'a>) -> Result<(), LoadError>
+        requires { form.old.class ≡ 2 }
+        ensures { Reads (λ u. said_of form.new) result self.new
+            (parts_read parts_in_class_2 (said_of form.old) self.old) }
     {
-        let serial = self.text()?;
-        let version = self.text()?;
-        let names = self.texts(n)?;
-        Ok(Rest {
-            class: 2,
-            serial,
-            version,
-            names,
-        })
+        form.serial = self.text()?;
+        form.version = self.text()?;
+        form.names = Names::Counted(self.names(form.inputs.len() / 2)?);
+        Ok(())
     }
 
-    #[tactic(auto, unfolding(crate::specs::Reading::class_part))]
-    fn class_part(&mut self, n: usize) -> Result<Rest<'a>, LoadError>
-        ensures { Reads (class_said n) result self.new (class_part n self.old) }
+    // The class, and what it has.
+    fn with_class(&mut self, form: &mut Form<'a>) -> Result<(), LoadError>
+        requires { form.old.class ≡ 1 }
+        ensures { Reads (λ u. said_of form.new) result self.new
+            (parts_read parts_with_class (said_of form.old) self.old) }
     {
-        let class = self.byte()?;
-        if class != 2 {
-            return Ok(Rest::alone(class));
+        form.class = self.byte()?;
+        if form.class != 2 {
+            return Ok(());
         }
-        self.texts_of_2(n)
+        self.in_class_2(form)
     }
 
-    #[tactic(auto, unfolding(crate::specs::Reading::class_in))]
-    fn class_in(&mut self, version: u8, n: usize) -> Result<Rest<'a>, LoadError>
-        ensures { Reads (class_said n) result self.new (class_in version n self.old) }
+    // The same in the newest version, which alone has a class.
+    fn class(&mut self, version: u8, form: &mut Form<'a>) -> Result<(), LoadError>
+        requires { form.old.class ≡ 1 }
+        ensures { Reads (λ u. said_of form.new) result self.new
+            ((class_part version).read (said_of form.old) self.old) }
     {
         if version != VERSION {
-            return Ok(Rest::alone(1));
+            return Ok(());
         }
-        self.class_part(n)
+        self.with_class(form)
     }
 
     /// The form, of whatever version.
-    #[tactic(auto, unfolding(crate::specs::Reading::form))]
+    #[tactic(auto, unfolding(crate::specs::Form::form))]
     pub fn form(&mut self) -> Result<Form<'a>, LoadError>
         ensures { Reads said_of result self.new (form self.old) }
     {
         let version = self.byte()?;
-        let name = self.text()?;
-        let maker = self.text()?;
-        let model = self.text()?;
-        let other = self.text()?;
-        let password = self.text()?;
-        let inputs = self.section(2)?;
-        let lamps = self.section(4)?;
-        let marks = self.marks(version, lamps.len() / 4)?;
-        let warm = self.number()?;
-        let cool = self.number()?;
-        let rest = self.class_in(version, inputs.len() / 2)?;
-        Ok(Form {
-            name,
-            maker,
-            model,
-            other,
-            password,
-            inputs,
-            lamps,
-            marks,
-            warm,
-            cool,
-            rest,
-        })
+        let mut form = Form::NOTHING;
+        form.name = self.text()?;
+        form.maker = self.text()?;
+        form.model = self.text()?;
+        form.other = self.text()?;
+        form.password = self.text()?;
+        form.inputs = self.section(2)?;
+        form.lamps = self.section(4)?;
+        self.marks(version, &mut form)?;
+        form.warm = self.number()?;
+        form.cool = self.number()?;
+        self.class(version, &mut form)?;
+        Ok(form)
     }
 }

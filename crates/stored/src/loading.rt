@@ -1,6 +1,6 @@
 // Loading a stored form (RULES, Stored form and Lamps): the version, then whether the bytes end with the form, then
 // what it says. The record is made where it lies, so that no copy of it is on the stack.
-ghost use Rattle.std.specs.Prelude.{◌≡◌, ◌/◌, ◌==◌, ◌&&◌, ◌≤◌, true, map, length, OnOk, OnErr};
+ghost use Rattle.std.specs.Prelude.{◌≡◌, ◌/◌, ◌==◌, ◌&&◌, ◌≤◌, true, map, length, IfErr, OnOk, OnErr};
 ghost use Rattle.std.specs.List.{list_all};
 ghost use Rattle.std.specs.Result.{is_ok};
 ghost use Rattle.text.specs.Flags.{is_flag, is_raised};
@@ -10,11 +10,12 @@ ghost use Rattle.record.specs.Updates.{with_own, with_marks};
 ghost use Rattle.record.specs.Facts.{IsLegal};
 ghost use Rattle.record.specs.SetUp.{is_set_up};
 ghost use Rattle.record.specs.Given.{gives};
-ghost use Rattle.stored.specs.Reading.{seconds_in};
+ghost use Rattle.stored.specs.Sections.{seconds_in};
 ghost use Rattle.stored.specs.Loading.{is_other_version, mark_room, are_marks};
 ghost use Rattle.stored.specs.Loading.{contents, loaded_from};
 ghost use Rattle.stored.specs.Told.{loading_told};
 ghost use Rattle.stored.specs.Views.{said_of};
+ghost use Rattle.stored.specs.declared.error.LoadError.TheVariants.{NotLegal};
 
 use crate::error::LoadError;
 use crate::form::{Form, MARKED_VERSION, OLD_VERSION};
@@ -22,8 +23,7 @@ use crate::reader::Reader;
 use crate::storing::VERSION;
 use numbers::highest;
 use record::fresh;
-use record::set_up_error::SetUpError;
-use record::types::{Device, LAMPS_MOST, Setting};
+use record::types::{Device, LAMPS_MOST};
 use setup::wanted::Wanted;
 use text::{flag, rooms};
 
@@ -85,35 +85,34 @@ fn enable(device: &mut Device, bytes: &[u8]) -> bool
 }
 
 impl<'a> Form<'a> {
-    // Set up with what the form says. Lamps that are too many are not copied.
+    // The device that a set-up of what the form says gives. Lamps that are too many are not copied.
     #[tactic(auto, using(crate::proofs::Cases::not_set_up))]
-    fn set_up_in(&self, device: &mut Device) -> Result<(), SetUpError>
+    fn start(&self, device: &mut Device) -> Result<(), LoadError>
         ensures taken { is_ok result ≡ is_set_up (said_of self.now).settings }
         ensures made { OnOk result (device.new ≡ start_device (said_of self.now).settings) }
+        ensures refused { IfErr result (λ e. e ≡ NotLegal) }
     {
-        let Some(class) = self.rest.class(self.inputs.len() / 2) else {
-            return Err(SetUpError::OutOfRange(Setting::Inputs));
+        let Some(class) = self.class() else {
+            return Err(LoadError::NotLegal);
         };
         let n = self.lamps.len() / 4;
         if LAMPS_MOST < n {
-            return Err(SetUpError::OutOfRange(Setting::Lamps));
+            return Err(LoadError::NotLegal);
         }
         let seconds = seconds_of(self.lamps);
-        setup::set_up_in(
-            device,
-            &Wanted {
-                name: self.name,
-                maker: self.maker,
-                model: self.model,
-                other: self.other,
-                password: self.password,
-                inputs: self.inputs,
-                lamps: &seconds[0..n],
-                warm: self.warm,
-                cool: self.cool,
-                class,
-            },
-        )
+        let wanted = Wanted {
+            name: self.name,
+            maker: self.maker,
+            model: self.model,
+            other: self.other,
+            password: self.password,
+            inputs: self.inputs,
+            lamps: &seconds[0..n],
+            warm: self.warm,
+            cool: self.cool,
+            class,
+        };
+        setup::set_up_in(device, &wanted).map_err(|_| LoadError::NotLegal)
     }
 
     // And with its marks: all set where it has none.
@@ -121,9 +120,7 @@ impl<'a> Form<'a> {
     fn load_in(&self, device: &mut Device) -> Result<(), LoadError>
         ensures { loading_told (gives result device.new) ≡ contents (said_of self.now) }
     {
-        let Ok(()) = self.set_up_in(device) else {
-            return Err(LoadError::NotLegal);
-        };
+        self.start(device)?;
         let Some(marks) = self.marks else {
             return Ok(());
         };

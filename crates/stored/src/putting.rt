@@ -1,12 +1,10 @@
 // The fields of a stored form (RULES, Stored form), each put after what a writer has written.
-ghost use Rattle.std.specs.Prelude.{◌≡◌, ◌+◌, ◌*◌, ◌^◌, ◌<◌, ◌≤◌, All, length, map, true};
-ghost use Rattle.std.specs.List.{list_all};
-ghost use Rattle.text.specs.Flags.{is_flag, is_raised};
+ghost use Rattle.std.specs.Prelude.{◌+◌, ◌*◌, ◌^◌, ◌<◌, ◌≤◌, All, length, map};
 ghost use Rattle.lent.specs.Puts.{Puts};
 ghost use Rattle.numbers.specs.HighestFirst.{highest_first};
 ghost use Rattle.words.specs.Texts.{input_name_most};
 ghost use Rattle.record.specs.Limits.{text_room, lamps_most};
-ghost use Rattle.stored.specs.Form.{section, text_section, seconds_bytes, marks_section, texts_bytes};
+ghost use Rattle.stored.specs.Sections.{section, text_section, seconds_bytes, texts_bytes};
 ghost use Rattle.stored.specs.Form.{text_stored, name_stored};
 
 use lent::Writer;
@@ -26,7 +24,8 @@ pub fn number(w: &mut Writer<'_>, x: u32)
 pub fn section(w: &mut Writer<'_>, count: usize, items: &[u8])
     requires few { count < 256 }
     requires short { w.old.at + 1 + length items.now < 2 ^ 64 }
-    ensures { Puts w.old w.new (section count items.now) }
+    ensures written { Puts w.old w.new (section count items.now) }
+    ensures bound { w.new.at ≤ w.old.at + 1 + length items.now }
 {
     w.byte(count as u8);
     w.bytes(items);
@@ -76,17 +75,4 @@ pub fn seconds(w: &mut Writer<'_>, lamps: &[u32])
     for &x in lamps {
         w.bytes(&highest::four_bytes(x));
     }
-}
-
-/// Puts the marks of lamps, flags, as they are.
-#[tactic(auto, using(text::proofs::FlagsTold::flags_again, text::proofs::FlagsTold::raised_many))]
-pub fn marks(w: &mut Writer<'_>, marks: &[u8])
-    requires few { length marks.now ≤ lamps_most }
-    requires flags { list_all is_flag marks.now ≡ true }
-    requires short { w.old.at + 9 < 2 ^ 64 }
-    ensures written { Puts w.old w.new (marks_section (map is_raised marks.now)) }
-    ensures bound { w.new.at ≤ w.old.at + 9 }
-{
-    w.byte(marks.len() as u8);
-    w.bytes(marks);
 }

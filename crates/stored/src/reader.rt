@@ -2,13 +2,15 @@
 // bytes end before the field does, they are cut short, and the reader is not used again.
 ghost use Rattle.std.specs.Prelude.{◌≡◌, ◌*◌, ◌==◌, ◌≤◌, IfOk, Ok, Err, if◌then◌else◌, length};
 ghost use Rattle.record.specs.Wanted.{counted_in};
-ghost use Rattle.stored.specs.Reading.{byte, bytes, number, section_of, text, texts};
+ghost use Rattle.stored.specs.Sections.{byte, bytes, number, section_of, text, texts};
 ghost use Rattle.stored.specs.Reads.{Reads};
 ghost use Rattle.stored.specs.declared.error.LoadError.TheVariants.{LeftOver};
 
 use crate::error::LoadError;
 use numbers::highest;
+use setup::names::CountedNames;
 use std::marker::Model;
+use words::texts;
 
 /// The bytes that are left to read.
 #[derive(Drop)]
@@ -43,7 +45,7 @@ impl<'a> Reader<'a> {
     }
 
     /// One byte.
-    #[tactic(auto, unfolding(crate::specs::Reading::byte))]
+    #[tactic(auto, unfolding(crate::specs::Sections::byte))]
     pub fn byte(&mut self) -> Result<u8, LoadError>
         ensures { Reads (λ b. b) result self.new (byte self.old) }
     {
@@ -57,7 +59,7 @@ impl<'a> Reader<'a> {
     }
 
     /// So many bytes.
-    #[tactic(auto, unfolding(crate::specs::Reading::bytes))]
+    #[tactic(auto, unfolding(crate::specs::Sections::bytes))]
     pub fn bytes(&mut self, n: usize) -> Result<&'a [u8], LoadError>
         ensures read { Reads (λ s. s.now) result self.new (bytes n self.old) }
         ensures long { IfOk result (λ s. length s.now ≡ n) }
@@ -71,7 +73,7 @@ impl<'a> Reader<'a> {
     }
 
     /// A number of two bytes, the highest first.
-    #[tactic(auto, unfolding(crate::specs::Reading::number))]
+    #[tactic(auto, unfolding(crate::specs::Sections::number))]
     pub fn number(&mut self) -> Result<u32, LoadError>
         ensures { Reads (λ n. n) result self.new (number 2 self.old) }
     {
@@ -80,7 +82,7 @@ impl<'a> Reader<'a> {
     }
 
     /// Items of so many bytes each, at most 4, after their count.
-    #[tactic(auto, unfolding(crate::specs::Reading::section_of))]
+    #[tactic(auto, unfolding(crate::specs::Sections::section_of))]
     pub fn section(&mut self, width: usize) -> Result<&'a [u8], LoadError>
         requires { width ≤ 4 }
         ensures read { Reads (λ s. s.now) result self.new (section_of width self.old) }
@@ -98,15 +100,21 @@ impl<'a> Reader<'a> {
         self.section(1)
     }
 
-    /// So many texts, one after the other, each with its count before it.
+    /// So many names of inputs, one after the other, each with its count before it.
     #[tactic(auto, using(crate::proofs::TextsRead::texts_read))]
-    pub fn texts(&mut self, n: usize) -> Result<&'a [u8], LoadError>
-        ensures { Reads (λ s. counted_in n s.now) result self.new (texts n self.old) }
+    pub fn names(&mut self, n: usize) -> Result<CountedNames<'a>, LoadError>
+        ensures { Reads (λ s. counted_in s.count s.bytes.now) result self.new (texts n self.old) }
     {
         let whole = self.rest;
+        let mut each_named = true;
         for _ in 0..n {
-            self.text()?;
+            let name = self.text()?;
+            each_named = each_named & texts::is_input_name(name);
         }
-        Ok(&whole[..whole.len() - self.rest.len()])
+        Ok(CountedNames {
+            bytes: &whole[..whole.len() - self.rest.len()],
+            count: n,
+            each_named,
+        })
     }
 }

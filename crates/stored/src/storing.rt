@@ -1,34 +1,32 @@
 // Storing a record (RULES, Stored form, Lamps and Class 2): its settings, each lamp's seconds as they are now, and its
 // enabled mark. The parts stand in the order of the form.
-ghost use Rattle.std.specs.Prelude.{◌≡◌, ◌∷◌, map, ◌+◌, ◌^◌, ◌<◌, ◌≤◌, length, take};
+ghost use Rattle.std.specs.Prelude.{◌≡◌, ◌+◌, ◌^◌, ◌<◌, ◌≤◌, length};
 ghost use Rattle.text.specs.Words.{over};
 ghost use Rattle.text.specs.Outcomes.{told_written, written_told};
 ghost use Rattle.lent.specs.Puts.{Puts};
-ghost use Rattle.record.specs.Limits.{only_in_2};
 ghost use Rattle.record.specs.Refusals.{refusal_number};
 ghost use Rattle.record.specs.Legal.{is_legal};
 ghost use Rattle.record.specs.Facts.{IsSettings, IsLegal};
-ghost use Rattle.stored.specs.Form.{text_stored, name_stored, class_part_text, stored_form, stored_by};
+ghost use Rattle.stored.specs.Form.{parts_written, parts_with_class, said_stored, stored_form, stored_by};
 
 use crate::putting;
 use lent::Writer;
 use record::refusal::Refusal;
-use record::types::{Device, Settings};
+use record::types::Device;
 
 /// The newest version, which is written: it has a class (RULES, Class 2).
 pub const VERSION: u8 = 3;
 
-// No form is longer, so memory that has room for it is not measured.
-const FORM_MOST: usize = 4504;
+/// No form of a record is longer: memory that has room for so many bytes is not measured.
+pub const FORM_MOST: usize = 4504;
 
 // The class, and what Class 2 alone has.
-fn class_part(w: &mut Writer<'_>, s: &Settings)
-    requires legal { IsSettings s.now }
+fn class_part(w: &mut Writer<'_>, d: &Device)
+    requires legal { IsSettings d.now.settings }
     requires short { w.old.at + 4300 < 2 ^ 64 }
-    ensures { Puts w.old w.new (class_part_text s.now.class_number
-        (text_stored s.now.serial ∷ text_stored s.now.version
-        ∷ map name_stored (take (only_in_2 s.now.class_number s.now.input_count) s.now.names))) }
+    ensures { Puts w.old w.new (parts_written parts_with_class (said_stored d.now)) }
 {
+    let s = &d.settings;
     w.byte(s.class_number);
     if s.class_number != 2 {
         return;
@@ -54,10 +52,10 @@ fn form(w: &mut Writer<'_>, d: &Device)
     putting::text(w, &s.password);
     putting::section(w, inputs.len() / 2, inputs);
     putting::seconds(w, &d.own.lamps[..s.lamp_count]);
-    putting::marks(w, &d.own.enabled[..s.lamp_count]);
+    putting::section(w, s.lamp_count, &d.own.enabled[..s.lamp_count]);
     putting::number(w, s.warm);
     putting::number(w, s.cool);
-    class_part(w, s);
+    class_part(w, d);
 }
 
 // The length of the form of a legal record.
@@ -71,9 +69,9 @@ fn form_length(d: &Device) -> usize
     counting.count()
 }
 
-// The form of a legal record from the start of memory that has room for it, and its length.
+/// The form of a legal record, from the start of memory that has room for it; its length.
 #[tactic(auto, using(lent::proofs::Writing::written_over))]
-fn put_form(d: &Device, out: &mut [u8]) -> usize
+pub fn put_form(d: &Device, out: &mut [u8]) -> usize
     requires legal { IsLegal d.now }
     requires fits { length (stored_form d.now) ≤ length out.old }
     ensures count { result ≡ length (stored_form d.now) }

@@ -1,5 +1,5 @@
 use Rattle.std.proofs.Common.{sym, ap, ◌∙◌}
-use Rattle.stored.specs.Reading.{form}
+use Rattle.stored.specs.Form.{form}
 use Rattle.stored.proofs.Cases.{loaded_whole, none_over}
 use Rattle.stored.proofs.loading.read_in.Goals as goal
 

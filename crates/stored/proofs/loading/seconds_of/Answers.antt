@@ -2,7 +2,7 @@ use Rattle.std.proofs.Common.{◌∙◌, ◌/◌, length, arith}
 use Rattle.record.specs.Limits.{lamps_most}
 use Rattle.text.proofs.RoomsFilled.{all_copied}
 use Rattle.record.proofs.Kept.{kept_in_room}
-use Rattle.stored.specs.Reading.{seconds_in}
+use Rattle.stored.specs.Sections.{seconds_in}
 use Rattle.stored.proofs.Fields.{length-seconds_in}
 use Rattle.stored.proofs.loading.seconds_of.Goals as goal
 

@@ -2,7 +2,7 @@
 use Rattle.std.proofs.Common.{◌/◌, length}
 use Rattle.record.specs.Limits.{lamps_most}
 use Rattle.text.proofs.RoomsFilled.{IsCopied}
-use Rattle.stored.specs.Reading.{seconds_in}
+use Rattle.stored.specs.Sections.{seconds_in}
 use Rattle.stored.proofs.loading.seconds_of.Given as goal
 
 abbrev pub invariant-loop-i : goal.invariant-loop-i

@@ -1,6 +1,7 @@
 -- The names that the loop has passed are written.
 use Rattle.std.proofs.Common.{take, map, ◌≤◌, ◌+◌, ◌*◌}
-use Rattle.stored.specs.Form.{texts_bytes, name_stored}
+use Rattle.stored.specs.Sections.{texts_bytes}
+use Rattle.stored.specs.Form.{name_stored}
 use Rattle.lent.specs.Puts.{Puts}
 use Rattle.stored.proofs.putting.names.Given as goal
 

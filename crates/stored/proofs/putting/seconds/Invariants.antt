@@ -1,6 +1,6 @@
 -- The seconds that the loop has passed are written.
 use Rattle.std.proofs.Common.{take, ◌+◌, ◌*◌, ◌≤◌}
-use Rattle.stored.specs.Form.{seconds_bytes}
+use Rattle.stored.specs.Sections.{seconds_bytes}
 use Rattle.lent.specs.Puts.{Puts}
 use Rattle.stored.proofs.putting.seconds.Given as goal
 

@@ -1,5 +1,5 @@
 -- What set-up gave, with the marks, is what the contents give.
-use Rattle.std.proofs.Common.{◌/◌, length, map, sym, ap, ◌∙◌}
+use Rattle.std.proofs.Common.{length, map, sym, ap, ◌∙◌}
 use Rattle.text.proofs.Choices.{if_yes, if_no}
 use Rattle.record.specs.Updates.{with_own, with_marks}
 use Rattle.record.specs.Given.{acceptance_of}
@@ -15,22 +15,22 @@ use Rattle.stored.proofs.form.Form.load_in.Goals as goal
 
 pub enable-requires : goal.enable-requires
 enable-requires c =
-    (legal_is _).0
-    (ap is_legal c.in-Ok.ensures.made ∙ started_legal (said_of c.args.self.now).settings (sym c.in-Ok.ensures.taken))
+    let set = c.in_ok-start.ensures in
+    (legal_is _).0 (ap is_legal set.made ∙ started_legal (said_of c.args.self.now).settings (sym set.taken))
 
 pub returns-then-not-enable : goal.returns-then-not-enable
 returns-then-not-enable c =
     let f = c.args.self.now in
-    let said = ap (marks_said (length f.lamps.now / 4)) c.in-Some.is in
-    let set = c.in-Ok.ensures in
+    let said = ap (marks_said (length (said_of f).settings.lamps)) c.in-Some.is in
+    let set = c.in_ok-start.ensures in
     let tested = contents_tested (said_of f).settings (sym set.taken) set.made said c.enable.ensures.legal in
     sym (tested ∙ if_no _ _ c.if-not-enable.true)
 
 pub returns : goal.returns
 returns c =
     let f = c.args.self.now in
-    let said = ap (marks_said (length f.lamps.now / 4)) c.in-Some.is in
-    let set = c.in-Ok.ensures in
+    let said = ap (marks_said (length (said_of f).settings.lamps)) c.in-Some.is in
+    let set = c.in_ok-start.ensures in
     let tested = contents_tested (said_of f).settings (sym set.taken) set.made said c.enable.ensures.legal in
     ap acceptance_of (c.enable.ensures.device c.if-not-enable.false)
     ∙ ap (λ (d : Device). acceptance_of (with_own d (with_marks d.own (mark_room (map is_raised c.in-Some.marks.now)))))

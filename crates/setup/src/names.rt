@@ -1,0 +1,32 @@
+// The names of inputs, as a stored form has them (RULES, Stored form and Class 2).
+ghost use Rattle.std.specs.Prelude.{◌≡◌};
+ghost use Rattle.std.specs.List.{list_all};
+ghost use Rattle.words.specs.Texts.{is_input_name};
+ghost use Rattle.record.specs.Limits.{only_in_2};
+ghost use Rattle.record.specs.Wanted.{counted_in};
+ghost use Rattle.record.specs.Rules.{are_names};
+
+use record::class;
+
+/// Names that stand one after the other, each after its length in one byte. They are tested where they are read, as
+/// their end is found.
+#[derive(Clone, Copy)]
+pub struct CountedNames<'a> {
+    /// The names and their lengths.
+    pub bytes: &'a [u8],
+    /// So many names.
+    pub count: usize,
+    /// Whether each is the name of an input: at most 128 bytes, each 0x20 to 0xFF (RULES, Texts).
+    pub each_named: bool,
+    ghost tested: { each_named ≡ list_all is_input_name (counted_in count bytes.now) },
+}
+
+impl<'a> CountedNames<'a> {
+    /// Whether there are as many names as Class 2 wants of so many inputs.
+    #[tactic(auto, using(record::proofs::CountedNames::counted_named))]
+    pub fn fit(&self, class: u8, inputs: usize) -> bool
+        ensures { result ≡ are_names (only_in_2 class inputs) (counted_in self.now.count self.now.bytes.now) }
+    {
+        self.count == class::only_in_2(class, inputs) && self.each_named
+    }
+}
