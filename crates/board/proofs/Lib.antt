@@ -3,7 +3,6 @@ pub mod WhichSetting
 pub mod Zipping
 mod FitsADay
 pub mod OneOfLists
-pub mod Gives
 mod Unsayable
 mod Played
 pub mod SessionsTold

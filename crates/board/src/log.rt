@@ -13,7 +13,7 @@ ghost use Rattle.board.specs.Logs.{time_lent, byte_of, six_of, misfit_number, en
 ghost use Rattle.board.specs.Results.{writing_of};
 
 use crate::writer::Written;
-use device::on_legal::REPLY_ROOM;
+use device::calls::REPLY_ROOM;
 use history::call::Call;
 use history::entry::Entry;
 use history::read::Bytes;

@@ -1,20 +1,24 @@
 // The calls of a host that names the connection, and not its place alone (RULES, The C face): a place is closed by time
 // and opened again, and bytes of its old socket do not belong to the new connection.
 ghost use Rattle.std.specs.Prelude.{◌≡◌, ◌<◌, ◌&&◌};
-ghost use Rattle.text.specs.Rows.{first_of};
+ghost use Rattle.text.specs.Outcomes.{outcome_number};
 ghost use Rattle.record.specs.Limits.{places_count};
 ghost use Rattle.record.specs.Places.{connection_at, is_shut};
+ghost use Rattle.record.specs.Refusals.{refusal_number};
+ghost use Rattle.device.specs.Outcomes.{receiving_told};
 ghost use Rattle.ours.specs.Board.{ours};
-ghost use Rattle.ours.specs.Tied.{lent_told};
+ghost use Rattle.ours.specs.Tied.{given_as, lent_as, lent_told};
 ghost use Rattle.board.specs.Results.{receiving_of};
-ghost use Rattle.board.specs.Sessions.{is_session, session_rows, session_closing_rows, session_received};
+ghost use Rattle.board.specs.Sessions.{is_session, session_received};
 ghost use Rattle.board.specs.Sessions.{session_closed, bit_where, is_live, passing_of};
 
 use crate::projector;
 use crate::results::Receiving;
-use device::on_legal;
-use device::on_legal::REPLY_ROOM;
+use device::calls;
+use device::calls::{REPLY_ROOM, Received};
 use record::connection::SHUT;
+use record::legality::Legal;
+use record::refusal::Refusal;
 use record::types::{Device, PLACES};
 use text::numbered;
 
@@ -44,36 +48,42 @@ fn is_session(device: &Device, place: usize, random: u32) -> bool
     is_live(device, place) && device.connections[place].random == random
 }
 
-// The number of receiving in a session.
-fn receiving_number(device: &Device, place: usize, random: u32, room: usize) -> u32
-    ensures { result ≡ first_of (session_rows device.now place random room) }
+// Receiving in a session.
+fn receive(
+    device: &mut Device,
+    place: usize,
+    random: u32,
+    bytes: &[u8],
+    out: &mut [u8],
+) -> Result<Received, Refusal>
+    ensures { lent_as (receiving_told result) device.new out.new
+        ≡ session_received device.old place random bytes.now out.old }
 {
-    if !device.is_legal() {
-        1
-    } else if room < REPLY_ROOM {
-        2
-    } else if PLACES <= place {
-        3
-    } else if !is_session(device, place, random) {
-        4
-    } else {
-        0
+    let legal = &mut Legal::of(device)?;
+    if out.len() < REPLY_ROOM {
+        return Err(Refusal::NoRoom);
     }
+    if PLACES <= place {
+        return Err(Refusal::OutOfRange);
+    }
+    if !is_session(legal.device, place, random) {
+        return Err(Refusal::Closed);
+    }
+    calls::receive(legal, place, bytes, out)
 }
 
-// The number of closing a session.
-fn closing_number(device: &Device, place: usize, random: u32) -> u32
-    ensures { result ≡ first_of (session_closing_rows device.now place random) }
+// Closing a session.
+fn close(device: &mut Device, place: usize, random: u32) -> Result<(), Refusal>
+    ensures { given_as (outcome_number refusal_number result) device.new ≡ session_closed device.old place random }
 {
-    if !device.is_legal() {
-        1
-    } else if PLACES <= place {
-        3
-    } else if !is_session(device, place, random) {
-        4
-    } else {
-        0
+    let legal = &mut Legal::of(device)?;
+    if PLACES <= place {
+        return Err(Refusal::OutOfRange);
     }
+    if !is_session(legal.device, place, random) {
+        return Err(Refusal::Closed);
+    }
+    calls::close(legal, place)
 }
 
 /// Takes bytes from the network for the connection at this place that was opened with this random number, as
@@ -91,15 +101,7 @@ pub extern "C" fn pj_receive_session_in_place(
     ensures device { device.new ≡ (session_received device.old place random bytes.now out.old).device }
     ensures reply { out.new ≡ (session_received device.old place random bytes.now out.old).memory }
 {
-    let number = receiving_number(device, place, random, out.len());
-    if number != 0 {
-        return Receiving {
-            number,
-            taken: 0,
-            length: 0,
-        };
-    }
-    Receiving::from(on_legal::receive(device, place, bytes, out))
+    Receiving::from(receive(device, place, random, bytes, out))
 }
 
 /// Closes the connection at this place that was opened with this random number. Errors, in this order: 1, 3; 4 if the
@@ -109,11 +111,7 @@ pub extern "C" fn pj_close_session_in_place(device: &mut Device, place: usize, r
     ensures number { result ≡ (session_closed device.old place random).number }
     ensures device { device.new ≡ (session_closed device.old place random).device }
 {
-    let number = closing_number(device, place, random);
-    if number != 0 {
-        return number;
-    }
-    numbered::number_of(on_legal::close(device, place))
+    numbered::number_of(close(device, place, random))
 }
 
 // The bit of a place that is closed now, if it was live.

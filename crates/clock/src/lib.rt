@@ -3,7 +3,6 @@
 
 pub mod connection;
 pub mod connections;
-pub mod on_legal;
 pub mod own;
 pub mod pass;
 pub mod theorems;

@@ -1,21 +1,17 @@
 // The call that lets time pass.
-ghost use Rattle.std.specs.Prelude.{◌≡◌, OnErr};
-ghost use Rattle.record.specs.Given.{gives};
+ghost use Rattle.std.specs.Prelude.{◌≡◌, Ok};
 ghost use Rattle.clock.specs.Passing.{time_passed};
 
-use crate::on_legal;
-use record::refusal::Refusal;
-use record::types::Device;
+use crate::{connections, own};
+use record::legality::Legal;
 
-/// So many seconds pass, where the record lies (RULES, Time). Refused: `NotLegal`, and the record as it was.
-#[tactic(auto, unfolding(crate::specs::Passing::time_passed))]
-pub fn pass(device: &mut Device, seconds: u32) -> Result<(), Refusal>
-    ensures given { gives result device.new ≡ time_passed device.old seconds }
-    ensures kept { OnErr result (device.new ≡ device.old) }
+/// Lets so many seconds pass, where the record lies (RULES, Time).
+#[tactic(auto, using(crate::proofs::InOneGo::parts_pass, crate::proofs::Cases::passed_accepted))]
+pub fn pass(legal: &mut Legal<'_>, seconds: u32)
+    ensures same_reference { legal.new.device.ghost_name ≡ legal.old.device.ghost_name }
+    ensures given { Ok legal.new.device.now ≡ time_passed legal.old.device.now seconds }
 {
-    if !device.is_legal() {
-        return Err(Refusal::NotLegal);
-    }
-    on_legal::pass(device, seconds);
-    Ok(())
+    let device = &mut *legal.device;
+    own::pass(&device.settings, &mut device.own, seconds);
+    connections::age(&mut device.connections, seconds);
 }

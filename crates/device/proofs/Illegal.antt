@@ -5,7 +5,7 @@ use Rattle.std.proofs.Common.{arith, ℕ, ◌≡◌, ap, true, false, not, List}
 use Rattle.text.proofs.Choices.{if_yes}
 use Rattle.record.specs.Legal.{is_legal}
 use Rattle.record.specs.declared.types.Device.{Device}
-use Rattle.device.specs.Calls.{Result, refused_by, received_at, opened_by, closed_by}
+use Rattle.device.specs.Calls.{Result, refused_by, received_at, opened_by, place_taken, closed_by}
 use Rattle.device.proofs.Legal.{receiving_legal, opening_legal, closing_legal}
 
 module _ (d : Device) where
@@ -17,6 +17,10 @@ module _ (d : Device) where
   pub opened_illegal : (r room : ℕ) → is_legal d ≡ false → opened_by d r room ≡ refused_by 1 d
   unfolding opened_by
   opened_illegal r room h = if_yes _ _ (ap not h)
+
+  pub place_taken_illegal : (room : ℕ) → is_legal d ≡ false → place_taken d room ≡ 0
+  unfolding place_taken
+  place_taken_illegal room h = if_yes _ _ (ap not h)
 
   pub closed_illegal : (p : ℕ) → is_legal d ≡ false → closed_by d p ≡ refused_by 1 d
   unfolding closed_by

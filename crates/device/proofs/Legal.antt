@@ -1,12 +1,14 @@
 -- Opening, closing and receiving keep a record legal, a law a part.
 -- Assumes nothing.
-use Rattle.std.proofs.Common.{ℕ, ◌≤◌, ◌≡◌, true, List, arith, ◌==◌}
+use Rattle.std.proofs.Common.{ℕ, ◌≤◌, ◌<◌, ◌≡◌, sym, subst, true, false, List, set, arith, ◌==◌}
+use Rattle.std.proofs.lemmas.List.{set-get_or}
 use Rattle.std.proofs.lemmas.Bool.{eqb-false}
 use Rattle.text.proofs.Choices.{if_all, if_by}
-use Rattle.record.specs.Limits.{shut, awaiting, opened, failed}
+use Rattle.record.specs.Limits.{shut, awaiting, opened, failed, places_count}
 use Rattle.record.specs.Updates.{with_line}
 use Rattle.record.specs.Legal.{is_collecting, is_settings, is_own, is_connection, is_legal}
-use Rattle.record.specs.Places.{connection_at, with_place}
+use Rattle.record.specs.Places.{no_connection, connection_at, with_place, is_shut}
+use Rattle.record.specs.Record.{closed}
 use Rattle.record.specs.declared.types.Settings.{Settings}
 use Rattle.record.specs.declared.types.Own.{Own}
 use Rattle.record.specs.declared.types.Line.{Line}
@@ -103,18 +105,45 @@ module _ (d : Device) (legal : is_legal d ≡ true) where
       → is_legal (with_place d o p c) ≡ true
   placed o p c own one = grind (arith, legal_by_parts, legal_settings, placed_legal, legal_connections)
 
+  -- what each call leaves at its place, as the code spells it
+  pub closed_kept : (p : ℕ) → is_legal (with_place d d.own p closed) ≡ true
+  closed_kept p = placed d.own p closed (legal_own d legal) closed_legal
+
+  pub greeted_kept : (p r : ℕ) → is_legal (with_place d d.own p (new_connection d.settings r)) ≡ true
+  greeted_kept p r = placed d.own p _ (legal_own d legal) (greeted_legal d.settings r)
+
+  pub taken_kept : (p : ℕ) (bs : List ℕ) → p < places_count → is_shut (connection_at d p) ≡ false
+      → let t = taken_in d.settings d.own (connection_at d p) bs in
+      is_legal (with_place d t.ended.own p t.ended.connection) ≡ true
+  taken_kept p bs there live =
+      let k = connection_at d p in
+      placed _ p _ (is_own-taken_in d.settings d.own (legal_settings d legal) (legal_own d legal) k bs)
+      (is_connection-taken_in d.settings d.own k (legal_connection d legal p there) bs (eqb-false k.phase shut live))
+
+  -- the same, where the connection is lent from its place
+  module _ (p : ℕ) (bs : List ℕ) (o : Own) (c : Connection) where
+    abbrev LegalBack : Device → Type 0
+    LegalBack e =
+        let t = taken_in e.settings e.own (connection_at e p) bs in
+        o ≡ t.ended.own → c ≡ t.ended.connection → is_legal (with_place e o p c) ≡ true
+
+    pub taken_back : p < places_count → is_shut (connection_at d p) ≡ false
+        → LegalBack (record d { connections = set d.connections p (connection_at d p) })
+    taken_back there live =
+        subst LegalBack (λ i. record d { connections = sym (set-get_or d.connections p no_connection) i })
+        (λ e f. subst (λ (k : Device). is_legal k ≡ true) (λ i. with_place d (sym e i) p (sym f i))
+        (taken_kept p bs there live))
+
   pub receiving_legal : (p : ℕ) (bs : List ℕ) (room : ℕ) → is_legal (received_at d p bs room).device ≡ true
   receiving_legal p bs room =
       received_by d p bs room LegalAfter (λ n z. legal)
-      (λ h s t c. let k = connection_at d p in
-      placed _ p _ (is_own-taken_in d.settings d.own (legal_settings d legal) (legal_own d legal) k bs)
-      (is_connection-taken_in d.settings d.own k (legal_connection d legal p t) bs (eqb-false k.phase shut c)))
+      (λ h s t c. taken_kept p bs t c)
 
   pub opening_legal : (r room : ℕ) → is_legal (opened_by d r room).device ≡ true
   opening_legal r room =
       opened_by_lem d r room LegalAfter (λ n z. legal)
-      (λ h s c. placed _ _ _ (legal_own d legal) (greeted_legal d.settings r))
+      (λ h s c. greeted_kept _ r)
 
   pub closing_legal : (p : ℕ) → is_legal (closed_by d p).device ≡ true
   closing_legal p =
-      closed_by_lem d p LegalAfter (λ n z. legal) (λ h t c. placed _ p _ (legal_own d legal) closed_legal)
+      closed_by_lem d p LegalAfter (λ n z. legal) (λ h t c. closed_kept p)

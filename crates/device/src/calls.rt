@@ -1,15 +1,23 @@
-// The calls on a record that is lent (RULES, Connection): each changes it where it lies, and leaves it and the lent
-// memory as they were where it refuses. The record is tested here, once a call; `on_legal` does the rest.
-ghost use Rattle.std.specs.Prelude.{◌≡◌, length};
+// The calls on a legal record (RULES, Connection): each changes it where it lies, and leaves it and the reply memory as
+// they were where it refuses.
+ghost use Rattle.std.specs.Prelude.{◌≡◌, ◌≤◌, length};
 ghost use Rattle.text.specs.Words.{over};
 ghost use Rattle.text.specs.Outcomes.{outcome_number};
 ghost use Rattle.record.specs.Refusals.{refusal_number};
-ghost use Rattle.device.specs.Calls.{received_at, opened_by, place_taken, closed_by};
+ghost use Rattle.device.specs.Calls.{received_at, opened_by, place_taken, closed_by, greeting, new_connection};
 ghost use Rattle.device.specs.Outcomes.{result_told, receiving_told, opening_told, opened_place};
 
-use crate::on_legal;
+use crate::receiving::Taken;
+use crate::{places, receiving};
+use pjlink::greeting::Greeting;
+use record::legality::Legal;
 use record::refusal::Refusal;
-use record::types::Device;
+use record::types::{Connection, PLACES, Settings};
+use record::views::Phase;
+use words::codec::Line;
+
+/// Room for the longest reply that the standard allows.
+pub const REPLY_ROOM: usize = 136;
 
 /// What receiving took of the bytes, and the length of the reply: it fills the start of the lent memory.
 #[derive(Clone, Copy)]
@@ -29,51 +37,120 @@ pub struct Opened {
     pub length: usize,
 }
 
-/// Bytes from the network at a place: up to and including the first CR, or all. Refused, even for no bytes: `NotLegal`,
+/// Takes bytes from the network at a place: up to and including the first CR, or all. Refused, even for no bytes:
 /// `NoRoom` for less than 136 bytes of memory, `OutOfRange` for no such place, `Closed`, in that order.
 #[tactic(auto, unfolding(crate::specs::Calls::received_at))]
 pub fn receive(
-    device: &mut Device,
+    legal: &mut Legal<'_>,
     place: usize,
     bytes: &[u8],
     out: &mut [u8],
 ) -> Result<Received, Refusal>
+    ensures same_reference { legal.new.device.ghost_name ≡ legal.old.device.ghost_name }
     ensures told { receiving_told result
-        ≡ result_told (received_at device.old place bytes.now (length out.old)) }
-    ensures device { device.new ≡ (received_at device.old place bytes.now (length out.old)).device }
-    ensures reply { out.new ≡ over (received_at device.old place bytes.now (length out.old)).reply
+        ≡ result_told (received_at legal.old.device.now place bytes.now (length out.old)) }
+    ensures device { legal.new.device.now ≡ (received_at legal.old.device.now place bytes.now (length out.old)).device }
+    ensures reply { out.new ≡ over (received_at legal.old.device.now place bytes.now (length out.old)).reply
         out.old }
 {
-    if !device.is_legal() {
-        return Err(Refusal::NotLegal);
+    let device = &mut *legal.device;
+    if out.len() < REPLY_ROOM {
+        return Err(Refusal::NoRoom);
     }
-    on_legal::receive(device, place, bytes, out)
+    if PLACES <= place {
+        return Err(Refusal::OutOfRange);
+    }
+    if places::is_shut(&device.connections[place]) {
+        return Err(Refusal::Closed);
+    }
+    let Taken { taken, reply } = receiving::take_in(
+        &device.settings,
+        &mut device.own,
+        &mut device.connections[place],
+        bytes,
+    );
+    Ok(Received {
+        taken,
+        length: lend(&reply, out),
+    })
 }
 
-/// A new connection at the lowest closed place, with the random number that the host lends. Refused: `NotLegal`,
-/// `NoRoom` for less than 136 bytes of memory, `NoPlace` where none is closed, in that order.
+// The line from the start of the lent memory; its length.
+#[tactic(auto, using(text::proofs::Stores::sets_over))]
+fn lend(line: &Line, out: &mut [u8]) -> usize
+    requires { REPLY_ROOM ≤ length out.old }
+    ensures length { result ≡ length line.now.items }
+    ensures memory { out.new ≡ over line.now.items out.old }
+{
+    text::put(out, 0, line.as_slice());
+    line.len()
+}
+
+#[tactic(auto, unfolding(crate::specs::Calls::greeting))]
+fn greeting(s: &Settings, random: u32) -> Line
+    ensures { result.items ≡ greeting s.now random }
+{
+    let greeting = if s.password.len == 0 {
+        Greeting::Open
+    } else {
+        Greeting::Secured(random)
+    };
+    let mut line = Line::new();
+    greeting.put(&mut line);
+    line
+}
+
+// The connection as a greeting leaves it: open where there is no password, else awaiting the digest.
+#[tactic(auto, unfolding(crate::specs::Calls::new_connection))]
+fn greet(s: &Settings, random: u32, c: &mut Connection)
+    ensures { c.new ≡ new_connection s.now random }
+{
+    let phase = if s.password.len == 0 {
+        Phase::Open { random }
+    } else {
+        Phase::Awaiting { age: 0, random }
+    };
+    receiving::turn(c, phase);
+}
+
+/// Opens a connection at the lowest closed place, with the random number that the host lends. Refused: `NoRoom` for
+/// less than 136 bytes of memory, `NoPlace` where none is closed, in that order.
 #[tactic(auto, unfolding(crate::specs::Calls::opened_by, crate::specs::Calls::place_taken))]
-pub fn open(device: &mut Device, random: u32, out: &mut [u8]) -> Result<Opened, Refusal>
-    ensures told { opening_told result ≡ result_told (opened_by device.old random (length out.old)) }
-    ensures place { opened_place result ≡ place_taken device.old (length out.old) }
-    ensures device { device.new ≡ (opened_by device.old random (length out.old)).device }
-    ensures reply { out.new ≡ over (opened_by device.old random (length out.old)).reply
+pub fn open(legal: &mut Legal<'_>, random: u32, out: &mut [u8]) -> Result<Opened, Refusal>
+    ensures same_reference { legal.new.device.ghost_name ≡ legal.old.device.ghost_name }
+    ensures told { opening_told result ≡ result_told (opened_by legal.old.device.now random (length out.old)) }
+    ensures place { opened_place result ≡ place_taken legal.old.device.now (length out.old) }
+    ensures device { legal.new.device.now ≡ (opened_by legal.old.device.now random (length out.old)).device }
+    ensures reply { out.new ≡ over (opened_by legal.old.device.now random (length out.old)).reply
         out.old }
 {
-    if !device.is_legal() {
-        return Err(Refusal::NotLegal);
+    let device = &mut *legal.device;
+    if out.len() < REPLY_ROOM {
+        return Err(Refusal::NoRoom);
     }
-    on_legal::open(device, random, out)
+    let place = places::lowest_shut(&device.connections);
+    if PLACES <= place {
+        return Err(Refusal::NoPlace);
+    }
+    let length = lend(&greeting(&device.settings, random), out);
+    greet(&device.settings, random, &mut device.connections[place]);
+    Ok(Opened { place, length })
 }
 
-/// The connection at a place closed. Refused: `NotLegal`, `OutOfRange` for no such place, `Closed`, in that order.
+/// Closes the connection at a place. Refused: `OutOfRange` for no such place, `Closed`, in that order.
 #[tactic(auto, unfolding(crate::specs::Calls::closed_by))]
-pub fn close(device: &mut Device, place: usize) -> Result<(), Refusal>
-    ensures number { outcome_number refusal_number result ≡ (closed_by device.old place).number }
-    ensures device { device.new ≡ (closed_by device.old place).device }
+pub fn close(legal: &mut Legal<'_>, place: usize) -> Result<(), Refusal>
+    ensures same_reference { legal.new.device.ghost_name ≡ legal.old.device.ghost_name }
+    ensures number { outcome_number refusal_number result ≡ (closed_by legal.old.device.now place).number }
+    ensures device { legal.new.device.now ≡ (closed_by legal.old.device.now place).device }
 {
-    if !device.is_legal() {
-        return Err(Refusal::NotLegal);
+    let device = &mut *legal.device;
+    if PLACES <= place {
+        return Err(Refusal::OutOfRange);
     }
-    on_legal::close(device, place)
+    if places::is_shut(&device.connections[place]) {
+        return Err(Refusal::Closed);
+    }
+    device.connections[place] = Connection::CLOSED;
+    Ok(())
 }

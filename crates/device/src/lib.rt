@@ -3,7 +3,6 @@
 
 mod answering;
 pub mod calls;
-pub mod on_legal;
 mod places;
 pub mod receiving;
 pub mod theorems;

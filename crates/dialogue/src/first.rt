@@ -2,6 +2,7 @@
 ghost use Rattle.std.specs.Prelude.{IfSome, length, ◌≤◌};
 
 use device::calls;
+use record::legality::Legal;
 use setup::wanted::{Class, Wanted};
 
 /// Sets up a projector, connects a controller and sends a line. Returns the length of the reply, which fills the start
@@ -15,8 +16,9 @@ fn answer(line: &[u8], memory: &mut [u8]) -> Option<usize>
         inputs: b"1132", lamps: &[7200], warm: 20, cool: 60, class: Class::One,
     };
     let mut device = setup::set_up(&table).ok()?;
-    let opened = calls::open(&mut device, 0, memory).ok()?;
-    let received = calls::receive(&mut device, opened.place, line, memory).ok()?;
+    let legal = &mut Legal::of(&mut device).ok()?;
+    let opened = calls::open(legal, 0, memory).ok()?;
+    let received = calls::receive(legal, opened.place, line, memory).ok()?;
     Some(received.length)
 }
 

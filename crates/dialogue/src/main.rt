@@ -7,6 +7,8 @@ mod first;
 
 use clock::pass;
 use device::calls;
+use record::legality::Legal;
+use record::refusal::Refusal;
 use record::types::{Device, PLACES};
 use setup::wanted::{Class, Wanted};
 use std::io;
@@ -47,20 +49,25 @@ fn fresh() -> Connected {
         class,
     };
     let mut device = setup::set_up(&wanted).unwrap_or(Device::BLANK);
-    let mut memory = [0u8; 136];
-    let place = match calls::open(&mut device, 0, &mut memory) {
-        Ok(opened) => opened.place,
-        Err(_) => PLACES,
-    };
+    let place = open(&mut device).unwrap_or(PLACES);
     Connected { device, place }
+}
+
+fn open(device: &mut Device) -> Result<usize, Refusal> {
+    let mut memory = [0u8; 136];
+    let opened = calls::open(&mut Legal::of(device)?, 0, &mut memory)?;
+    Ok(opened.place)
+}
+
+// The length of the reply.
+fn receive(c: &mut Connected, line: &[u8], memory: &mut [u8]) -> Result<usize, Refusal> {
+    let received = calls::receive(&mut Legal::of(&mut c.device)?, c.place, line, memory)?;
+    Ok(received.length)
 }
 
 fn send(out: &mut Stdout, c: &mut Connected, line: &[u8]) -> io::Result<()> {
     let mut memory = [0u8; 136];
-    let length = match calls::receive(&mut c.device, c.place, line, &mut memory) {
-        Ok(received) => received.length,
-        Err(_) => 0,
-    };
+    let length = receive(c, line, &mut memory).unwrap_or(0);
     write_line(out, b"> ", line)?;
     if length <= 136 {
         write_line(out, b"< ", &memory[0..length])?;
@@ -69,7 +76,9 @@ fn send(out: &mut Stdout, c: &mut Connected, line: &[u8]) -> io::Result<()> {
 }
 
 fn wait(c: &mut Connected, seconds: u32) {
-    let _told = pass::pass(&mut c.device, seconds);
+    if let Ok(mut legal) = Legal::of(&mut c.device) {
+        pass::pass(&mut legal, seconds);
+    }
 }
 
 // One line to a projector that was never on.

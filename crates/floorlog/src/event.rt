@@ -1,8 +1,7 @@
 // One event of a log: what it does, and what is printed for it. The record is lent with what its one test said, and no
 // record is tested here.
-ghost use Rattle.std.specs.Prelude.{◌≡◌, true, List, [], ℕ, Some};
+ghost use Rattle.std.specs.Prelude.{◌≡◌, List, [], ℕ, Some};
 ghost use Rattle.text.specs.Words.{over};
-ghost use Rattle.record.specs.Legal.{is_legal};
 ghost use Rattle.device.specs.Calls.{reply_room, received_at, closed_by};
 ghost use Rattle.floorlog.specs.Outcomes.{outcome_text, answer_of, IsReplyWithin};
 ghost use Rattle.floorlog.specs.Events.{event_said};
@@ -11,12 +10,12 @@ ghost use Rattle.floorlog.specs.Doing.{printed_line};
 ghost use Rattle.floorlog.specs.Told.{seconds_of, Drives};
 
 use crate::outcome::{Outcome, Printed};
-use device::on_legal;
-use device::on_legal::REPLY_ROOM;
+use clock::pass;
+use device::calls;
+use device::calls::REPLY_ROOM;
 use record::connection::SHUT;
-use record::legality::Tested;
+use record::legality::{Legal, Tested};
 use record::refusal::Refusal;
-use record::types::Device;
 
 /// An event of a log, one a line.
 #[derive(Clone, Copy)]
@@ -38,46 +37,47 @@ pub const PLACE: usize = 0;
 
 // Opening at that place, where it is closed: then it is the lowest closed place, which the device takes.
 #[tactic(auto, using(crate::proofs::LogOpenings::log_opened_again, crate::proofs::LogOpenings::log_opened_closed))]
-fn open(device: &mut Device, random: u32, reply: &mut [u8; REPLY_ROOM]) -> Outcome
-    requires { is_legal device.old ≡ true }
+fn open(legal: &mut Legal<'_>, random: u32, reply: &mut [u8; REPLY_ROOM]) -> Outcome
+    ensures same_reference { legal.new.device.ghost_name ≡ legal.old.device.ghost_name }
     ensures within { IsReplyWithin result reply_room }
-    ensures text { outcome_text result reply.new ≡ outcome (opened_in_log device.old random) }
-    ensures answer { answer_of result ≡ Some (opened_in_log device.old random).number }
-    ensures device { device.new ≡ (opened_in_log device.old random).device }
-    ensures reply { reply.new ≡ over (opened_in_log device.old random).reply reply.old }
+    ensures text { outcome_text result reply.new ≡ outcome (opened_in_log legal.old.device.now random) }
+    ensures answer { answer_of result ≡ Some (opened_in_log legal.old.device.now random).number }
+    ensures device { legal.new.device.now ≡ (opened_in_log legal.old.device.now random).device }
+    ensures reply { reply.new ≡ over (opened_in_log legal.old.device.now random).reply reply.old }
 {
-    if device.connections[PLACE].phase != SHUT {
+    if legal.device.connections[PLACE].phase != SHUT {
         return Outcome::AlreadyOpen;
     }
-    match on_legal::open(device, random, reply) {
+    match calls::open(legal, random, reply) {
         Ok(opened) => Outcome::Served(opened.length),
         Err(refusal) => Outcome::Refused(refusal),
     }
 }
 
-fn receive(device: &mut Device, bytes: &[u8], reply: &mut [u8; REPLY_ROOM]) -> Outcome
-    requires { is_legal device.old ≡ true }
+fn receive(legal: &mut Legal<'_>, bytes: &[u8], reply: &mut [u8; REPLY_ROOM]) -> Outcome
+    ensures same_reference { legal.new.device.ghost_name ≡ legal.old.device.ghost_name }
     ensures within { IsReplyWithin result reply_room }
-    ensures text { outcome_text result reply.new ≡ outcome (received_at device.old log_place bytes.now reply_room) }
-    ensures answer { answer_of result ≡ Some (received_at device.old log_place bytes.now reply_room).number }
-    ensures device { device.new ≡ (received_at device.old log_place bytes.now reply_room).device }
-    ensures reply { reply.new ≡ over (received_at device.old log_place bytes.now reply_room).reply reply.old }
+    ensures text { outcome_text result reply.new
+        ≡ outcome (received_at legal.old.device.now log_place bytes.now reply_room) }
+    ensures answer { answer_of result ≡ Some (received_at legal.old.device.now log_place bytes.now reply_room).number }
+    ensures device { legal.new.device.now ≡ (received_at legal.old.device.now log_place bytes.now reply_room).device }
+    ensures reply { reply.new ≡ over (received_at legal.old.device.now log_place bytes.now reply_room).reply reply.old }
 {
-    match on_legal::receive(device, PLACE, bytes, reply) {
+    match calls::receive(legal, PLACE, bytes, reply) {
         Ok(received) => Outcome::Served(received.length),
         Err(refusal) => Outcome::Refused(refusal),
     }
 }
 
 #[tactic(auto, using(device::proofs::EnoughRoom::closing_quiet, crate::proofs::Outcomes::served_text))]
-fn close(device: &mut Device) -> Outcome
-    requires { is_legal device.old ≡ true }
+fn close(legal: &mut Legal<'_>) -> Outcome
+    ensures same_reference { legal.new.device.ghost_name ≡ legal.old.device.ghost_name }
     ensures within { IsReplyWithin result reply_room }
-    ensures text { (m : List ℕ) → outcome_text result m ≡ outcome (closed_by device.old log_place) }
-    ensures answer { answer_of result ≡ Some (closed_by device.old log_place).number }
-    ensures device { device.new ≡ (closed_by device.old log_place).device }
+    ensures text { (m : List ℕ) → outcome_text result m ≡ outcome (closed_by legal.old.device.now log_place) }
+    ensures answer { answer_of result ≡ Some (closed_by legal.old.device.now log_place).number }
+    ensures device { legal.new.device.now ≡ (closed_by legal.old.device.now log_place).device }
 {
-    match on_legal::close(device, PLACE) {
+    match calls::close(legal, PLACE) {
         Ok(()) => Outcome::Served(0),
         Err(refusal) => Outcome::Refused(refusal),
     }
@@ -85,24 +85,24 @@ fn close(device: &mut Device) -> Outcome
 
 // An event on a legal record.
 #[tactic(auto, unfolding(crate::specs::Doing::event_result), using(device::proofs::EnoughRoom::closing_quiet))]
-fn call_legal(device: &mut Device, event: &Event<'_>, reply: &mut [u8; REPLY_ROOM]) -> Outcome
-    requires { is_legal device.old ≡ true }
+fn call_legal(legal: &mut Legal<'_>, event: &Event<'_>, reply: &mut [u8; REPLY_ROOM]) -> Outcome
+    ensures same_reference { legal.new.device.ghost_name ≡ legal.old.device.ghost_name }
     ensures within { IsReplyWithin result reply_room }
     ensures text { outcome_text result reply.new
-        ≡ result_text (event_said event.now) (event_result device.old (event_said event.now)) }
+        ≡ result_text (event_said event.now) (event_result legal.old.device.now (event_said event.now)) }
     ensures answer { answer_of result
-        ≡ event_answer (event_said event.now) (event_result device.old (event_said event.now)) }
-    ensures device { device.new ≡ (event_result device.old (event_said event.now)).device }
-    ensures reply { reply.new ≡ over (event_result device.old (event_said event.now)).reply reply.old }
+        ≡ event_answer (event_said event.now) (event_result legal.old.device.now (event_said event.now)) }
+    ensures device { legal.new.device.now ≡ (event_result legal.old.device.now (event_said event.now)).device }
+    ensures reply { reply.new ≡ over (event_result legal.old.device.now (event_said event.now)).reply reply.old }
 {
     match event {
-        Event::Opens(random) => open(device, *random, reply),
-        Event::Receives(bytes) => receive(device, bytes, reply),
+        Event::Opens(random) => open(legal, *random, reply),
+        Event::Receives(bytes) => receive(legal, bytes, reply),
         Event::Passes(seconds) => {
-            clock::on_legal::pass(device, *seconds);
+            pass::pass(legal, *seconds);
             Outcome::Served(0)
         }
-        Event::Closes => close(device),
+        Event::Closes => close(legal),
         Event::NoSuch => Outcome::NoSuch,
     }
 }
@@ -120,7 +120,10 @@ pub fn call(t: &mut Tested, event: &Event<'_>, reply: &mut [u8; REPLY_ROOM]) -> 
     ensures places { Drives (seconds_of (event_said event.now)) t.old.device t.new.device }
 {
     if t.legal {
-        return call_legal(&mut t.device, event, reply);
+        let mut legal = Legal {
+            device: &mut t.device,
+        };
+        return call_legal(&mut legal, event, reply);
     }
     match event {
         Event::NoSuch => Outcome::NoSuch,

@@ -7,7 +7,7 @@ ghost use Rattle.floorlog.specs.Outcomes.{outcome_text, answer_of, IsReplyWithin
 ghost use Rattle.floorlog.specs.Outcomes.{printed_most};
 
 use arrayvec::ArrayVec;
-use device::on_legal::REPLY_ROOM;
+use device::calls::REPLY_ROOM;
 use record::refusal::Refusal;
 use text::numbered::Numbered;
 

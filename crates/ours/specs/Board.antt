@@ -95,11 +95,11 @@ ours = record {
   receive = λ d p bs m. lent_by (received_at d p bs (length m)) m;
   -- clock::pass::pass
   pass = λ d n. given_by d (time_passed d n);
-  -- record::types::Device::set_fault (record/src/host.rt)
+  -- record::legality::Legal::set_fault (record/src/host.rt)
   set_fault = λ d mark. given_by d (fault_set d mark);
-  -- record::types::Device::set_errors (record/src/host.rt)
+  -- record::legality::Legal::set_errors (record/src/host.rt)
   set_errors = λ d digits. given_by d (errors_set d digits);
-  -- record::types::Device::set_mark (record/src/host.rt)
+  -- record::legality::Legal::set_mark (record/src/host.rt)
   set_mark = λ d lamp mark. given_by d (mark_set d lamp mark);
   -- stored::storing::store
   store = λ d m. wrote_by (stored_by d (length m)) m;

@@ -1,7 +1,7 @@
-//! Our board as the demands speak of it (specs/Board), and code that is never linked: for each field of `ours` one
-//! function that does nothing but call the function that a program in Rattle links, and whose promise is that field's
-//! value. So a demand that spoke of another function than the linked one would not be proved. The contracts of crate
-//! `board`, which a host in C links, are spelled by `ours` themselves.
+//! Our board as the demands speak of it (specs/Board): for each field of `ours` one function whose promise is that
+//! field's value. Those of `projector` are the calls on any record, which a host links: each tests the record and makes
+//! the call on the legal one. The others do nothing but call what a host links. So a demand that spoke of another
+//! function than the linked one would not be proved.
 #![tactic(auto)]
 
 pub mod projector;

@@ -1,5 +1,5 @@
-// `ours`'s set-up, opening with its place, closing, receiving, passing time, fault mark, error digits
-// and lamps' marks. Of a record that is lent: what the call says, what lies there afterwards, and the memory.
+// `ours`'s set-up, and the calls on any record that is lent: each tests it, and makes the call on the legal one. Of a
+// record that is lent: what the call says, what lies there afterwards, and the memory.
 ghost use Rattle.std.specs.Prelude.{◌≡◌};
 ghost use Rattle.text.specs.Outcomes.{outcome_number};
 ghost use Rattle.record.specs.Refusals.{refusal_number};
@@ -12,35 +12,41 @@ ghost use Rattle.ours.specs.Tied.{given_as, lent_as};
 use clock::pass;
 use device::calls;
 use device::calls::{Opened, Received};
+use record::legality::Legal;
 use record::refusal::Refusal;
 use record::set_up_error::SetUpError;
 use record::types::Device;
 use setup::wanted::Wanted;
 
-/// `setup::set_up` gives what `ours.set_up` says.
+/// Sets a projector up: what `ours.set_up` says. Refused as `setup::set_up` does.
 pub fn set_up(wanted: &Wanted<'_>) -> Result<Device, SetUpError>
     ensures { set_up_given result ≡ ours.set_up (wanted_settings wanted.now) }
 {
     setup::set_up(wanted)
 }
 
-/// `calls::open` gives and leaves what `ours.opening` says, at the place of `ours.place_opened`.
+/// Opens a connection at the lowest closed place: what `ours.opening` says, at the place of `ours.place_opened`.
+/// Refused: `NotLegal`, then as `calls::open` does.
+#[tactic(auto, using(device::proofs::Illegal::opened_illegal, device::proofs::Illegal::place_taken_illegal))]
 pub fn open(device: &mut Device, random: u32, out: &mut [u8]) -> Result<Opened, Refusal>
     ensures lent { lent_as (opening_told result) device.new out.new
         ≡ ours.opening device.old random out.old }
     ensures place { opened_place result ≡ ours.place_opened device.old random out.old }
 {
-    calls::open(device, random, out)
+    calls::open(&mut Legal::of(device)?, random, out)
 }
 
-/// `calls::close` gives and leaves what `ours.closing` says.
+/// Closes the connection at a place: what `ours.closing` says. Refused: `NotLegal`, then as `calls::close` does.
+#[tactic(auto, using(device::proofs::Illegal::closed_illegal))]
 pub fn close(device: &mut Device, place: usize) -> Result<(), Refusal>
     ensures { given_as (outcome_number refusal_number result) device.new ≡ ours.closing device.old place }
 {
-    calls::close(device, place)
+    calls::close(&mut Legal::of(device)?, place)
 }
 
-/// `calls::receive` gives and leaves what `ours.receive` says.
+/// Takes bytes from the network at a place: what `ours.receive` says. Refused: `NotLegal`, then as `calls::receive`
+/// does.
+#[tactic(auto, using(device::proofs::Illegal::received_illegal))]
 pub fn receive(
     device: &mut Device,
     place: usize,
@@ -50,37 +56,39 @@ pub fn receive(
     ensures { lent_as (receiving_told result) device.new out.new
         ≡ ours.receive device.old place bytes.now out.old }
 {
-    calls::receive(device, place, bytes, out)
+    calls::receive(&mut Legal::of(device)?, place, bytes, out)
 }
 
-/// `pass::pass` gives and leaves what `ours.pass` says.
-#[tactic(auto, using(record::proofs::GivenTold::told_given))]
+/// Lets so many seconds pass: what `ours.pass` says. Refused: `NotLegal`.
+#[tactic(auto, using(record::proofs::GivenTold::told_given, clock::proofs::Cases::passed_illegal))]
 pub fn pass(device: &mut Device, seconds: u32) -> Result<(), Refusal>
     ensures { given_as (outcome_number refusal_number result) device.new ≡ ours.pass device.old seconds }
 {
-    pass::pass(device, seconds)
+    pass::pass(&mut Legal::of(device)?, seconds);
+    Ok(())
 }
 
-/// `Device::set_fault` gives and leaves what `ours.set_fault` says.
-#[tactic(auto, using(record::proofs::GivenTold::told_given))]
+/// Sets the fault mark: what `ours.set_fault` says. Refused: `NotLegal`.
+#[tactic(auto, using(record::proofs::GivenTold::told_given, record::proofs::Calls::fault_illegal))]
 pub fn set_fault(device: &mut Device, mark: bool) -> Result<(), Refusal>
     ensures { given_as (outcome_number refusal_number result) device.new ≡ ours.set_fault device.old mark }
 {
-    device.set_fault(mark)
+    Legal::of(device)?.set_fault(mark);
+    Ok(())
 }
 
-/// `Device::set_errors` gives and leaves what `ours.set_errors` says.
-#[tactic(auto, using(record::proofs::GivenTold::told_given))]
+/// Sets the error status: what `ours.set_errors` says. Refused: `NotLegal`, then as `Legal::set_errors` does.
+#[tactic(auto, using(record::proofs::GivenTold::told_given, record::proofs::Calls::errors_illegal))]
 pub fn set_errors(device: &mut Device, digits: &[u8]) -> Result<(), Refusal>
     ensures { given_as (outcome_number refusal_number result) device.new ≡ ours.set_errors device.old digits.now }
 {
-    device.set_errors(digits)
+    Legal::of(device)?.set_errors(digits)
 }
 
-/// `Device::set_mark` gives and leaves what `ours.set_mark` says.
-#[tactic(auto, using(record::proofs::GivenTold::told_given))]
+/// Sets a lamp's enabled mark: what `ours.set_mark` says. Refused: `NotLegal`, then as `Legal::set_mark` does.
+#[tactic(auto, using(record::proofs::GivenTold::told_given, record::proofs::Calls::mark_not_legal))]
 pub fn set_mark(device: &mut Device, lamp: usize, mark: bool) -> Result<(), Refusal>
     ensures { given_as (outcome_number refusal_number result) device.new ≡ ours.set_mark device.old lamp mark }
 {
-    device.set_mark(lamp, mark)
+    Legal::of(device)?.set_mark(lamp, mark)
 }

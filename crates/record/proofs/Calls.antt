@@ -92,6 +92,10 @@ module _ (d : Device) where
   unfolding fault_set
   fault_illegal m h = rw h
 
+  pub errors_illegal : (ds : List ℕ) → is_legal d ≡ false → errors_set d ds ≡ Err NotLegal
+  unfolding errors_set
+  errors_illegal ds h = rw h
+
   pub fault_accepted : (m : Bool) → is_legal d ≡ true
       → fault_set d m ≡ Ok (with_own d (with_fault d.own (flag_of m)))
   unfolding fault_set

@@ -14,4 +14,5 @@ pub mod Refusals
 pub mod SetUpErrors
 pub mod Given
 pub mod Computing
+pub mod Lending
 pub mod Worked

@@ -1,8 +1,11 @@
 // The legality of the whole record (RULES, The legal record): a factor a part.
-ghost use Rattle.std.specs.Prelude.{◌≡◌};
+ghost use Rattle.std.specs.Prelude.{◌≡◌, true, IfOk, if◌then◌else◌};
 ghost use Rattle.record.specs.Legal.{is_legal};
+ghost use Rattle.record.specs.Refusals.{refusal_number};
+ghost use Rattle.text.specs.Outcomes.{outcome_number};
 
 use crate::connections;
+use crate::refusal::Refusal;
 use crate::types::Device;
 
 impl Device {
@@ -17,8 +20,8 @@ impl Device {
     }
 }
 
-/// A record of which it is known whether it is legal: one that comes in is tested here, and then lent to calls that
-/// test nothing. It need not be legal, since a log can begin with any.
+/// A record with the result of its one test. It need not be legal, since a log can begin with any record; where it is,
+/// it is borrowed as a `Legal` for each call.
 #[derive(Drop)]
 pub struct Tested {
     /// The record, legal or not.
@@ -35,5 +38,31 @@ impl Tested {
     {
         let legal = device.is_legal();
         Tested { device, legal }
+    }
+}
+
+/// A borrow of a legal record, for the calls: they keep it legal, and none tests it again.
+#[derive(Drop)]
+pub struct Legal<'a> {
+    /// The record, legal.
+    pub device: &'a mut Device,
+    ghost legal: { is_legal device.now ≡ true },
+}
+
+impl<'a> Legal<'a> {
+    ghost use Rattle.std.specs.Borrow.{sem};
+    ghost use Rattle.record.specs.Lending.{rests_if_refused};
+
+    /// Tests the record and borrows it. Refused: `NotLegal`.
+    pub fn of(device: &'a mut Device) -> Result<Legal<'a>, Refusal>
+        ensures* kept { sem 𝓛 (rests_if_refused device.entry result) }
+        ensures number { outcome_number refusal_number result ≡ (if is_legal device.old then 0 else 1) }
+        ensures lent { IfOk result
+            (λ l. (l.device.now ≡ device.old) × (l.device.ghost_name ≡ device.entry.ghost_name)) }
+    {
+        if !device.is_legal() {
+            return Err(Refusal::NotLegal);
+        }
+        Ok(Legal { device })
     }
 }

@@ -13,7 +13,7 @@ ghost use Rattle.recorded.specs.Played.{play_told};
 
 use crate::play::{self, Stray};
 use arrayvec::ArrayVec;
-use device::on_legal::REPLY_ROOM;
+use device::calls::REPLY_ROOM;
 use history::entry::{Entry, Header, SHOWN_MOST, Stated};
 use history::read::{self, Bytes};
 use history::recorder::Recorder;

@@ -1,8 +1,6 @@
-// One call of a history, made again. The record comes with the result of its one test; only the host's calls test it
-// again.
-ghost use Rattle.std.specs.Prelude.{◌≡◌, ◌==◌, true};
+// One call of a history, made again. The record comes with the result of its one test, and no record is tested here.
+ghost use Rattle.std.specs.Prelude.{◌≡◌, ◌==◌};
 ghost use Rattle.text.specs.Words.{over};
-ghost use Rattle.record.specs.Legal.{is_legal};
 ghost use Rattle.device.specs.Calls.{reply_room, received_at, opened_by};
 ghost use Rattle.ours.specs.Board.{ours};
 ghost use Rattle.demands.specs.Calls.{after};
@@ -11,12 +9,12 @@ ghost use Rattle.recorded.specs.Recorded.{replied_by};
 ghost use Rattle.recorded.specs.Playing.{played_call};
 ghost use Rattle.recorded.specs.Played.{call_told, play_told, quiet_told};
 
-use device::on_legal;
-use device::on_legal::REPLY_ROOM;
+use clock::pass;
+use device::calls;
+use device::calls::REPLY_ROOM;
 use history::call::Call;
-use record::legality::Tested;
+use record::legality::{Legal, Tested};
 use record::refusal::Refusal;
-use record::types::Device;
 
 /// Why a call of a history does not belong to a record.
 #[derive(Clone, Copy)]
@@ -34,17 +32,17 @@ fn is_recorded(got: usize, place: u8) -> bool
 }
 
 fn open(
-    device: &mut Device,
+    legal: &mut Legal<'_>,
     place: u8,
     random: u32,
     reply: &mut [u8; REPLY_ROOM],
 ) -> Result<usize, Stray>
-    requires { is_legal device.old ≡ true }
-    ensures told { play_told result ≡ call_told device.old (opens place random) }
-    ensures device { device.new ≡ (opened_by device.old random reply_room).device }
-    ensures reply { reply.new ≡ over (opened_by device.old random reply_room).reply reply.old }
+    ensures same_reference { legal.new.device.ghost_name ≡ legal.old.device.ghost_name }
+    ensures told { play_told result ≡ call_told legal.old.device.now (opens place random) }
+    ensures device { legal.new.device.now ≡ (opened_by legal.old.device.now random reply_room).device }
+    ensures reply { reply.new ≡ over (opened_by legal.old.device.now random reply_room).reply reply.old }
 {
-    match on_legal::open(device, random, reply) {
+    match calls::open(legal, random, reply) {
         Ok(opened) if is_recorded(opened.place, place) => Ok(opened.length),
         Ok(_) => Err(Stray::OtherPlace),
         Err(refusal) => Err(Stray::Refused(refusal)),
@@ -52,17 +50,17 @@ fn open(
 }
 
 fn receive(
-    device: &mut Device,
+    legal: &mut Legal<'_>,
     place: u8,
     bytes: &[u8],
     reply: &mut [u8; REPLY_ROOM],
 ) -> Result<usize, Stray>
-    requires { is_legal device.old ≡ true }
-    ensures told { play_told result ≡ call_told device.old (receives place bytes.now) }
-    ensures device { device.new ≡ (received_at device.old place bytes.now reply_room).device }
-    ensures reply { reply.new ≡ over (received_at device.old place bytes.now reply_room).reply reply.old }
+    ensures same_reference { legal.new.device.ghost_name ≡ legal.old.device.ghost_name }
+    ensures told { play_told result ≡ call_told legal.old.device.now (receives place bytes.now) }
+    ensures device { legal.new.device.now ≡ (received_at legal.old.device.now place bytes.now reply_room).device }
+    ensures reply { reply.new ≡ over (received_at legal.old.device.now place bytes.now reply_room).reply reply.old }
 {
-    match on_legal::receive(device, place as usize, bytes, reply) {
+    match calls::receive(legal, place as usize, bytes, reply) {
         Ok(received) => Ok(received.length),
         Err(refusal) => Err(Stray::Refused(refusal)),
     }
@@ -79,26 +77,29 @@ fn quiet(told: Result<(), Refusal>) -> Result<usize, Stray>
 }
 
 fn play_legal(
-    device: &mut Device,
+    legal: &mut Legal<'_>,
     call: &Call<'_>,
     reply: &mut [u8; REPLY_ROOM],
 ) -> Result<usize, Stray>
-    requires { is_legal device.old ≡ true }
-    ensures told { play_told result ≡ call_told device.old (call_seen call.now) }
-    ensures device { device.new ≡ after ours device.old (played_call (call_seen call.now)) }
-    ensures reply { reply.new ≡ over (replied_by device.old (played_call (call_seen call.now))) reply.old }
+    ensures same_reference { legal.new.device.ghost_name ≡ legal.old.device.ghost_name }
+    ensures told { play_told result ≡ call_told legal.old.device.now (call_seen call.now) }
+    ensures device { legal.new.device.now ≡ after ours legal.old.device.now (played_call (call_seen call.now)) }
+    ensures reply { reply.new ≡ over (replied_by legal.old.device.now (played_call (call_seen call.now))) reply.old }
 {
     match call {
-        Call::Opens(place, random) => open(device, *place, *random, reply),
-        Call::Receives(place, bytes) => receive(device, *place, bytes, reply),
+        Call::Opens(place, random) => open(legal, *place, *random, reply),
+        Call::Receives(place, bytes) => receive(legal, *place, bytes, reply),
         Call::Passes(seconds) => {
-            clock::on_legal::pass(device, *seconds);
+            pass::pass(legal, *seconds);
             Ok(0)
         }
-        Call::Closes(place) => quiet(on_legal::close(device, *place as usize)),
-        Call::Fault(mark) => quiet(device.set_fault(*mark)),
-        Call::Errors(digits) => quiet(device.set_errors(digits)),
-        Call::Mark(lamp, mark) => quiet(device.set_mark(*lamp as usize, *mark)),
+        Call::Closes(place) => quiet(calls::close(legal, *place as usize)),
+        Call::Fault(mark) => {
+            legal.set_fault(*mark);
+            Ok(0)
+        }
+        Call::Errors(digits) => quiet(legal.set_errors(digits)),
+        Call::Mark(lamp, mark) => quiet(legal.set_mark(*lamp as usize, *mark)),
     }
 }
 
@@ -111,7 +112,10 @@ pub fn play(t: &mut Tested, call: &Call<'_>, reply: &mut [u8; REPLY_ROOM]) -> Re
     ensures reply { reply.new ≡ over (replied_by t.old.device (played_call (call_seen call.now))) reply.old }
 {
     if t.legal {
-        return play_legal(&mut t.device, call, reply);
+        let mut legal = Legal {
+            device: &mut t.device,
+        };
+        return play_legal(&mut legal, call, reply);
     }
     Err(Stray::Refused(Refusal::NotLegal))
 }

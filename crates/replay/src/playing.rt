@@ -8,7 +8,7 @@ ghost use Rattle.recorded.specs.Following.{chain_begun, stray_seen};
 ghost use Rattle.replay.specs.HistoryText.{replied_line, stray_ending};
 ghost use Rattle.replay.specs.HistoryMade.{IsMadeAgain};
 
-use device::on_legal::REPLY_ROOM;
+use device::calls::REPLY_ROOM;
 use floorlog::kept::KeptLine;
 use floorlog::last;
 use floorlog::observer::Observer;

@@ -11,7 +11,7 @@ ghost use Rattle.history.specs.Entries.{entry_seen};
 ghost use Rattle.watch.specs.CallSteps.{seconds_of_entry};
 ghost use Rattle.watch.specs.Watching.{is_burning_in, gained_by, is_sound};
 
-use device::on_legal::REPLY_ROOM;
+use device::calls::REPLY_ROOM;
 use floorlog::kept::KeptLine;
 use history::call::Call;
 use history::entry::Entry;

@@ -4,11 +4,13 @@ ghost use Rattle.text.specs.Words.{◌from◌to◌};
 ghost use Rattle.floorlog.specs.KeptText.{kept_text};
 ghost use Rattle.watch.specs.Marking.{marked, floor_event, watched_said, done_by, seconds_by, watched_answer};
 
-use device::on_legal::REPLY_ROOM;
+use device::calls::REPLY_ROOM;
 use floorlog::event;
 use floorlog::event::Event;
 use floorlog::kept::KeptLine;
-use record::legality::Tested;
+use record::legality::{Legal, Tested};
+use record::refusal::Refusal;
+use text::numbered;
 use text::numbered::Numbered;
 
 /// An event of a log that is watched.
@@ -61,11 +63,14 @@ fn set_mark(t: &mut Tested, lamp: u8, mark: bool) -> u32
     ensures device { t.new.device ≡ done_by t.old.device (marked lamp mark) }
     ensures number { Some result ≡ watched_answer t.old.device (marked lamp mark) }
 {
-    let told = t.device.set_mark(lamp as usize, mark);
-    match told {
-        Ok(()) => 0,
-        Err(refusal) => refusal.number(),
+    if t.legal {
+        let mut legal = Legal {
+            device: &mut t.device,
+        };
+        let told = legal.set_mark(lamp as usize, mark);
+        return numbered::number_of(told);
     }
+    Refusal::NotLegal.number()
 }
 
 /// An event on any record. Returns the number that its call gives, 0 where it was served; none of a line of no form.

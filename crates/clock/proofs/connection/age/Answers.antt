@@ -1,5 +1,5 @@
 -- Each `return` is one of the ways a connection ages.
-use Rattle.std.proofs.Common.{◌≡◌, true, sym, ap, arith, Bool}
+use Rattle.std.proofs.Common.{◌≡◌, sym, ap, arith, Bool}
 use Rattle.record.specs.Legal.{is_timed}
 use Rattle.record.specs.Views.{phase_of, phase_number}
 use Rattle.record.specs.declared.types.Connection.{Connection}

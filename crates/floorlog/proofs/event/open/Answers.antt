@@ -9,8 +9,8 @@ use Rattle.floorlog.proofs.event.open.Goals as goal
 
 pub returns-in-Ok-clause-text : goal.returns-in-Ok-clause-text
 returns-in-Ok-clause-text c =
-    let d = c.args.device.now in
+    let d = c.args.legal.now.device.now in
     let told = rw c.told-reply at c.in-Ok.ensures.told in
     served_text (opened_by d c.args.random reply_room) c.args.reply.now (ap (λ (t : Told). t.number) told)
     (ap (λ (t : Told). t.length) told) (rw c.told-reply at c.in-Ok.ensures.reply)
-    ∙ ap outcome (sym (log_opened_closed d c.args.random c.requires (eq-eqb _ _ c.if-device-ne-SHUT.false)))
+    ∙ ap outcome (sym (log_opened_closed d c.args.random c.args.legal.now.legal (eq-eqb _ _ c.if-legal-ne-SHUT.false)))

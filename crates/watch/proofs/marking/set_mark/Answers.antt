@@ -1,7 +1,12 @@
--- A record stays legal, or not legal.
-use Rattle.std.proofs.Common.{ap, sym, ◌∙◌}
+-- A record stays legal; one that is not is refused, and stays as it was.
+use Rattle.std.proofs.Common.{ap, sym, ◌∙◌, Some, Result}
+use Rattle.text.specs.Outcomes.{outcome_number}
+use Rattle.record.specs.Refusals.{refusal_number}
+use Rattle.record.specs.declared.refusal.Refusal.{Refusal}
+use Rattle.record.specs.declared.types.Device.{Device}
 use Rattle.record.specs.Given.{left_by}
 use Rattle.record.specs.Legal.{is_legal}
+use Rattle.record.proofs.Calls.{mark_not_legal}
 use Rattle.record.proofs.GivenTold.{device_given}
 use Rattle.watch.specs.Marking.{marked, done_by}
 use Rattle.watch.proofs.LineLeaves.{done_legality}
@@ -18,16 +23,20 @@ invariant_of-t c =
           ∙ sym (ap is_legal done ∙ done_legality d (marked c.args.lamp c.args.mark));
     }
 
-pub returns-in-Ok-clause-device : goal.returns-in-Ok-clause-device
+pub returns-then-t-clause-device : goal.returns-then-t-clause-device
 unfolding done_by
-returns-in-Ok-clause-device c =
+returns-then-t-clause-device c =
     let d = c.args.t.now.device in
     device_given d _ _ c.set_mark-told.ensures.kept
     ∙ ap (left_by d) c.set_mark-told.ensures.given
 
-pub returns-in-Err-clause-device : goal.returns-in-Err-clause-device
+pub returns-clause-device : goal.returns-clause-device
 unfolding done_by
-returns-in-Err-clause-device c =
-    let d = c.args.t.now.device in
-    device_given d _ _ c.set_mark-told.ensures.kept
-    ∙ ap (left_by d) c.set_mark-told.ensures.given
+returns-clause-device c =
+    sym (ap (left_by c.args.t.now.device) (mark_not_legal _ _ _ (sym c.args.t.now.tested ∙ c.if-t.false)))
+
+pub returns-clause-number : goal.returns-clause-number
+returns-clause-number c =
+    ap Some c.number.ensures
+    ∙ ap (λ (r : Result Device Refusal). Some (outcome_number refusal_number r))
+    (sym (mark_not_legal _ _ _ (sym c.args.t.now.tested ∙ c.if-t.false)))
