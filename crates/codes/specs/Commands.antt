@@ -1,4 +1,5 @@
 -- The commands by their codes (include/ceiling.h), a code and two numbers each.
+--   query_code b           the code of `?` to the body b: the number of its constant (specs/Header)
 --   code_rows              what each code stands for, and which of the two numbers it uses
 --   coded_by n rows        what the code n stands for by these rows, and which numbers it uses
 --   switch_at n, input_at type number, half_at n     what the numbers of a command stand for, or nothing
@@ -6,21 +7,23 @@
 --   code_of c          the code of a command, with 0 for what it does not use
 --   used_of k          k with 0 for what its code does not use
 -- Assumes nothing.
-use Rattle.std.specs.Prelude.{ℕ, Bool, true, false, ◌&&◌, List, [], ◌∷◌, if◌then◌else◌}
+use Rattle.std.specs.Prelude.{ℕ, Bool, true, false, ◌&&◌, List, [], ◌∷◌, map, if◌then◌else◌}
 use Rattle.std.specs.Prelude.{Option, Some, None, option_map, option_and_then, nat_le, ◌==◌}
+use Rattle.std.specs.List.{filter}
 use Rattle.std.specs.Option.{option_map_or}
 use Rattle.words.specs.declared.input.Source.{Source}
 use Rattle.words.specs.declared.input.Source.TheVariants.{Rgb, Video, Digital, Storage, Network, Internal}
 use Rattle.words.specs.declared.input.Input.{Input}
 use Rattle.pjlink.specs.declared.body.Body.{Body}
-use Rattle.pjlink.specs.declared.body.Body.TheVariants.{Powr, Inpt, Avmt, Erst, Lamp, Inst, Name, Inf1, Inf2, Info}
-use Rattle.pjlink.specs.declared.body.Body.TheVariants.{Clss, Frez, Svol, Mvol, Snum, Sver, Innm, Inpt2, Inst2}
+use Rattle.words.specs.declared.class.ClassNumber.TheVariants.{One, Two}
+use Rattle.pjlink.specs.Bodies.{bodies, has_query}
 use Rattle.pjlink.specs.declared.command.Half.{Half}
 use Rattle.pjlink.specs.declared.command.Half.TheVariants.{VideoHalf, AudioHalf, BothHalves}
 use Rattle.pjlink.specs.declared.command.Volume.TheVariants.{Speaker, Microphone}
 use Rattle.pjlink.specs.declared.command.Command.{Command}
-use Rattle.pjlink.specs.declared.command.Command.TheVariants.{PowerSet, InputSet, MuteSet, InputSet2, FreezeSet}
+use Rattle.pjlink.specs.declared.command.Command.TheVariants.{PowerSet, InputSet, MuteSet, FreezeSet}
 use Rattle.pjlink.specs.declared.command.Command.TheVariants.{VolumeStep, NameQuery, Query}
+use Rattle.codes.specs.Header.{query_constant}
 use Rattle.codes.specs.declared.command.Coded.{Coded}
 
 infix 5 ◌means◌
@@ -41,18 +44,19 @@ pub record CodeRow : Type 0 where
 abbrev pub ◌means◌ : ℕ → CodedBy → CodeRow
 n means b = record { code = n; by = b }
 
-abbrev query : Body → CodedBy
-query b = alone (Query b)
+-- of a body that has no query, the code of its one command
+abbrev pub query_code : Body → ℕ
+query_code b = (query_constant b).number
+
+-- `?` to each body that has it, by the number that the header gives it
+abbrev query_rows : List CodeRow
+query_rows = map (λ b. query_code b means alone (Query b)) (filter has_query bodies)
 
 abbrev pub code_rows : List CodeRow
 code_rows =
-    (0 means query Powr) ∷ (1 means switch PowerSet) ∷ (2 means query Inpt) ∷ (3 means of_input InputSet)
-    ∷ (4 means query Avmt) ∷ (5 means of_half MuteSet) ∷ (6 means query Erst) ∷ (7 means query Lamp)
-    ∷ (8 means query Inst) ∷ (9 means query Name) ∷ (10 means query Inf1) ∷ (11 means query Inf2)
-    ∷ (12 means query Info) ∷ (13 means query Clss) ∷ (14 means query Frez) ∷ (15 means switch FreezeSet)
-    ∷ (16 means switch (VolumeStep Speaker)) ∷ (17 means switch (VolumeStep Microphone)) ∷ (18 means query Snum)
-    ∷ (19 means query Sver) ∷ (20 means of_input NameQuery) ∷ (21 means query Inpt2) ∷ (22 means of_input InputSet2)
-    ∷ (23 means query Inst2) ∷ []
+    (1 means switch PowerSet) ∷ (3 means of_input (InputSet One)) ∷ (5 means of_half MuteSet)
+    ∷ (15 means switch FreezeSet) ∷ (16 means switch (VolumeStep Speaker)) ∷ (17 means switch (VolumeStep Microphone))
+    ∷ (20 means of_input NameQuery) ∷ (22 means of_input (InputSet Two)) ∷ query_rows
 
 -- 0 off or down, 1 on or up
 unfoldable pub switch_at : ℕ → Option Bool
@@ -128,38 +132,16 @@ half_number VideoHalf = 1
 half_number AudioHalf = 2
 half_number BothHalves = 3
 
--- of a body that has no query, the code of its one command
-abbrev pub query_code : Body → ℕ
-query_code Powr = 0
-query_code Inpt = 2
-query_code Avmt = 4
-query_code Erst = 6
-query_code Lamp = 7
-query_code Inst = 8
-query_code Name = 9
-query_code Inf1 = 10
-query_code Inf2 = 11
-query_code Info = 12
-query_code Clss = 13
-query_code Frez = 14
-query_code Svol = 16
-query_code Mvol = 17
-query_code Snum = 18
-query_code Sver = 19
-query_code Innm = 20
-query_code Inpt2 = 21
-query_code Inst2 = 23
-
 abbrev pub input_code : ℕ → Input → Coded
 input_code n i = code_with n (source_number i.source) i.number
 
 abbrev pub code_of : Command → Coded
 code_of (Query b) = code_with (query_code b) 0 0
 code_of (PowerSet on) = code_with 1 (bit on) 0
-code_of (InputSet i) = input_code 3 i
+code_of (InputSet One i) = input_code 3 i
 code_of (MuteSet half on) = code_with 5 (half_number half) (bit on)
 code_of (FreezeSet on) = code_with 15 (bit on) 0
 code_of (VolumeStep Speaker up) = code_with 16 (bit up) 0
 code_of (VolumeStep Microphone up) = code_with 17 (bit up) 0
 code_of (NameQuery i) = input_code 20 i
-code_of (InputSet2 i) = input_code 22 i
+code_of (InputSet Two i) = input_code 22 i

@@ -8,16 +8,17 @@
 --   power_constant p      a power (enum pj_power)
 -- Assumes nothing.
 use Rattle.std.specs.Prelude.{ℕ, List, codes, Option, Some, None}
+use Rattle.words.specs.declared.class.ClassNumber.TheVariants.{One, Two}
 use Rattle.words.specs.declared.power.Power.{Power}
 use Rattle.words.specs.declared.power.Power.TheVariants.{Off, On, Cooling, WarmUp}
 use Rattle.pjlink.specs.Said.{Said, okay, refused, power_is, chosen_is, mutes_are, errors_are, lamps_are, inputs_are}
 use Rattle.pjlink.specs.Said.{text_is, class_is, freeze_is, nothing}
 use Rattle.pjlink.specs.declared.body.Body.{Body}
 use Rattle.pjlink.specs.declared.body.Body.TheVariants.{Powr, Inpt, Avmt, Erst, Lamp, Inst, Name, Inf1, Inf2, Info}
-use Rattle.pjlink.specs.declared.body.Body.TheVariants.{Clss, Frez, Svol, Mvol, Snum, Sver, Innm, Inpt2, Inst2}
+use Rattle.pjlink.specs.declared.body.Body.TheVariants.{Clss, Frez, Svol, Mvol, Snum, Sver, Innm}
 use Rattle.pjlink.specs.declared.command.Volume.TheVariants.{Speaker, Microphone}
 use Rattle.pjlink.specs.declared.command.Command.{Command}
-use Rattle.pjlink.specs.declared.command.Command.TheVariants.{PowerSet, InputSet, MuteSet, InputSet2, FreezeSet}
+use Rattle.pjlink.specs.declared.command.Command.TheVariants.{PowerSet, InputSet, MuteSet, FreezeSet}
 use Rattle.pjlink.specs.declared.command.Command.TheVariants.{VolumeStep, NameQuery, Query}
 use Rattle.pjlink.specs.declared.greeting.Greeting.{Greeting}
 use Rattle.pjlink.specs.declared.greeting.Greeting.TheVariants.{Open, Secured, Refused}
@@ -33,11 +34,11 @@ n equals m = record { name = n; number = m }
 
 abbrev pub query_constant : Body → Constant
 query_constant Powr = codes "PJ_POWR_ASK" equals 0
-query_constant Inpt = codes "PJ_INPT_ASK" equals 2
+query_constant (Inpt One) = codes "PJ_INPT_ASK" equals 2
 query_constant Avmt = codes "PJ_AVMT_ASK" equals 4
 query_constant Erst = codes "PJ_ERST" equals 6
 query_constant Lamp = codes "PJ_LAMP" equals 7
-query_constant Inst = codes "PJ_INST" equals 8
+query_constant (Inst One) = codes "PJ_INST" equals 8
 query_constant Name = codes "PJ_NAME" equals 9
 query_constant Inf1 = codes "PJ_INF1" equals 10
 query_constant Inf2 = codes "PJ_INF2" equals 11
@@ -49,19 +50,19 @@ query_constant Mvol = codes "PJ_MVOL" equals 17
 query_constant Snum = codes "PJ_SNUM" equals 18
 query_constant Sver = codes "PJ_SVER" equals 19
 query_constant Innm = codes "PJ_INNM" equals 20
-query_constant Inpt2 = codes "PJ_INPT_ASK_2" equals 21
-query_constant Inst2 = codes "PJ_INST_2" equals 23
+query_constant (Inpt Two) = codes "PJ_INPT_ASK_2" equals 21
+query_constant (Inst Two) = codes "PJ_INST_2" equals 23
 
 abbrev pub command_constant : Command → Constant
 command_constant (Query b) = query_constant b
 command_constant (PowerSet on) = codes "PJ_POWR_SET" equals 1
-command_constant (InputSet i) = codes "PJ_INPT_SET" equals 3
+command_constant (InputSet One i) = codes "PJ_INPT_SET" equals 3
 command_constant (MuteSet half on) = codes "PJ_AVMT_SET" equals 5
 command_constant (FreezeSet on) = codes "PJ_FREZ_SET" equals 15
 command_constant (VolumeStep Speaker up) = codes "PJ_SVOL" equals 16
 command_constant (VolumeStep Microphone up) = codes "PJ_MVOL" equals 17
 command_constant (NameQuery i) = codes "PJ_INNM" equals 20
-command_constant (InputSet2 i) = codes "PJ_INPT_SET_2" equals 22
+command_constant (InputSet Two i) = codes "PJ_INPT_SET_2" equals 22
 
 abbrev pub no_meaning_constant : Constant
 no_meaning_constant = codes "PJ_READ_NONE" equals 0

@@ -4,6 +4,7 @@ ghost use Rattle.codes.specs.Commands.{switch_at, source_at, input_at, half_at, 
 
 use pjlink::body::Body;
 use pjlink::command::{Command, Half, Volume};
+use words::class::ClassNumber::{One, Two};
 use words::input::{Input, Source};
 
 /// A command by its code (`pj_command`). What a code does not use is passed over.
@@ -85,13 +86,13 @@ impl Coded {
         let command = match code {
             0 => Command::Query(Body::Powr),
             1 => Command::PowerSet(switch_at(first)?),
-            2 => Command::Query(Body::Inpt),
-            3 => Command::InputSet(input_at(first, second)?),
+            2 => Command::Query(Body::Inpt(One)),
+            3 => Command::InputSet(One, input_at(first, second)?),
             4 => Command::Query(Body::Avmt),
             5 => Command::MuteSet(half_at(first)?, switch_at(second)?),
             6 => Command::Query(Body::Erst),
             7 => Command::Query(Body::Lamp),
-            8 => Command::Query(Body::Inst),
+            8 => Command::Query(Body::Inst(One)),
             9 => Command::Query(Body::Name),
             10 => Command::Query(Body::Inf1),
             11 => Command::Query(Body::Inf2),
@@ -104,9 +105,9 @@ impl Coded {
             18 => Command::Query(Body::Snum),
             19 => Command::Query(Body::Sver),
             20 => Command::NameQuery(input_at(first, second)?),
-            21 => Command::Query(Body::Inpt2),
-            22 => Command::InputSet2(input_at(first, second)?),
-            23 => Command::Query(Body::Inst2),
+            21 => Command::Query(Body::Inpt(Two)),
+            22 => Command::InputSet(Two, input_at(first, second)?),
+            23 => Command::Query(Body::Inst(Two)),
             _ => return None,
         };
         Some(command)

@@ -12,7 +12,10 @@ use Rattle.std.proofs.Math.ListN.{get_or-eq_default}
 use Prim.Native.Char.{code}
 use Rattle.text.proofs.Orders.{le_or_lt}
 use Rattle.text.proofs.Scanning.{list_all_at}
-use Rattle.pjlink.specs.Bodies.{has_set, has_query}
+use Rattle.pjlink.specs.Bodies.{kind_of, has_set, has_query}
+use Rattle.pjlink.specs.declared.body.AnswerKind.{AnswerKind}
+use Rattle.pjlink.specs.declared.body.AnswerKind.TheVariants as kind
+use Rattle.pjlink.specs.declared.body.TextRule.TheVariants as rule
 use Rattle.pjlink.specs.Commands.{body_of}
 use Rattle.pjlink.specs.declared.body.Body.{Body}
 use Rattle.pjlink.specs.declared.command.Command.{Command}
@@ -20,7 +23,7 @@ use Rattle.pjlink.specs.declared.command.Command.TheVariants.{PowerSet, Query}
 use Rattle.words.proofs.TextsTold.{name_long, info_long}
 use Rattle.pjlink.specs.Requests.{Request, request_of}
 use Rattle.pjlink.specs.Said.{Said, said_bytes, bytes_most, refused}
-use Rattle.pjlink.specs.CanSay.{CanSay, refuses}
+use Rattle.pjlink.specs.CanSay.{CanSay, done, refuses, tells, IsOfKind}
 use Rattle.pjlink.proofs.SaidPlain.{said_long, text_said}
 use Rattle.record.specs.Limits.{awaiting, opened}
 use Rattle.record.specs.Record.{blank_name}
@@ -74,9 +77,22 @@ parameter_of_class_1 = 95
 abbrev is_plain : Body → Bool
 is_plain b = has_set b || has_query b
 
+-- such a body has an answer of another kind, or none
+abbrev is_other : AnswerKind → Bool
+is_other (kind.Text rule.InputName) = false
+is_other answer = true
+
+other_of_plain : (b : Body) → is_plain b ≡ true → is_other (kind_of b) ≡ true
+other_of_plain b p = grind arith
+
 -- what an answer of its kind has at most
+kind_short : {k : AnswerKind} {m : Said} → IsOfKind k m → is_other k ≡ true → bytes_most m ≤ parameter_of_class_1
+kind_short of h = grind (arith, name_long, info_long)
+
 most_short : {c : Command} {m : Said} → CanSay c m → is_plain (body_of c) ≡ true → bytes_most m ≤ parameter_of_class_1
-most_short can p = grind (arith, name_long, info_long)
+most_short (done set) p = omega arith
+most_short (refuses n low high t) p = omega arith
+most_short {c} (tells asks of) p = kind_short of (other_of_plain (body_of c) p)
 
 said_short : {c : Command} {m : Said} → CanSay c m → is_plain (body_of c) ≡ true →
     length (said_bytes m) ≤ parameter_of_class_1

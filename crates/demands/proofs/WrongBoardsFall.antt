@@ -18,7 +18,9 @@ use Rattle.demands.proofs.Samples.{apart, opened_sample, ready, same_by-leading_
 use Rattle.pjlink.specs.declared.command.Command.TheVariants.{Query}
 use Rattle.pjlink.specs.declared.body.Body.TheVariants.{Name, Inpt, Powr, Snum}
 use Rattle.pjlink.specs.Said.{text_is, said_bytes, chosen_is}
-use Rattle.pjlink.specs.CanSay.{name, input}
+use Rattle.pjlink.specs.CanSay.{CanSay, tells, text, input}
+use Rattle.pjlink.specs.declared.body.TextRule.TheVariants as rule
+use Rattle.words.specs.declared.class.ClassNumber.TheVariants.{One}
 use Rattle.record.specs.Limits.{opened, on, volume_most, volume_start}
 use Rattle.stream.specs.Machine.{Out}
 use Rattle.controller.specs.Reading.{ReadAs, LineSays, reading_outcome_number}
@@ -113,8 +115,9 @@ pub others_nameless_falls : SpeaksPjlink others_nameless → ⊥
 unfolding computing
 others_nameless_falls h =
     let foo = codes "Foo" in
+    let named : CanSay (Query Name) (text_is foo) = tells refl (text rule.Name foo refl) in
     let line : LineSays (Query Name) (with_cr "%1name=Foo") (text_is foo)
-    = record { form = refl; body = refl; says = record { can = name foo refl; written = refl } } in
+    = record { form = refl; body = refl; says = record { can = named; written = refl } } in
     apart (λ (r : ReadAs). length (said_bytes r.said))
     (h.what_is_said_is_read (Query Name) (with_cr "%1name=Foo") (text_is foo) line) refl
 
@@ -160,10 +163,10 @@ pub refuses_letters_falls : SpeaksPjlink refuses_letters → ⊥
 unfolding computing
 refuses_letters_falls h =
     let i : Input = record { source = Internal; number = 10 } in
-    let line : LineSays (Query Inpt) (with_cr "%1INPT=6A") (chosen_is i)
-    = record { form = refl; body = refl; says = record { can = input i refl; written = refl } } in
+    let line : LineSays (Query (Inpt One)) (with_cr "%1INPT=6A") (chosen_is i)
+    = record { form = refl; body = refl; says = record { can = tells refl (input i refl); written = refl } } in
     apart (λ (r : ReadAs). reading_outcome_number r.outcome)
-    (h.what_is_said_is_read (Query Inpt) (with_cr "%1INPT=6A") (chosen_is i) line) refl
+    (h.what_is_said_is_read (Query (Inpt One)) (with_cr "%1INPT=6A") (chosen_is i) line) refl
 
 -- set up for Class 2, on, the speaker at the top
 abbrev loudest : Device

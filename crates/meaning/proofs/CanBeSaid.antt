@@ -4,26 +4,27 @@
 use Rattle.std.specs.List.{list_all}
 use Rattle.std.proofs.Common.{ℕ, ◌+◌, ◌*◌, ◌/◌, ◌<◌, ◌≤◌, ◌≡◌, refl, sym, ap, ◌∙◌, Bool, true, false, not, ◌||◌, arith}
 use Rattle.std.proofs.Common.{length, slice_index_or, take, leb-true, le-leb, Option, unwrap_or, Ok, Err}
-use Rattle.std.proofs.lemmas.Bool.{false≢true, eqb-false}
+use Rattle.std.proofs.lemmas.Bool.{false≢true}
 use Rattle.std.proofs.Math.Bool.{or-true}
 use Rattle.text.proofs.Scanning.{list_all_by_place}
 use Rattle.words.specs.Bytes.{no_cr}
 use Rattle.words.specs.Inputs.{is_input}
-use Rattle.pjlink.specs.declared.body.Body.TheVariants.{Powr, Inpt, Avmt, Erst, Lamp, Inst, Name, Inf1, Inf2, Info}
-use Rattle.pjlink.specs.declared.body.Body.TheVariants.{Clss, Frez, Svol, Mvol, Snum, Sver, Innm, Inpt2, Inst2}
+use Rattle.pjlink.specs.declared.body.Body.{Body}
+use Rattle.pjlink.specs.declared.body.AnswerKind.TheVariants as kind
+use Rattle.pjlink.specs.declared.body.TextRule.TheVariants as rule
+use Rattle.pjlink.specs.Bodies.{kind_of}
 use Rattle.pjlink.specs.declared.command.Command.{Command}
-use Rattle.pjlink.specs.declared.command.Command.TheVariants.{PowerSet, InputSet, MuteSet, Query, InputSet2, FreezeSet}
+use Rattle.pjlink.specs.declared.command.Command.TheVariants.{PowerSet, InputSet, MuteSet, Query, FreezeSet}
 use Rattle.pjlink.specs.declared.command.Command.TheVariants.{VolumeStep, NameQuery}
 use Rattle.words.proofs.InputsReadBack.{is_input-input_named}
 use Rattle.words.proofs.SourcesFollowed.{named_stands}
 use Rattle.words.specs.declared.input.Input.{Input}
 use Rattle.pjlink.specs.Requests.{Request}
 use Rattle.pjlink.specs.declared.request.Unasked.TheVariants.{Unlisted, UnknownBody}
-use Rattle.pjlink.specs.Said.{Said, said_bytes, said_most, refused}
+use Rattle.pjlink.specs.Said.{Said, said_bytes, said_most, refused, errors_are, lamps_are}
 use Rattle.pjlink.specs.Carried.{inputs_carried}
-use Rattle.pjlink.specs.CanSay.{has_own_parameter, is_refusal_to, CanSay, done, refuses, power, input, mutes, errors}
-use Rattle.pjlink.specs.CanSay.{lamps, inputs, name, maker, model, other, class_said, freeze, serial, version}
-use Rattle.pjlink.specs.CanSay.{input_name, input_2, inputs_2}
+use Rattle.pjlink.specs.CanSay.{has_own_parameter, is_refusal_to, CanSay, done, refuses, tells}
+use Rattle.pjlink.specs.CanSay.{IsOfKind, power, input, mutes, errors, lamps, inputs, text, class_said, freeze}
 use Rattle.words.specs.Lamps.{is_lamp_hours}
 use Rattle.pjlink.proofs.SaidPlain.{said_within_most, said_plain}
 use Rattle.record.specs.Limits.{input_room, lamps_most, lamp_limit, is_lit}
@@ -40,9 +41,10 @@ use Rattle.record.proofs.FactsTold.{own_is, settings_is}
 use Rattle.meaning.specs.SetUpInputs.{no_input, pairs_of, inputs_of, place_of}
 use Rattle.meaning.specs.Rules.{is_undefined, is_unlisted}
 use Rattle.meaning.proofs.LampsSaid.{length-lamps_said, list_all-lamps_said}
-use Rattle.meaning.specs.Meaning.{chosen_of, lamp_said, lamps_of, table_answer, request_answer, answer_for}
+use Rattle.meaning.specs.Meaning.{chosen_of, lamp_said, lamps_of, query_answer, table_answer, request_answer}
+use Rattle.meaning.specs.Meaning.{answer_for}
 use Rattle.meaning.proofs.InputsByPlace.{inputs_counted, input_in_use}
-use Rattle.record.specs.Views.{class_seen, marks_seen}
+use Rattle.record.specs.Views.{marks_seen}
 use Rattle.meaning.proofs.Cases.{Passes, meant_by}
 
 pub record Fits (m : Said) : Type 0 where
@@ -109,38 +111,48 @@ module _ (s : Settings) (o : Own) (settings : is_settings s ≡ true) (own : is_
   inputs_few : length (inputs_of s) ≤ inputs_carried
   inputs_few = omega (arith, length-inputs_of s set_up, input_count_high s set_up)
 
-  told_can_be_said : (c : Command) → is_undefined s (Ok c) ≡ false → CanSay c (table_answer s o c)
-  told_can_be_said (PowerSet wanted) e = done refl
-  told_can_be_said (InputSet i) e = done refl
-  told_can_be_said (MuteSet half wanted) e = done refl
-  told_can_be_said (Query Powr) e = power _
-  told_can_be_said (Query Inpt) e = input (chosen_of s o) is_input-chosen_of
-  told_can_be_said (Query Avmt) e = mutes _ _
-  told_can_be_said (Query Erst) e = errors o.errors (errors_long _ kept.errors) (list_all-at_most _ kept.errors)
-  told_can_be_said (Query Lamp) e =
-      let some = eqb-false s.lamp_count 0 e in
+  lamps_fit : 1 ≤ s.lamp_count → IsOfKind kind.Lamps (lamps_are (lamps_of s o))
+  lamps_fit some =
       lamps (lamps_of s o) (omega (arith, length-lamps_of, some)) (omega (arith, length-lamps_of, set_up.lamps))
       (list_all-lamps_said (is_lit o.power) is_lamp is_lamp_hours is_lamp_hours-lamp_said (marks_seen o)
       (take s.lamp_count o.lamps)
       (lamps_within _ kept.lamps.follows))
-  told_can_be_said (Query Inst) e = inputs (inputs_of s) inputs_some inputs_few (list_all-inputs_of s set_up)
-  told_can_be_said (Query Name) e = name _ set_up.name.follows
-  told_can_be_said (Query Inf1) e = maker _ set_up.maker.follows
-  told_can_be_said (Query Inf2) e = model _ set_up.model.follows
-  told_can_be_said (Query Info) e = other _ set_up.other.follows
-  told_can_be_said (Query Clss) e = class_said (class_seen s)
-  told_can_be_said (Query Frez) e = freeze _
-  told_can_be_said (Query Svol) e = absurd (false≢true (sym e))
-  told_can_be_said (Query Mvol) e = absurd (false≢true (sym e))
-  told_can_be_said (Query Snum) e = serial _ (serial_told s set_up)
-  told_can_be_said (Query Sver) e = version _ (version_told s set_up)
-  told_can_be_said (Query Innm) e = absurd (false≢true (sym e))
-  told_can_be_said (Query Inpt2) e = input_2 (chosen_of s o) is_input-chosen_of
-  told_can_be_said (Query Inst2) e = inputs_2 (inputs_of s) inputs_some inputs_few (list_all-inputs_of s set_up)
-  told_can_be_said (InputSet2 i) e = done refl
+
+  errors_fit : IsOfKind kind.Errors (errors_are o.errors)
+  errors_fit = errors o.errors (errors_long _ kept.errors) (list_all-at_most _ kept.errors)
+
+  -- the value of each body is one of its kind
+  is_of_kind : (b : Body) → is_undefined s (Ok (Query b)) ≡ false → IsOfKind (kind_of b) (query_answer s o b)
+  is_of_kind b e =
+      grind (
+        arith,
+        power,
+        input,
+        mutes,
+        errors_fit,
+        lamps_fit,
+        inputs,
+        text,
+        class_said,
+        freeze,
+        is_input-chosen_of,
+        inputs_some,
+        inputs_few,
+        list_all-inputs_of,
+        set_up,
+        serial_told,
+        version_told,
+      )
+
+  told_can_be_said : (c : Command) → is_undefined s (Ok c) ≡ false → CanSay c (table_answer s o c)
+  told_can_be_said (PowerSet wanted) e = done refl
+  told_can_be_said (InputSet k i) e = done refl
+  told_can_be_said (MuteSet half wanted) e = done refl
   told_can_be_said (FreezeSet wanted) e = done refl
   told_can_be_said (VolumeStep v up) e = done refl
-  told_can_be_said (NameQuery i) e = input_name _ refl (name_kept _ s.names set_up.names (place_of s i)).follows
+  told_can_be_said (NameQuery i) e =
+      tells refl (text rule.InputName _ (name_kept _ s.names set_up.names (place_of s i)).follows)
+  told_can_be_said (Query b) e = tells refl (is_of_kind b e)
 
   pub meant_can_be_said : (c : Command) → CanSay c (answer_for s o (Ok c))
   meant_can_be_said c =

@@ -7,7 +7,7 @@ use Rattle.text.proofs.Choices.{if_all}
 use Rattle.text.proofs.FlagsTold.{flag_within}
 use Rattle.pjlink.specs.declared.command.Half.{Half}
 use Rattle.pjlink.specs.declared.command.Volume.{Volume}
-use Rattle.pjlink.specs.declared.command.Command.TheVariants.{PowerSet, InputSet, MuteSet, Query, InputSet2, FreezeSet}
+use Rattle.pjlink.specs.declared.command.Command.TheVariants.{PowerSet, InputSet, MuteSet, Query, FreezeSet}
 use Rattle.pjlink.specs.declared.command.Command.TheVariants.{VolumeStep, NameQuery}
 use Rattle.pjlink.specs.Requests.{Request}
 use Rattle.pjlink.specs.Said.{okay}
@@ -92,10 +92,9 @@ module _ (s : Settings) (o : Own) where
 
     is_own-carried_out : (r : Request) → is_out_of_parameter s r ≡ false → is_own s (carried_out s o r) ≡ true
     is_own-carried_out (Ok (PowerSet wanted)) e = is_own-after_power wanted
-    is_own-carried_out (Ok (InputSet i)) e = grind (arith, is_own-with_chosen)
+    is_own-carried_out (Ok (InputSet k i)) e = grind (arith, is_own-with_chosen)
     is_own-carried_out (Ok (MuteSet half wanted)) e = is_own-after_mute half wanted
     is_own-carried_out (Ok (Query b)) e = own
-    is_own-carried_out (Ok (InputSet2 i)) e = grind (arith, is_own-with_chosen)
     is_own-carried_out (Ok (FreezeSet wanted)) e = (own_is s _).1 (assumption (kept, flag_within wanted))
     is_own-carried_out (Ok (VolumeStep v up)) e = is_own-after_step v up
     is_own-carried_out (Ok (NameQuery i)) e = own

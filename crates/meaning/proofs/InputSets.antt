@@ -3,6 +3,7 @@
 use Rattle.std.proofs.Common.{◌≡◌, refl, sym, ap, ◌∙◌, true, arith, ltb-true, Ok}
 use Rattle.std.proofs.lemmas.Bool.{not-false}
 use Rattle.words.specs.Inputs.{is_input}
+use Rattle.words.specs.declared.class.ClassNumber.{ClassNumber}
 use Rattle.words.specs.declared.input.Input.{Input}
 use Rattle.pjlink.specs.declared.body.Body.TheVariants.{Inpt}
 use Rattle.pjlink.specs.declared.command.Command.TheVariants.{InputSet, Query}
@@ -30,13 +31,13 @@ module _ (s : Settings) (settings : is_settings s ≡ true) (i : Input) where
       ap is_input (sym (found_at_place i no_input (inputs_of s) (omega (arith, length-inputs_of s told))))
       ∙ is_input-slice_index_or s told (place_of s i) below
 
-  -- INPT with the input, answered OK, and then INPT ?
-  pub set_then_asked : (o : Own) → answer_for s o (Ok (InputSet i)) ≡ okay
-      → answer_for s (after_request s o (Ok (InputSet i))) (Ok (Query Inpt)) ≡ chosen_is i
-  set_then_asked o =
-      refused_or_passed s o (Ok (InputSet i)) (λ m k. m ≡ okay → answer_for s k (Ok (Query Inpt)) ≡ chosen_is i)
+  -- INPT with the input, answered OK, and then INPT ?, each under either class
+  pub set_then_asked : (o : Own) (j k : ClassNumber) → answer_for s o (Ok (InputSet j i)) ≡ okay
+      → answer_for s (after_request s o (Ok (InputSet j i))) (Ok (Query (Inpt k))) ≡ chosen_is i
+  set_then_asked o j k =
+      refused_or_passed s o (Ok (InputSet j i)) (λ m n. m ≡ okay → answer_for s n (Ok (Query (Inpt k))) ≡ chosen_is i)
       (λ n e. cc)
       (λ p e.
-      meant_passed s (with_chosen o (place_of s i)) (Ok (Query Inpt))
+      meant_passed s (with_chosen o (place_of s i)) (Ok (Query (Inpt k)))
       (record { defined = refl; listed = refl; sound = p.sound; timely = p.timely })
       ∙ (λ j. chosen_is (chosen_is_asked o (not-false (is_listed s i) p.listed) j)))

@@ -1,20 +1,17 @@
 -- Pairs of characters by their places: the inputs for which they stand.
 -- Assumes nothing.
 use Rattle.std.proofs.Common.{ℕ, zero, suc, ◌+◌, ◌*◌, ◌<◌, ◌≡◌, refl, ap, ◌∙◌, List, [], ◌∷◌, arith, length}
-use Rattle.std.proofs.Common.{◌/◌, ◌≤◌, map, slice_index_or, take, length-take, get_or-take}
+use Rattle.std.proofs.Common.{◌/◌, ◌≤◌, map, slice_index_or, take, length-take, get_or-take, if◌then◌else◌, nat_lt}
 use Rattle.std.specs.Simd.{first_chunks}
 use Rattle.text.proofs.Choices.{if_by}
 use Rattle.words.specs.Sources.{same_input}
 use Rattle.words.specs.declared.input.Input.{Input}
 use Rattle.words.proofs.SourcesFollowed.{same_input_is_one}
-use Rattle.meaning.specs.SetUpInputs.{input_of_pair, inputs_of_pairs, place_in}
+use Rattle.meaning.specs.SetUpInputs.{input_of_pair, pair_input, inputs_of_pairs, place_in}
 
 -- by pairs as std cuts them
-abbrev pub input_of : List ℕ → Input
-input_of p = input_of_pair (slice_index_or p 0 0) (slice_index_or p 1 0)
-
 map-first_chunks : (k : ℕ) (l : List ℕ) → 2 * k ≤ length l → length l < 2 * k + 2
-    → map input_of (first_chunks 2 k l) ≡ inputs_of_pairs l
+    → map pair_input (first_chunks 2 k l) ≡ inputs_of_pairs l
 unfolding inputs_of_pairs
 map-first_chunks zero [] m h = refl
 map-first_chunks zero (a ∷ []) m h = refl
@@ -25,8 +22,8 @@ map-first_chunks (suc k) (a ∷ b ∷ l) m h =
     ap (λ (t : List Input). input_of_pair a b ∷ t) (map-first_chunks k l (omega arith) (omega arith))
 
 pub named_in_pairs : (l : List ℕ) (pairs : List (List ℕ)) → pairs ≡ first_chunks 2 (length l / 2) l
-    → map input_of pairs ≡ inputs_of_pairs l
-named_in_pairs l pairs e = ap (map input_of) e ∙ map-first_chunks (length l / 2) l (omega arith) (omega arith)
+    → map pair_input pairs ≡ inputs_of_pairs l
+named_in_pairs l pairs e = ap (map pair_input) e ∙ map-first_chunks (length l / 2) l (omega arith) (omega arith)
 
 -- twice k, in a form that computes by k
 abbrev twice : ℕ → ℕ
@@ -79,3 +76,12 @@ found_at_place i d (x ∷ is) =
     if_by (λ (k : ℕ). k < length (x ∷ is) → slice_index_or (x ∷ is) k d ≡ i) (same_input x i)
     (λ e h. same_input_is_one x i e)
     (λ e h. found_at_place i d is (omega arith))
+
+-- the input of the pair at a place, and past them the one given
+pub paired_at : (pairs : List (List ℕ)) (k : ℕ) (d : Input)
+    → slice_index_or (map pair_input pairs) k d
+    ≡ (if nat_lt k (length pairs) then pair_input (slice_index_or pairs k []) else d)
+paired_at [] zero d = refl
+paired_at [] (suc k) d = grind arith
+paired_at (p ∷ pairs) zero d = grind arith
+paired_at (p ∷ pairs) (suc k) d = grind (arith, paired_at pairs k d)

@@ -14,14 +14,14 @@ use Rattle.std.specs.Prelude.{if◌then◌else◌, Ok, Err, slice_index_or, nat_
 use Rattle.words.specs.declared.input.Input.{Input}
 use Rattle.pjlink.specs.declared.body.Body.{Body}
 use Rattle.pjlink.specs.declared.body.Body.TheVariants.{Powr, Inpt, Avmt, Erst, Lamp, Inst, Name, Inf1, Inf2, Info}
-use Rattle.pjlink.specs.declared.body.Body.TheVariants.{Clss, Frez, Svol, Mvol, Snum, Sver, Innm, Inpt2, Inst2}
+use Rattle.pjlink.specs.declared.body.Body.TheVariants.{Clss, Frez, Svol, Mvol, Snum, Sver, Innm}
 use Rattle.pjlink.specs.declared.command.Half.{Half}
 use Rattle.pjlink.specs.declared.command.Half.TheVariants.{VideoHalf, AudioHalf, BothHalves}
 use Rattle.pjlink.specs.declared.command.Volume.{Volume}
 use Rattle.pjlink.specs.declared.command.Volume.TheVariants.{Speaker, Microphone}
 use Rattle.pjlink.specs.declared.command.Command.{Command}
 use Rattle.pjlink.specs.declared.command.Command.TheVariants.{PowerSet, InputSet, MuteSet, Query}
-use Rattle.pjlink.specs.declared.command.Command.TheVariants.{InputSet2, FreezeSet, VolumeStep, NameQuery}
+use Rattle.pjlink.specs.declared.command.Command.TheVariants.{FreezeSet, VolumeStep, NameQuery}
 use Rattle.pjlink.specs.Requests.{Request}
 use Rattle.pjlink.specs.Said.{Said, okay, refused, power_is, chosen_is, mutes_are, errors_are, lamps_are, inputs_are}
 use Rattle.pjlink.specs.Said.{text_is, class_is, freeze_is, nothing}
@@ -82,11 +82,11 @@ input_name_of s i = name_bytes (slice_index_or s.names (place_of s i) blank_name
 -- a body without a query is never asked one (Rules, `is_no_query`)
 abbrev pub query_answer : Settings → Own → Body → Said
 query_answer s o Powr = power_is (power_said (power_seen o))
-query_answer s o Inpt = chosen_is (chosen_of s o)
+query_answer s o (Inpt k) = chosen_is (chosen_of s o)
 query_answer s o Avmt = mutes_are (is_raised o.video_muted) (is_raised o.audio_muted)
 query_answer s o Erst = errors_are o.errors
 query_answer s o Lamp = lamps_are (lamps_of s o)
-query_answer s o Inst = inputs_are (inputs_of s)
+query_answer s o (Inst k) = inputs_are (inputs_of s)
 query_answer s o Name = text_said s.name
 query_answer s o Inf1 = text_said s.maker
 query_answer s o Inf2 = text_said s.model
@@ -98,8 +98,6 @@ query_answer s o Mvol = nothing
 query_answer s o Snum = text_said s.serial
 query_answer s o Sver = text_said s.version
 query_answer s o Innm = nothing
-query_answer s o Inpt2 = chosen_is (chosen_of s o)
-query_answer s o Inst2 = inputs_are (inputs_of s)
 
 -- a set that passes answers OK
 abbrev pub table_answer : Settings → Own → Command → Said
@@ -134,10 +132,9 @@ after_step o Microphone up = with_volumes o o.speaker (level_after up o.micropho
 
 abbrev pub after_command : Settings → Own → Command → Own
 after_command s o (PowerSet wanted) = after_power s o wanted
-after_command s o (InputSet i) = with_chosen o (place_of s i)
+after_command s o (InputSet k i) = with_chosen o (place_of s i)
 after_command s o (MuteSet half wanted) = after_mute o half wanted
 after_command s o (Query b) = o
-after_command s o (InputSet2 i) = with_chosen o (place_of s i)
 after_command s o (FreezeSet wanted) = with_freeze o (flag_of wanted)
 after_command s o (VolumeStep v up) = after_step o v up
 after_command s o (NameQuery i) = o

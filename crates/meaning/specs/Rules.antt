@@ -12,7 +12,7 @@ use Rattle.std.specs.Prelude.{ℕ, Bool, true, false, not, ◌&&◌, ◌||◌, O
 use Rattle.pjlink.specs.Bodies.{row_of, has_set, has_parameters, has_query}
 use Rattle.pjlink.specs.Commands.{body_of}
 use Rattle.pjlink.specs.declared.command.Command.{Command}
-use Rattle.pjlink.specs.declared.command.Command.TheVariants.{PowerSet, InputSet, Query, InputSet2, NameQuery}
+use Rattle.pjlink.specs.declared.command.Command.TheVariants.{PowerSet, InputSet, Query, NameQuery}
 use Rattle.pjlink.specs.Requests.{Request}
 use Rattle.pjlink.specs.declared.request.Unasked.TheVariants.{Unlisted, UnknownBody}
 use Rattle.text.specs.Flags.{is_raised}
@@ -34,8 +34,7 @@ is_undefined s (Ok c) = is_no_query c || (row_of (body_of c)).lamps && s.lamp_co
 
 -- An input not in the set-up is not listed.
 abbrev pub is_unlisted : Settings → Command → Bool
-is_unlisted s (InputSet i) = not (is_listed s i)
-is_unlisted s (InputSet2 i) = not (is_listed s i)
+is_unlisted s (InputSet k i) = not (is_listed s i)
 is_unlisted s (NameQuery i) = not (is_listed s i)
 is_unlisted s c = false
 

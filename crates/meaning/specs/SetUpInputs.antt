@@ -2,13 +2,15 @@
 -- stands for is the table of RULES, Inputs (`input_for`); past this file the meaning knows inputs only.
 --   pairs_of s           the characters in use: the first 2 × input_count, and no more than the array has
 --   input_of_pair a b    the input for which a pair stands; one that stands for none is in no legal set-up
+--   pair_input p         the same of a pair as it lies there
 --   inputs_of_pairs cs   the inputs of pairs, in their order
 --   inputs_of s          the inputs in set-up order
 --   place_in i is        the first place of the input i among the inputs is; where there is none, their number
 --   place_of s i         the place of the input i
 --   is_listed s i        the input i is in the set-up
 -- Assumes nothing.
-use Rattle.std.specs.Prelude.{ℕ, suc, ◌*◌, Bool, List, [], ◌∷◌, take, unwrap_or, if◌then◌else◌, nat_lt}
+use Rattle.std.specs.Prelude.{ℕ, suc, ◌*◌, Bool, List, [], ◌∷◌, take, unwrap_or, if◌then◌else◌}
+use Rattle.std.specs.Prelude.{slice_index_or, nat_lt}
 use Rattle.words.specs.Sources.{same_input, input_for}
 use Rattle.words.specs.declared.input.Source.TheVariants.{Rgb}
 use Rattle.words.specs.declared.input.Input.{Input}
@@ -22,6 +24,9 @@ no_input = record { source = Rgb; number = 0 }
 
 abbrev pub input_of_pair : ℕ → ℕ → Input
 input_of_pair a b = unwrap_or (input_for a b) no_input
+
+abbrev pub pair_input : List ℕ → Input
+pair_input p = input_of_pair (slice_index_or p 0 0) (slice_index_or p 1 0)
 
 unfoldable pub inputs_of_pairs : List ℕ → List Input
 inputs_of_pairs [] = []

@@ -67,7 +67,7 @@ pub fn carry_out(s: &Settings, o: &mut Own, c: Command)
 {
     match c {
         Command::PowerSet(wanted) => set_power(s, o, wanted),
-        Command::InputSet(i) | Command::InputSet2(i) => o.chosen = inputs::place_of(s, i),
+        Command::InputSet(_, i) => o.chosen = inputs::place_of(s, i),
         Command::MuteSet(half, wanted) => mute(o, half, wanted),
         Command::FreezeSet(wanted) => o.frozen = flag::of(wanted),
         Command::VolumeStep(v, up) => set_level(o, v, up),

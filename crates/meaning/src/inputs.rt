@@ -1,7 +1,8 @@
 //! The inputs of a set-up, which keeps them as pairs of characters (RULES, The legal record).
-ghost use Rattle.std.specs.Prelude.{◌≡◌, slice_index_or};
+ghost use Rattle.std.specs.Prelude.{◌≡◌, ◌≤◌, length, map, slice_index_or};
 ghost use Rattle.words.specs.Sources.{same_input};
-ghost use Rattle.meaning.specs.SetUpInputs.{no_input, input_of_pair, inputs_of, place_of, is_listed};
+ghost use Rattle.meaning.specs.SetUpInputs.{no_input, input_of_pair, pair_input, inputs_of};
+ghost use Rattle.meaning.specs.SetUpInputs.{place_of, is_listed};
 
 use arrayvec::ArrayVec;
 use record::types::{INPUTS_MOST, Settings};
@@ -28,13 +29,22 @@ fn same_input(i: Input, j: Input) -> bool
     input::source_digit(i.source) == input::source_digit(j.source) && i.number == j.number
 }
 
+// The pairs in use.
+fn pairs_of(s: &Settings) -> &[[u8; 2]]
+    ensures inputs { map pair_input result.now ≡ inputs_of s.now }
+    ensures few { length result.now ≤ INPUTS_MOST }
+{
+    let used = rooms::first(&s.inputs, 2 * s.input_count.min(INPUTS_MOST));
+    let (pairs, _) = used.as_chunks::<2>();
+    pairs
+}
+
 /// The inputs, in set-up order.
 pub fn inputs_of(s: &Settings) -> ArrayVec<Input, INPUTS_MOST>
     ensures { result.items ≡ inputs_of s.now }
 {
     let mut inputs = ArrayVec::new();
-    let used = rooms::first(&s.inputs, 2 * s.input_count.min(INPUTS_MOST));
-    let (pairs, _) = used.as_chunks::<2>();
+    let pairs = pairs_of(s);
     for [a, b] in pairs {
         inputs.push(input_of_pair(*a, *b));
     }
@@ -45,12 +55,11 @@ pub fn inputs_of(s: &Settings) -> ArrayVec<Input, INPUTS_MOST>
 pub fn place_of(s: &Settings, i: Input) -> usize
     ensures { result ≡ place_of s.now i }
 {
-    let inputs = inputs_of(s);
-    inputs
-        .as_slice()
+    let pairs = pairs_of(s);
+    pairs
         .iter()
-        .position(|x| same_input(*x, i))
-        .unwrap_or(inputs.len())
+        .position(|[a, b]| same_input(input_of_pair(*a, *b), i))
+        .unwrap_or(pairs.len())
 }
 
 /// Whether the input is in the set-up.
@@ -61,12 +70,12 @@ pub fn is_listed(s: &Settings, i: Input) -> bool
 }
 
 /// The input at a place; past them none.
+#[tactic(auto, using(crate::proofs::InputsByPlace::paired_at))]
 pub fn input_at(s: &Settings, place: usize) -> Input
     ensures { result ≡ slice_index_or (inputs_of s.now) place no_input }
 {
-    inputs_of(s)
-        .as_slice()
-        .get(place)
-        .copied()
-        .unwrap_or(NO_INPUT)
+    match pairs_of(s).get(place) {
+        Some([a, b]) => input_of_pair(*a, *b),
+        None => NO_INPUT,
+    }
 }

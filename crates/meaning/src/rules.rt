@@ -31,9 +31,7 @@ pub fn is_out_of_parameter(s: &Settings, c: Command) -> bool
     ensures { result ≡ is_out_of_parameter s.now (Ok c) }
 {
     match c {
-        Command::InputSet(i) | Command::InputSet2(i) | Command::NameQuery(i) => {
-            !inputs::is_listed(s, i)
-        }
+        Command::InputSet(_, i) | Command::NameQuery(i) => !inputs::is_listed(s, i),
         _ => false,
     }
 }

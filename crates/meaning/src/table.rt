@@ -89,7 +89,7 @@ fn query_answer<'a>(s: &'a Settings, o: &Own, b: Body) -> Option<Answer<'a>>
 {
     match b {
         Body::Powr => Some(Answer::Power(power_said(o.power()))),
-        Body::Inpt | Body::Inpt2 => { Some(Answer::Input(inputs::input_at(s, o.chosen))) }
+        Body::Inpt(_) => Some(Answer::Input(inputs::input_at(s, o.chosen))),
         Body::Avmt => Some(Answer::Mutes(Mutes {
             video: flag::is_raised(o.video_muted),
             audio: flag::is_raised(o.audio_muted),
@@ -99,7 +99,7 @@ fn query_answer<'a>(s: &'a Settings, o: &Own, b: Body) -> Option<Answer<'a>>
             let lit = o.power().is_burning();
             Some(Answer::Lamps(lamps_said(&o.lamps, &o.enabled, s.lamp_count, lit)))
         }
-        Body::Inst | Body::Inst2 => Some(Answer::Inputs(inputs::inputs_of(s))),
+        Body::Inst(_) => Some(Answer::Inputs(inputs::inputs_of(s))),
         Body::Name => Some(Answer::Text(text_of(&s.name))),
         Body::Inf1 => Some(Answer::Text(text_of(&s.maker))),
         Body::Inf2 => Some(Answer::Text(text_of(&s.model))),

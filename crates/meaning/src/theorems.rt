@@ -4,6 +4,7 @@ ghost use Rattle.std.specs.Prelude.{◌≡◌, Bool, true, false, Result, Ok};
 ghost use Rattle.text.specs.Flags.{is_raised};
 ghost use Rattle.words.specs.Inputs.{is_input};
 ghost use Rattle.words.specs.Powers.{power_code};
+ghost use Rattle.words.specs.declared.class.ClassNumber.{ClassNumber};
 ghost use Rattle.words.specs.declared.input.Input.{Input};
 ghost use Rattle.words.specs.declared.refusal.Refusal.{Refusal};
 ghost use Rattle.pjlink.specs.declared.answer.Answer.{Answer};
@@ -60,12 +61,13 @@ pub fn what_a_request_leaves()
         → (after_request s o (Ok (MuteSet AudioHalf wanted))).video_muted ≡ o.video_muted }
 {}
 
-/// The input that was set is the one that is then answered, and only an input that a line can carry is listed.
+/// The input that was set is the one that is then answered, under either class, and only an input that a line can carry
+/// is listed.
 #[tactic(auto, using(crate::proofs::InputSets::set_then_asked, crate::proofs::InputSets::listed_is_input))]
 pub fn an_input_set_is_answered()
-    ensures answered { (s : Settings) (o : Own) (i : Input) → is_settings s ≡ true
-        → answer_for s o (Ok (InputSet i)) ≡ okay
-        → answer_for s (after_request s o (Ok (InputSet i))) (Ok (Query Inpt)) ≡ chosen_is i }
+    ensures answered { (s : Settings) (o : Own) (i : Input) (j k : ClassNumber) → is_settings s ≡ true
+        → answer_for s o (Ok (InputSet j i)) ≡ okay
+        → answer_for s (after_request s o (Ok (InputSet j i))) (Ok (Query (Inpt k))) ≡ chosen_is i }
     ensures carried { (s : Settings) (i : Input) → is_settings s ≡ true → is_listed s i ≡ true → is_input i ≡ true }
 {}
 

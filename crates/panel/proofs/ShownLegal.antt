@@ -20,7 +20,8 @@ use Rattle.words.specs.declared.lamp.LampHours.{LampHours}
 use Rattle.pjlink.specs.declared.command.Command.{Command}
 use Rattle.pjlink.specs.Said.{Said, chosen_is}
 use Rattle.pjlink.specs.Carried.{lamps_carried}
-use Rattle.pjlink.specs.CanSay.{CanSay}
+use Rattle.pjlink.specs.declared.body.AnswerKind.{AnswerKind}
+use Rattle.pjlink.specs.CanSay.{CanSay, done, refuses, tells, IsOfKind}
 use Rattle.codes.specs.Commands.{source_number}
 use Rattle.codes.specs.Readings.{hours_of, lit_of, power_at_face}
 use Rattle.panel.specs.Entries.{Shown, nothing_shown}
@@ -92,8 +93,13 @@ module _ (s : Shown) where
   chosen_shown : (i : Input) → is_input i ≡ true → is_shown s ≡ true → is_shown (showing s (chosen_is i)) ≡ true
   chosen_shown i e h = grind (arith, shown_told, shown_legal, is_input_shown-source_number)
 
+  kind_shown : {k : AnswerKind} {m : Said} → IsOfKind k m → is_shown s ≡ true → is_shown (showing s m) ≡ true
+  kind_shown h g = grind (arith, shown_told, shown_legal, is_power_shown-power_at_face, chosen_shown, lamps_shown)
+
   pub said_shown : {c : Command} {m : Said} → CanSay c m → is_shown s ≡ true → is_shown (showing s m) ≡ true
-  said_shown h g = grind (arith, shown_told, shown_legal, is_power_shown-power_at_face, chosen_shown, lamps_shown)
+  said_shown (done set) g = grind (arith, shown_told, shown_legal)
+  said_shown (refuses n low high t) g = grind (arith, shown_told, shown_legal)
+  said_shown (tells asks of) g = kind_shown of g
 
 pub nothing_shown_legal : is_shown nothing_shown ≡ true
 unfolding is_shown is_power_shown is_input_shown shows_lamps is_lamp_count

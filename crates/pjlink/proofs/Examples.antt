@@ -1,14 +1,16 @@
 -- Lines, requests and replies of both classes, by computing (RULES, Commands, Controller and Class 2).
 -- Assumes nothing.
-use Rattle.std.proofs.Common.{◌≡◌, refl, true, false, [], ◌∷◌, map, codes, Ok, Err, Some, None}
+use Rattle.std.proofs.Common.{◌≡◌, refl, true, false, not, [], ◌∷◌, map, codes, Ok, Err, Some, None}
 use Rattle.numbers.specs.Computing.{computing as numbers}
 use Rattle.words.specs.declared.class.ClassNumber.TheVariants.{One, Two}
 use Rattle.words.specs.declared.input.Source.TheVariants.{Internal}
-use Rattle.pjlink.specs.declared.body.Body.TheVariants.{Lamp, Inst, Clss, Frez, Snum, Svol, Innm, Inpt2}
+use Rattle.pjlink.specs.declared.body.Body.TheVariants.{Inpt, Lamp, Inst, Clss, Frez, Snum, Svol, Mvol, Innm}
 use Rattle.pjlink.specs.declared.command.Volume.TheVariants.{Speaker, Microphone}
-use Rattle.pjlink.specs.declared.command.Command.TheVariants.{InputSet, InputSet2, FreezeSet, VolumeStep}
+use Rattle.pjlink.specs.declared.command.Command.TheVariants.{InputSet, FreezeSet, VolumeStep}
 use Rattle.pjlink.specs.declared.command.Command.TheVariants.{NameQuery, Query}
 use Rattle.pjlink.specs.declared.request.Unasked.TheVariants.{Unlisted, UnknownBody}
+use Rattle.std.specs.List.{filter}
+use Rattle.pjlink.specs.Bodies.{bodies, has_query}
 use Rattle.pjlink.specs.Commands.{command_line}
 use Rattle.pjlink.specs.Forms.{is_command_form}
 use Rattle.pjlink.specs.Said.{refused, lamps_are, inputs_are, text_is, class_is, freeze_is, nothing}
@@ -20,7 +22,7 @@ use Rattle.pjlink.specs.Computing.{computing}
 
 -- lines of Class 2
 pub written : map command_line
-    (InputSet2 hdmi ∷ FreezeSet true ∷ VolumeStep Speaker true ∷ VolumeStep Microphone false ∷ NameQuery hdmi
+    (InputSet Two hdmi ∷ FreezeSet true ∷ VolumeStep Speaker true ∷ VolumeStep Microphone false ∷ NameQuery hdmi
     ∷ Query Snum ∷ [])
     ≡ codes "%2INPT 31\r" ∷ codes "%2FREZ 1\r" ∷ codes "%2SVOL 1\r" ∷ codes "%2MVOL 0\r" ∷ codes "%2INNM ?31\r"
     ∷ codes "%2SNUM ?\r" ∷ []
@@ -43,12 +45,16 @@ pub requests : request_to 1 "INPT" "31" ∷ request_to 2 "inpt" "31" ∷ request
     ∷ request_to 1 "INST" "?" ∷ request_to 2 "CLSS" "?" ∷ request_to 1 "SNUM" "?"
     ∷ request_to 2 "SNUM" "1" ∷ request_to 2 "SVOL" "?" ∷ request_to 2 "INNM" "?31"
     ∷ request_to 2 "INNM" "?" ∷ []
-    ≡ Ok (InputSet hdmi) ∷ Ok (InputSet2 hdmi) ∷ Err (Unlisted Inpt2)
-    ∷ Ok (Query Inst) ∷ Err UnknownBody ∷ Err UnknownBody
+    ≡ Ok (InputSet One hdmi) ∷ Ok (InputSet Two hdmi) ∷ Err (Unlisted (Inpt Two))
+    ∷ Ok (Query (Inst One)) ∷ Err UnknownBody ∷ Err UnknownBody
     ∷ Err (Unlisted Snum) ∷ Err (Unlisted Svol) ∷ Ok (NameQuery hdmi)
     ∷ Err (Unlisted Innm) ∷ []
 unfolding computing
 requests = refl
+
+-- `?` alone asks neither a volume nor an input's name
+pub unasked : filter (λ b. not (has_query b)) bodies ≡ Svol ∷ Mvol ∷ Innm ∷ []
+unasked = refl
 
 -- lamps of other makers: leading zeros are taken, six digits and none are not
 pub padded_hours : read_parameter (Query Lamp) (codes "00412 1") ≡ lamps_are (record { hours = 412; lit = true } ∷ [])
@@ -84,7 +90,7 @@ unfolding computing numbers
 frozen = refl
 
 -- inputs of Class 2 stand in a `%1` reply too: the reader is not told the class
-pub wide_inputs : read_parameter (Query Inst) (codes "31 6B")
+pub wide_inputs : read_parameter (Query (Inst One)) (codes "31 6B")
     ≡ inputs_are (hdmi ∷ record { source = Internal; number = 11 } ∷ [])
 unfolding computing numbers
 wide_inputs = refl
@@ -105,7 +111,7 @@ pub upper_case_digits : read_greeting (codes "PJLINK 1 498E4A67\r") ≡ None
 unfolding computing
 upper_case_digits = refl
 
-pub ruleset worked_lines = (written, forms_1, forms_2, requests, random_heard, upper_case_digits)
+pub ruleset worked_lines = (written, forms_1, forms_2, requests, unasked, random_heard, upper_case_digits)
 
 pub ruleset worked_parameters =
     (padded_hours, five_zeros, six_zeros, no_hours, each_as_it_is, classes, frozen, wide_inputs, refusals)

@@ -11,6 +11,7 @@ use Rattle.words.specs.Powers.{switch_read, switch_text}
 use Rattle.pjlink.specs.Bodies.{row_of, body_rows, is_named, is_body}
 use Rattle.pjlink.specs.declared.body.Row.{Row}
 use Rattle.pjlink.specs.Requests.{name_query_of, set_of, Request, or_unlisted, asked_of, body_request, request_of}
+use Rattle.words.specs.declared.class.ClassNumber.{ClassNumber}
 use Rattle.pjlink.specs.declared.body.Body.{Body}
 use Rattle.pjlink.specs.declared.body.Body.TheVariants.{Powr}
 use Rattle.pjlink.specs.declared.body.Sets.{Sets}
@@ -50,9 +51,10 @@ muted b m = grind arith
 
 -- only POWR does
 module _ (p : List ℕ) where
-  set_none : (set : Sets) (b : Body) → is_other set ≡ true → No (or_unlisted b (set_of set p))
+  set_none : (k : ClassNumber) (set : Sets) (b : Body) → is_other set ≡ true
+      → No (or_unlisted b (set_of k set p))
   unfolding name_query_of
-  set_none set b h = grind arith
+  set_none k set b h = grind arith
 
   named_none : (b : Body) → sets_other b ≡ true → No (asked_of b p)
   unfolding asked_of

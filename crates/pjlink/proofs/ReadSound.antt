@@ -1,8 +1,8 @@
 -- Whatever bytes come, what is read of them is an answer that the command can have, in the bytes that write it; or
 -- nothing.
 -- Assumes nothing.
-use Rattle.std.proofs.Common.{ℕ, ◌≡◌, ◌≤◌, Bool, true, List, [], ◌∷◌, ◌++◌, length, refl, sym, ◌∙◌, arith, ◌==◌, nat_le}
-use Rattle.std.proofs.Common.{codes, Option, Some, None, ◌&&◌, if◌then◌else◌}
+use Rattle.std.proofs.Common.{ℕ, ◌≡◌, ◌≤◌, Bool, true, false, List, [], ◌∷◌, ◌++◌, length, refl, sym, ◌∙◌, arith, ◌==◌}
+use Rattle.std.proofs.Common.{nat_le, codes, Option, Some, None, ◌&&◌, if◌then◌else◌}
 use Rattle.std.specs.List.{list_all}
 use Rattle.std.proofs.lemmas.Bool.{eqb-true, leb-true}
 use Rattle.std.proofs.lemmas.List.{append-nil}
@@ -20,32 +20,38 @@ use Rattle.words.specs.Laws.{power_codec, input_codec, mutes_codec, errors_codec
 use Rattle.words.specs.Muting.{mutes_read}
 use Rattle.words.specs.Powers.{power_read, switch_read}
 use Rattle.words.specs.Refusing.{refusal_digit, refusal_read}
-use Rattle.words.specs.Texts.{is_name, is_info, is_input_name}
 use Rattle.words.specs.declared.input.Input.{Input}
 use Rattle.words.specs.declared.refusal.Refusal.{Refusal}
 use Rattle.pjlink.specs.declared.command.Command.{Command}
-use Rattle.pjlink.specs.declared.command.Command.TheVariants.{PowerSet, InputSet, MuteSet, InputSet2, FreezeSet}
-use Rattle.pjlink.specs.declared.command.Command.TheVariants.{VolumeStep, NameQuery, Query}
-use Rattle.pjlink.specs.declared.body.Body.{Body}
-use Rattle.pjlink.specs.declared.body.Body.TheVariants.{Powr, Inpt, Avmt, Erst, Lamp, Inst, Name, Inf1, Inf2, Info}
-use Rattle.pjlink.specs.declared.body.Body.TheVariants.{Clss, Frez, Svol, Mvol, Snum, Sver, Innm, Inpt2, Inst2}
-use Rattle.pjlink.specs.Said.{Said, power_is, chosen_is, mutes_are, errors_are, lamps_are, inputs_are, text_is}
+use Rattle.pjlink.specs.declared.body.AnswerKind.{AnswerKind}
+use Rattle.pjlink.specs.declared.body.AnswerKind.TheVariants as kind
+use Rattle.pjlink.specs.Bodies.{kind_of}
+use Rattle.pjlink.specs.Commands.{body_of}
+use Rattle.pjlink.specs.Said.{Said, power_is, chosen_is, mutes_are, errors_are, lamps_are, inputs_are}
 use Rattle.pjlink.specs.Said.{class_is, freeze_is, nothing, said_text}
 use Rattle.pjlink.specs.Carried.{lamps_carried, inputs_carried}
-use Rattle.pjlink.specs.CanSay.{is_set, is_refusal_to}
-use Rattle.pjlink.specs.CanSay.{CanSay, done, refuses, power, input, mutes, errors, lamps, inputs, name, maker}
-use Rattle.pjlink.specs.CanSay.{model, other, class_said, freeze, serial, version, input_name, input_2, inputs_2}
-use Rattle.pjlink.specs.Reading.{said_or, text_or, read_ok, read_queried, read_value, refusal_or, read_parameter}
-use Rattle.pjlink.specs.Writings.{Says}
+use Rattle.pjlink.specs.CanSay.{is_set, is_refusal_to, is_text_by}
+use Rattle.pjlink.specs.CanSay.{CanSay, done, refuses, tells, IsOfKind, power, input, mutes, errors, lamps, inputs}
+use Rattle.pjlink.specs.CanSay.{text, class_said, freeze}
+use Rattle.pjlink.specs.Reading.{said_or, read_ok, read_queried, read_value, refusal_or, read_parameter}
+use Rattle.pjlink.specs.Writings.{Writes, Says}
 use Rattle.words.proofs.Refusals.{refusal_is}
-use Rattle.pjlink.proofs.Written.{row_is_written}
+use Rattle.pjlink.proofs.Written.{of_kind_is_written, row_is_written}
 
 pub data CanRead (c : Command) (p : List ℕ) : Said → Type 0 where
   answer : {m : Said} → Says c m p → CanRead c p m
   no_answer : CanRead c p nothing
 
+-- the same of a kind
+data KindRead (k : AnswerKind) (p : List ℕ) : Said → Type 0 where
+  of_kind : {m : Said} → IsOfKind k m → Writes m p → KindRead k p m
+  none_of_kind : KindRead k p nothing
+
 by_row : {c : Command} {p : List ℕ} {m : Said} → CanSay c m → p ≡ said_text m → CanRead c p m
 by_row can e = answer (record { can = can; written = row_is_written can e })
+
+by_kind : {k : AnswerKind} {p : List ℕ} {m : Said} → IsOfKind k m → p ≡ said_text m → KindRead k p m
+by_kind of e = of_kind of (of_kind_is_written of e)
 
 -- what is read where a test holds
 guarded : {c : Command} {p : List ℕ} {m : Said} (t : Bool) → (t ≡ true → CanRead c p m)
@@ -53,10 +59,10 @@ guarded : {c : Command} {p : List ℕ} {m : Said} (t : Bool) → (t ≡ true →
 guarded {c} {p} t reads = if_by (CanRead c p) t reads (λ e. no_answer)
 
 -- what is read where a codec finds something
-found : {A : Type 0} {c : Command} {p : List ℕ} (says : A → Said) (o : Option A)
-    → ((x : A) → o ≡ Some x → CanRead c p (says x))
-    → CanRead c p (said_or says o)
-found says None reads = no_answer
+found : {A : Type 0} {k : AnswerKind} {p : List ℕ} (says : A → Said) (o : Option A)
+    → ((x : A) → o ≡ Some x → KindRead k p (says x))
+    → KindRead k p (said_or says o)
+found says None reads = none_of_kind
 found says (Some x) reads = reads x refl
 
 -- a list of a codec is one to n things, each legal
@@ -80,89 +86,59 @@ plain_list (i ∷ []) p w = w.1 ∙ sym (append-nil (input_text i))
 plain_list (i ∷ j ∷ is) p (t, rest, w, more, e) =
     e ∙ (λ k. w.1 k ++ code " " ∷ plain_list (j ∷ is) rest more k)
 
-module _ (p : List ℕ) where
-  chosen_sound : {b : Body} → ((i : Input) → is_input i ≡ true → CanSay (Query b) (chosen_is i))
-      → CanRead (Query b) p (said_or chosen_is (whole_value input_read p))
-  chosen_sound can =
-      found chosen_is (whole_value input_read p) (λ i e.
-      let w = (whole_says input_codec).sound p i e in
-      by_row (can i w.0) w.1)
-
-  inputs_sound : {b : Body}
-      → ((is : List Input) → 1 ≤ length is → length is ≤ inputs_carried → list_all is_input is ≡ true
-      → CanSay (Query b) (inputs_are is))
-      → CanRead (Query b) p (said_or inputs_are (list_read input_read inputs_carried p))
-  inputs_sound can =
-      found inputs_are (list_read input_read inputs_carried p) (λ is e.
-      let it = list_says input_codec inputs_carried in
-      let w = it.sound p is e in
-      let h = it.told is p w in
-      by_row
-      (can is (some is_input inputs_carried is h) (few is_input inputs_carried is h)
-      (each is_input inputs_carried is h))
-      (plain_list is p w.1))
-
-  errors_sound : CanRead (Query Erst) p (read_queried Erst p)
-  errors_sound =
-      found errors_are (whole_value errors_read p) (λ ds e.
-      let w = (whole_says errors_codec).sound p ds e in
-      by_row (errors ds (eqb-true (length ds) 6 (both_left (length ds == 6) (list_all is_error_digit ds) w.0))
-      (both_right (length ds == 6) (list_all is_error_digit ds) w.0)) w.1)
-
-  lamps_sound : CanRead (Query Lamp) p (read_queried Lamp p)
-  lamps_sound =
-      found lamps_are (list_read lamp_read lamps_carried p) (λ ls e.
-      let it = list_says lamp_codec lamps_carried in
-      let w = it.sound p ls e in
-      let h = it.told ls p w in
-      answer (record {
-        can = lamps ls (some is_lamp_hours lamps_carried ls h) (few is_lamp_hours lamps_carried ls h)
-            (each is_lamp_hours lamps_carried ls h);
-        written = w.1;
-      }))
-
-  -- the bytes themselves are the text
-  text_sound : {c : Command} (t : Bool) → (t ≡ true → CanSay c (text_is p)) → CanRead c p (text_or t p)
-  text_sound t can = guarded t (λ e. by_row (can e) refl)
-
-queried_sound : (b : Body) (p : List ℕ) → CanRead (Query b) p (read_queried b p)
-queried_sound Powr p =
-    found power_is (whole_value power_read p) (λ q e. by_row (power q) ((whole_says power_codec).sound p q e).1)
-queried_sound Inpt p = chosen_sound p input
-queried_sound Avmt p =
+kind_sound : (k : AnswerKind) (p : List ℕ) → KindRead k p (read_queried k p)
+kind_sound kind.Power p =
+    found power_is (whole_value power_read p) (λ q e. by_kind (power q) ((whole_says power_codec).sound p q e).1)
+kind_sound kind.Input p =
+    found chosen_is (whole_value input_read p) (λ i e.
+    let w = (whole_says input_codec).sound p i e in
+    by_kind (input i w.0) w.1)
+kind_sound kind.Mutes p =
     found (λ m. mutes_are m.video m.audio) (whole_value mutes_read p)
-    (λ m e. by_row (mutes m.video m.audio) ((whole_says mutes_codec).sound p m e).1)
-queried_sound Erst p = errors_sound p
-queried_sound Lamp p = lamps_sound p
-queried_sound Inst p = inputs_sound p inputs
-queried_sound Name p = text_sound p (is_name p) (name p)
-queried_sound Inf1 p = text_sound p (is_info p) (maker p)
-queried_sound Inf2 p = text_sound p (is_info p) (model p)
-queried_sound Info p = text_sound p (is_info p) (other p)
-queried_sound Clss p =
-    found class_is (whole_value class_read p) (λ k e. by_row (class_said k) ((whole_says class_codec).sound p k e).1)
-queried_sound Frez p =
-    found freeze_is (whole_value switch_read p) (λ on e. by_row (freeze on) ((whole_says switch_codec).sound p on e).1)
-queried_sound Svol p = no_answer
-queried_sound Mvol p = no_answer
-queried_sound Snum p = text_sound p (is_info p) (serial p)
-queried_sound Sver p = text_sound p (is_info p) (version p)
-queried_sound Innm p = text_sound p (is_input_name p) (input_name p refl)
-queried_sound Inpt2 p = chosen_sound p input_2
-queried_sound Inst2 p = inputs_sound p inputs_2
+    (λ m e. by_kind (mutes m.video m.audio) ((whole_says mutes_codec).sound p m e).1)
+kind_sound kind.Errors p =
+    found errors_are (whole_value errors_read p) (λ ds e.
+    let w = (whole_says errors_codec).sound p ds e in
+    by_kind (errors ds (eqb-true (length ds) 6 (both_left (length ds == 6) (list_all is_error_digit ds) w.0))
+    (both_right (length ds == 6) (list_all is_error_digit ds) w.0)) w.1)
+kind_sound kind.Lamps p =
+    found lamps_are (list_read lamp_read lamps_carried p) (λ ls e.
+    let it = list_says lamp_codec lamps_carried in
+    let w = it.sound p ls e in
+    let h = it.told ls p w in
+    of_kind
+    (lamps ls (some is_lamp_hours lamps_carried ls h) (few is_lamp_hours lamps_carried ls h)
+    (each is_lamp_hours lamps_carried ls h))
+    w.1)
+kind_sound kind.Inputs p =
+    found inputs_are (list_read input_read inputs_carried p) (λ is e.
+    let it = list_says input_codec inputs_carried in
+    let w = it.sound p is e in
+    let h = it.told is p w in
+    by_kind
+    (inputs is (some is_input inputs_carried is h) (few is_input inputs_carried is h)
+    (each is_input inputs_carried is h))
+    (plain_list is p w.1))
+kind_sound (kind.Text r) p =
+    if_by (KindRead (kind.Text r) p) (is_text_by r p) (λ e. by_kind (text r p e) refl) (λ e. none_of_kind)
+kind_sound kind.Class p =
+    found class_is (whole_value class_read p) (λ k e. by_kind (class_said k) ((whole_says class_codec).sound p k e).1)
+kind_sound kind.Freeze p =
+    found freeze_is (whole_value switch_read p) (λ on e. by_kind (freeze on) ((whole_says switch_codec).sound p on e).1)
+kind_sound kind.Nothing p = none_of_kind
+
+queried_sound : (c : Command) (p : List ℕ) → is_set c ≡ false → {m : Said} → KindRead (kind_of (body_of c)) p m
+    → CanRead c p m
+queried_sound c p asks (of_kind of w) = answer (record { can = tells asks of; written = w })
+queried_sound c p asks none_of_kind = no_answer
 
 ok_sound : (c : Command) (p : List ℕ) → is_set c ≡ true → CanRead c p (read_ok p)
 ok_sound c p set = guarded _ (λ e. by_row (done set) (same_is p (codes "OK") e))
 
 value_sound : (c : Command) (p : List ℕ) → CanRead c p (read_value c p)
-value_sound (PowerSet on) p = ok_sound (PowerSet on) p refl
-value_sound (InputSet i) p = ok_sound (InputSet i) p refl
-value_sound (MuteSet half on) p = ok_sound (MuteSet half on) p refl
-value_sound (InputSet2 i) p = ok_sound (InputSet2 i) p refl
-value_sound (FreezeSet on) p = ok_sound (FreezeSet on) p refl
-value_sound (VolumeStep v up) p = ok_sound (VolumeStep v up) p refl
-value_sound (NameQuery i) p = text_sound p (is_input_name p) (input_name p refl)
-value_sound (Query b) p = queried_sound b p
+value_sound c p =
+    if_by (CanRead c p) (is_set c) (λ set. ok_sound c p set)
+    (λ asks. queried_sound c p asks (kind_sound (kind_of (body_of c)) p))
 
 refusal_range : (r : Refusal) → (1 ≤ refusal_digit r) × (refusal_digit r ≤ 4)
 refusal_range r = grind arith

@@ -36,6 +36,9 @@ module _ (c : Command) (p : List ℕ) where
       by {m} (answer said) = absurd (none m said)
       by no_answer = refl
 
+  pub allowed_says_something : IsAllowed c p true → read_parameter c p ≡ nothing → ⊥
+  allowed_says_something (says m said) e = something_said said (sym (written_is_read m said) ∙ e)
+
   pub allowed_or_not : (t : Bool) × IsAllowed c p t
   allowed_or_not = by (read_sound c p) refl
     where

@@ -21,8 +21,11 @@ use Rattle.pjlink.specs.Said.{Said, text_is, said_bytes, parameter_most, said_mo
 use Rattle.words.specs.Lamps.{lamp_text, is_lamp_hours}
 use Rattle.words.specs.Muting.{halves_text}
 use Rattle.words.specs.ErrorDigits.{errors_text}
-use Rattle.pjlink.specs.CanSay.{CanSay, done, refuses, power, input, mutes, errors, lamps, inputs, name, maker}
-use Rattle.pjlink.specs.CanSay.{model, other, class_said, freeze, serial, version, input_name, input_2, inputs_2}
+use Rattle.pjlink.specs.declared.body.AnswerKind.{AnswerKind}
+use Rattle.pjlink.specs.declared.body.TextRule.{TextRule}
+use Rattle.pjlink.specs.declared.body.TextRule.TheVariants as rule
+use Rattle.pjlink.specs.CanSay.{CanSay, done, refuses, tells, IsOfKind, power, input, mutes, errors, lamps, inputs}
+use Rattle.pjlink.specs.CanSay.{text, class_said, freeze, is_text_by}
 use Rattle.words.specs.declared.power.Power.{Power}
 use Rattle.words.specs.Classes.{class_text}
 use Rattle.words.specs.declared.class.ClassNumber.{ClassNumber}
@@ -36,27 +39,34 @@ mutes_within v a = grind arith
 lamp_of_seven : (x : LampHours) → is_lamp_hours x ≡ true → length (lamp_text x) ≤ 7
 lamp_of_seven x e = grind (arith, length-append, digits_at_most_5)
 
+kind_long : {k : AnswerKind} {m : Said} → IsOfKind k m → length (said_bytes m) ≤ bytes_most m
+unfolding said_bytes
+kind_long (power p) = omega arith
+kind_long (input i e) = omega arith
+kind_long (mutes v a) = mutes_within v a
+kind_long (errors ds h e) = omega (arith, length-map ds number_digit)
+kind_long (lamps ls l h e) = omega (arith, joined_long lamp_text is_lamp_hours 7 lamp_of_seven ls e l)
+kind_long (inputs is l h e) = omega (arith, joined_long input_text is_input 2 (λ x f. omega arith) is e l)
+kind_long (text r s e) = omega arith
+kind_long (class_said k) = omega arith
+kind_long (freeze on) = omega arith
+
 pub said_long : {c : Command} {m : Said} → CanSay c m → length (said_bytes m) ≤ bytes_most m
 unfolding said_bytes
 said_long (done s) = omega arith
 said_long (refuses n l h t) = omega arith
-said_long (power p) = omega arith
-said_long (input i e) = omega arith
-said_long (mutes v a) = mutes_within v a
-said_long (errors ds h e) = omega (arith, length-map ds number_digit)
-said_long (lamps ls l h e) = omega (arith, joined_long lamp_text is_lamp_hours 7 lamp_of_seven ls e l)
-said_long (inputs is l h e) = omega (arith, joined_long input_text is_input 2 (λ x f. omega arith) is e l)
-said_long (name s e) = omega arith
-said_long (maker s e) = omega arith
-said_long (model s e) = omega arith
-said_long (other s e) = omega arith
-said_long (class_said k) = omega arith
-said_long (freeze on) = omega arith
-said_long (serial s e) = omega arith
-said_long (version s e) = omega arith
-said_long (input_name s b e) = omega arith
-said_long (input_2 i e) = omega arith
-said_long (inputs_2 is l h e) = omega (arith, joined_long input_text is_input 2 (λ x f. omega arith) is e l)
+said_long (tells asks of) = kind_long of
+
+-- the room of a text, by its rule
+abbrev rule_most : TextRule → ℕ
+rule_most rule.Name = name_most
+rule_most rule.Info = info_most
+rule_most rule.InputName = input_name_most
+
+rule_is_text : (r : TextRule) (s : List ℕ) → is_text_by r s ≡ true → is_text (rule_most r) s ≡ true
+rule_is_text rule.Name s e = name_is_text s e
+rule_is_text rule.Info s e = e
+rule_is_text rule.InputName s e = e
 
 most_within : {c : Command} {m : Said} → CanSay c m → bytes_most m ≤ said_most
 most_within h = grind (arith, name_long, info_long, input_name_long)
@@ -92,28 +102,25 @@ list_all-power_text p = grind arith
 list_all-halves_text : (v a : Bool) → list_all not_cr (halves_text v a) ≡ true
 list_all-halves_text v a = grind arith
 
+kind_has_no_cr : {k : AnswerKind} {m : Said} → IsOfKind k m → list_all not_cr (said_bytes m) ≡ true
+unfolding said_bytes
+kind_has_no_cr (power p) = list_all-power_text p
+kind_has_no_cr (input i e) = input_no_cr i
+kind_has_no_cr (mutes v a) = list_all-halves_text v a
+kind_has_no_cr (errors ds h e) = list_all-errors_text ds
+kind_has_no_cr (lamps ls l h e) =
+    list_all-list_text lamp_text is_lamp_hours not_cr (λ x t. list_all-lamp_text x) refl ls e
+kind_has_no_cr (inputs is l h e) = list_all-list_text input_text is_input not_cr (λ x t. input_no_cr x) refl is e
+kind_has_no_cr (text r s e) = text_no_cr (rule_most r) s (rule_is_text r s e)
+kind_has_no_cr (class_said k) = class_plain k
+kind_has_no_cr (freeze true) = refl
+kind_has_no_cr (freeze false) = refl
+
 has_no_cr : {c : Command} {m : Said} → CanSay c m → list_all not_cr (said_bytes m) ≡ true
 unfolding said_bytes
 has_no_cr (done s) = refl
 has_no_cr (refuses n l h t) = both (not_cr-number_digit n) refl
-has_no_cr (power p) = list_all-power_text p
-has_no_cr (input i e) = input_no_cr i
-has_no_cr (mutes v a) = list_all-halves_text v a
-has_no_cr (errors ds h e) = list_all-errors_text ds
-has_no_cr (lamps ls l h e) = list_all-list_text lamp_text is_lamp_hours not_cr (λ x t. list_all-lamp_text x) refl ls e
-has_no_cr (inputs is l h e) = list_all-list_text input_text is_input not_cr (λ x t. input_no_cr x) refl is e
-has_no_cr (name s e) = text_no_cr name_most s (name_is_text s e)
-has_no_cr (maker s e) = text_no_cr info_most s e
-has_no_cr (model s e) = text_no_cr info_most s e
-has_no_cr (other s e) = text_no_cr info_most s e
-has_no_cr (class_said k) = class_plain k
-has_no_cr (freeze true) = refl
-has_no_cr (freeze false) = refl
-has_no_cr (serial s e) = text_no_cr info_most s e
-has_no_cr (version s e) = text_no_cr info_most s e
-has_no_cr (input_name s b e) = text_no_cr input_name_most s e
-has_no_cr (input_2 i e) = input_no_cr i
-has_no_cr (inputs_2 is l h e) = list_all-list_text input_text is_input not_cr (λ x t. input_no_cr x) refl is e
+has_no_cr (tells asks of) = kind_has_no_cr of
 
 pub said_plain : {c : Command} {m : Said} → CanSay c m
     → (length (said_bytes m) ≤ parameter_most) × (no_cr (said_bytes m) ≡ true)

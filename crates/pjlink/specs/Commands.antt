@@ -17,13 +17,13 @@ use Rattle.words.specs.Inputs.{is_input, input_text}
 use Rattle.words.specs.Powers.{switch_code}
 use Rattle.pjlink.specs.Bodies.{row_of, class_of, has_query}
 use Rattle.pjlink.specs.declared.body.Body.{Body}
-use Rattle.pjlink.specs.declared.body.Body.TheVariants.{Powr, Inpt, Avmt, Frez, Svol, Mvol, Innm, Inpt2}
+use Rattle.pjlink.specs.declared.body.Body.TheVariants.{Powr, Inpt, Avmt, Frez, Svol, Mvol, Innm}
 use Rattle.pjlink.specs.declared.command.Half.{Half}
 use Rattle.pjlink.specs.declared.command.Half.TheVariants.{VideoHalf, AudioHalf, BothHalves}
 use Rattle.pjlink.specs.declared.command.Volume.{Volume}
 use Rattle.pjlink.specs.declared.command.Volume.TheVariants.{Speaker, Microphone}
 use Rattle.pjlink.specs.declared.command.Command.{Command}
-use Rattle.pjlink.specs.declared.command.Command.TheVariants.{PowerSet, InputSet, MuteSet, InputSet2, FreezeSet}
+use Rattle.pjlink.specs.declared.command.Command.TheVariants.{PowerSet, InputSet, MuteSet, FreezeSet}
 use Rattle.pjlink.specs.declared.command.Command.TheVariants.{VolumeStep, NameQuery, Query}
 
 abbrev pub body_text : Body → List ℕ
@@ -35,9 +35,8 @@ volume_body Microphone = Mvol
 
 abbrev pub body_of : Command → Body
 body_of (PowerSet on) = Powr
-body_of (InputSet i) = Inpt
+body_of (InputSet k i) = Inpt k
 body_of (MuteSet h on) = Avmt
-body_of (InputSet2 i) = Inpt2
 body_of (FreezeSet on) = Frez
 body_of (VolumeStep v up) = volume_body v
 body_of (NameQuery i) = Innm
@@ -69,9 +68,8 @@ half_read s = letter half_named s
 
 abbrev pub parameter_of : Command → List ℕ
 parameter_of (PowerSet on) = switch_code on ∷ []
-parameter_of (InputSet i) = input_text i
+parameter_of (InputSet k i) = input_text i
 parameter_of (MuteSet h on) = half_code h ∷ switch_code on ∷ []
-parameter_of (InputSet2 i) = input_text i
 parameter_of (FreezeSet on) = switch_code on ∷ []
 parameter_of (VolumeStep v up) = switch_code up ∷ []
 parameter_of (NameQuery i) = codes "?" ++ input_text i
@@ -79,9 +77,8 @@ parameter_of (Query b) = codes "?"
 
 abbrev pub is_command : Command → Bool
 is_command (PowerSet on) = true
-is_command (InputSet i) = is_input i
+is_command (InputSet k i) = is_input i
 is_command (MuteSet h on) = true
-is_command (InputSet2 i) = is_input i
 is_command (FreezeSet on) = true
 is_command (VolumeStep v up) = true
 is_command (NameQuery i) = is_input i

@@ -4,7 +4,7 @@
 --   p spells t             the bytes p are the text t
 --   said_or says o         what is said by what was read; nothing where nothing was
 --   text_or t p            the text p where it is a legal one
---   read_queried b p       the value in p of the query of the body b
+--   read_queried k p       the value in p of an answer of the kind k
 --   read_value c p         what p says to c, where it is no refusal: OK to a set, the value to a query
 --   refusal_or c o m       the refusal, where p is one that c allows; what p says else
 --   read_parameter c p     what p says to c
@@ -20,17 +20,16 @@ use Rattle.words.specs.ErrorDigits.{errors_read}
 use Rattle.words.specs.Lamps.{lamp_read}
 use Rattle.words.specs.Classes.{class_read}
 use Rattle.words.specs.Refusing.{refusal_digit, refusal_read}
-use Rattle.words.specs.Texts.{is_name, is_info, is_input_name}
 use Rattle.words.specs.declared.refusal.Refusal.{Refusal}
 use Rattle.pjlink.specs.Commands.{body_of}
 use Rattle.pjlink.specs.declared.command.Command.{Command}
-use Rattle.pjlink.specs.declared.body.Body.{Body}
-use Rattle.pjlink.specs.declared.body.Body.TheVariants.{Powr, Inpt, Avmt, Erst, Lamp, Inst, Name, Inf1, Inf2, Info}
-use Rattle.pjlink.specs.declared.body.Body.TheVariants.{Clss, Frez, Svol, Mvol, Snum, Sver, Innm, Inpt2, Inst2}
+use Rattle.pjlink.specs.declared.body.AnswerKind.{AnswerKind}
+use Rattle.pjlink.specs.declared.body.AnswerKind.TheVariants as kind
+use Rattle.pjlink.specs.Bodies.{kind_of}
 use Rattle.pjlink.specs.Said.{Said, okay, refused, power_is, chosen_is, mutes_are, errors_are, lamps_are, inputs_are}
 use Rattle.pjlink.specs.Said.{text_is, class_is, freeze_is, nothing}
 use Rattle.pjlink.specs.Carried.{lamps_carried, inputs_carried}
-use Rattle.pjlink.specs.CanSay.{is_set, is_refusal_to}
+use Rattle.pjlink.specs.CanSay.{is_set, is_refusal_to, is_text_by}
 
 infix 40 ◌spells◌
 abbrev pub ◌spells◌ : List ℕ → List ℕ → Bool
@@ -46,29 +45,20 @@ text_or legal p = if legal then text_is p else nothing
 abbrev pub read_ok : List ℕ → Said
 read_ok p = if p spells codes "OK" then okay else nothing
 
-abbrev pub read_queried : Body → List ℕ → Said
-read_queried Powr p = said_or power_is (whole_value power_read p)
-read_queried Inpt p = said_or chosen_is (whole_value input_read p)
-read_queried Avmt p = said_or (λ m. mutes_are m.video m.audio) (whole_value mutes_read p)
-read_queried Erst p = said_or errors_are (whole_value errors_read p)
-read_queried Lamp p = said_or lamps_are (list_read lamp_read lamps_carried p)
-read_queried Inst p = said_or inputs_are (list_read input_read inputs_carried p)
-read_queried Name p = text_or (is_name p) p
-read_queried Inf1 p = text_or (is_info p) p
-read_queried Inf2 p = text_or (is_info p) p
-read_queried Info p = text_or (is_info p) p
-read_queried Clss p = said_or class_is (whole_value class_read p)
-read_queried Frez p = said_or freeze_is (whole_value switch_read p)
-read_queried Svol p = nothing
-read_queried Mvol p = nothing
-read_queried Snum p = text_or (is_info p) p
-read_queried Sver p = text_or (is_info p) p
-read_queried Innm p = text_or (is_input_name p) p
-read_queried Inpt2 p = said_or chosen_is (whole_value input_read p)
-read_queried Inst2 p = said_or inputs_are (list_read input_read inputs_carried p)
+abbrev pub read_queried : AnswerKind → List ℕ → Said
+read_queried kind.Power p = said_or power_is (whole_value power_read p)
+read_queried kind.Input p = said_or chosen_is (whole_value input_read p)
+read_queried kind.Mutes p = said_or (λ m. mutes_are m.video m.audio) (whole_value mutes_read p)
+read_queried kind.Errors p = said_or errors_are (whole_value errors_read p)
+read_queried kind.Lamps p = said_or lamps_are (list_read lamp_read lamps_carried p)
+read_queried kind.Inputs p = said_or inputs_are (list_read input_read inputs_carried p)
+read_queried (kind.Text r) p = text_or (is_text_by r p) p
+read_queried kind.Class p = said_or class_is (whole_value class_read p)
+read_queried kind.Freeze p = said_or freeze_is (whole_value switch_read p)
+read_queried kind.Nothing p = nothing
 
 abbrev pub read_value : Command → List ℕ → Said
-read_value c p = if is_set c then read_ok p else read_queried (body_of c) p
+read_value c p = if is_set c then read_ok p else read_queried (kind_of (body_of c)) p
 
 abbrev pub refusal_or : Command → Option Refusal → Said → Said
 refusal_or c None m = m

@@ -1,7 +1,7 @@
 -- What a received class, body and parameter ask for (RULES, Commands: bodies without regard to case, parameters
 -- exactly; RULES, Class 2: each body under its own class).
 --   mute_of p              what a mute is of, and 0 or 1
---   set_of set p           the command that the parameter p makes of a body that sets this, or none
+--   set_of k set p         the command that the parameter p makes of a body of Class k that sets this, or none
 --   command_of b p         the command that it makes of the body b, or none
 --   Request                what a line asks for:
 --                            Ok c                 the command c
@@ -20,15 +20,16 @@ use Rattle.words.specs.Bytes.{◌at◌}
 use Rattle.words.specs.Codec.{whole_value, pair_of}
 use Rattle.words.specs.Inputs.{input_of}
 use Rattle.words.specs.Powers.{switch_read}
+use Rattle.words.specs.declared.class.ClassNumber.{ClassNumber}
 use Rattle.pjlink.specs.Bodies.{row_of, body_named, has_query}
 use Rattle.pjlink.specs.Commands.{half_read}
 use Rattle.pjlink.specs.declared.body.Body.{Body}
 use Rattle.pjlink.specs.declared.command.Volume.TheVariants.{Speaker, Microphone}
 use Rattle.pjlink.specs.declared.command.Command.{Command}
-use Rattle.pjlink.specs.declared.command.Command.TheVariants.{PowerSet, InputSet, MuteSet, InputSet2, FreezeSet}
+use Rattle.pjlink.specs.declared.command.Command.TheVariants.{PowerSet, InputSet, MuteSet, FreezeSet}
 use Rattle.pjlink.specs.declared.command.Command.TheVariants.{VolumeStep, NameQuery, Query}
 use Rattle.pjlink.specs.declared.body.Sets.{Sets}
-use Rattle.pjlink.specs.declared.body.Sets.TheVariants.{SetsPower, SetsInput, SetsMute, SetsInput2, SetsFreeze}
+use Rattle.pjlink.specs.declared.body.Sets.TheVariants.{SetsPower, SetsInput, SetsMute, SetsFreeze}
 use Rattle.pjlink.specs.declared.body.Sets.TheVariants.{StepsSpeaker, StepsMicrophone, NamesInput, QueryOnly}
 use Rattle.pjlink.specs.declared.request.Unasked.{Unasked}
 use Rattle.pjlink.specs.declared.request.Unasked.TheVariants.{Unlisted, UnknownBody}
@@ -42,22 +43,21 @@ unfoldable pub name_query_of : List ℕ → Option Command
 name_query_of p = if p at 0 is "?" then option_map NameQuery (input_of (drop 1 p)) else None
 
 -- POWR, FREZ: off and on; SVOL, MVOL: down and up; INPT: two characters that name an input
-abbrev pub set_of : Sets → List ℕ → Option Command
-set_of SetsPower p = option_map PowerSet (whole_value switch_read p)
-set_of SetsInput p = option_map InputSet (input_of p)
-set_of SetsMute p = mute_of p
-set_of SetsInput2 p = option_map InputSet2 (input_of p)
-set_of SetsFreeze p = option_map FreezeSet (whole_value switch_read p)
-set_of StepsSpeaker p = option_map (VolumeStep Speaker) (whole_value switch_read p)
-set_of StepsMicrophone p = option_map (VolumeStep Microphone) (whole_value switch_read p)
-set_of NamesInput p = name_query_of p
-set_of QueryOnly p = None
+abbrev pub set_of : ClassNumber → Sets → List ℕ → Option Command
+set_of k SetsPower p = option_map PowerSet (whole_value switch_read p)
+set_of k SetsInput p = option_map (InputSet k) (input_of p)
+set_of k SetsMute p = mute_of p
+set_of k SetsFreeze p = option_map FreezeSet (whole_value switch_read p)
+set_of k StepsSpeaker p = option_map (VolumeStep Speaker) (whole_value switch_read p)
+set_of k StepsMicrophone p = option_map (VolumeStep Microphone) (whole_value switch_read p)
+set_of k NamesInput p = name_query_of p
+set_of k QueryOnly p = None
 
 abbrev pub is_question : List ℕ → Bool
 is_question p = length p == 1 && p at 0 is "?"
 
 abbrev pub command_of : Body → List ℕ → Option Command
-command_of b p = if has_query b && is_question p then Some (Query b) else set_of (row_of b).set p
+command_of b p = if has_query b && is_question p then Some (Query b) else set_of (row_of b).class (row_of b).set p
 
 abbrev pub Request : Type 0
 Request = Result Command Unasked

@@ -33,7 +33,7 @@ abbrev pub is_input_of_class : ℕ → Input → Bool
 is_input_of_class k i = is_input_text k (input_text i at 0) (input_text i at 1)
 
 abbrev pub is_foreign : ℕ → Command → Bool
-is_foreign k (InputSet i) = not (is_input_of_class k i)
+is_foreign k (InputSet j i) = not (is_input_of_class k i)
 is_foreign k c = false
 
 abbrev pub known_in_class : ℕ → Request → Request

@@ -3,10 +3,12 @@ ghost use Rattle.std.specs.Prelude.{◌≡◌, ◌==◌};
 ghost use Rattle.words.specs.Classes.{class_as_number};
 ghost use Rattle.pjlink.specs.Bodies.{row_of, is_named, is_body, body_named, has_set, has_parameters, has_query};
 
+use self::AnswerKind::{Class, Errors, Freeze, Input, Inputs, Lamps, Mutes, Nothing, Power, Text};
 use self::Sets::{
-    NamesInput, QueryOnly, SetsFreeze, SetsInput, SetsInput2, SetsMute, SetsPower, StepsMicrophone,
+    NamesInput, QueryOnly, SetsFreeze, SetsInput, SetsMute, SetsPower, StepsMicrophone,
     StepsSpeaker,
 };
+use self::TextRule::{Info, InputName, Name};
 use words::byte;
 use words::class::ClassNumber;
 use words::class::ClassNumber::{One, Two};
@@ -16,16 +18,16 @@ use words::class::ClassNumber::{One, Two};
 pub enum Body {
     /// POWR: the power (PJLink 1.04, 4.1, 4.2).
     Powr,
-    /// INPT under `%1`: the chosen input (PJLink 1.04, 4.3, 4.4).
-    Inpt,
+    /// INPT under the class: the chosen input (PJLink 1.04, 4.3, 4.4; RULES, Class 2).
+    Inpt(ClassNumber),
     /// AVMT: the mutes of video and audio (PJLink 1.04, 4.5, 4.6).
     Avmt,
     /// ERST: the six error digits (PJLink 1.04, 4.7).
     Erst,
     /// LAMP: each lamp's hours, and whether it is lit (PJLink 1.04, 4.8).
     Lamp,
-    /// INST under `%1`: the inputs (PJLink 1.04, 4.9).
-    Inst,
+    /// INST under the class: the inputs (PJLink 1.04, 4.9; RULES, Class 2).
+    Inst(ClassNumber),
     /// NAME: the projector's name (PJLink 1.04, 4.10).
     Name,
     /// INF1: the maker (PJLink 1.04, 4.11).
@@ -48,10 +50,6 @@ pub enum Body {
     Sver,
     /// INNM: the name of the input behind its `?` (RULES, Class 2).
     Innm,
-    /// INPT under `%2`: the chosen input, as under `%1` (RULES, Class 2).
-    Inpt2,
-    /// INST under `%2`: the inputs, as under `%1` (RULES, Class 2).
-    Inst2,
 }
 
 /// What a body sets, if anything. INNM sets nothing, and names an input beside its `?`.
@@ -59,12 +57,10 @@ pub enum Body {
 pub enum Sets {
     /// POWR: `0` off, `1` on.
     SetsPower,
-    /// INPT under `%1`: the input of its parameter is chosen.
+    /// INPT: the input of its parameter is chosen.
     SetsInput,
     /// AVMT: `1` video, `2` audio or `3` both, then `0` off or `1` on.
     SetsMute,
-    /// INPT under `%2`: the input of its parameter is chosen.
-    SetsInput2,
     /// FREZ: `0` off, `1` on.
     SetsFreeze,
     /// SVOL: `0` a step down, `1` a step up.
@@ -77,7 +73,43 @@ pub enum Sets {
     QueryOnly,
 }
 
-/// What is so of a body: rules 1 to 4 ask nothing else of it.
+/// The rule that a text follows (RULES, Texts).
+#[derive(Clone, Copy)]
+pub enum TextRule {
+    /// The projector's name: at most 64 bytes, in UTF-8.
+    Name,
+    /// Maker, model, other information, serial number and version: at most 32 bytes.
+    Info,
+    /// An input's name: at most 128 bytes.
+    InputName,
+}
+
+/// The kind of a body's answer: how it is read and written.
+#[derive(Clone, Copy)]
+pub enum AnswerKind {
+    /// Off, on, cooling or warm-up.
+    Power,
+    /// An input.
+    Input,
+    /// What is muted.
+    Mutes,
+    /// Six error digits.
+    Errors,
+    /// One to eight lamps.
+    Lamps,
+    /// One to 32 inputs.
+    Inputs,
+    /// A text that follows a rule. `?` alone asks no input's name.
+    Text(TextRule),
+    /// The class.
+    Class,
+    /// Whether the picture is frozen.
+    Freeze,
+    /// None: nothing asks the body.
+    Nothing,
+}
+
+/// What is so of a body: rules 1 to 4, its reader and its writer ask nothing else of it.
 #[derive(Clone, Copy)]
 pub struct Row {
     /// The body whose row it is.
@@ -88,8 +120,8 @@ pub struct Row {
     pub letters: [u8; 4],
     /// What it sets.
     pub set: Sets,
-    /// Whether `?` asks it.
-    pub asks: bool,
+    /// The kind of its answer.
+    pub kind: AnswerKind,
     /// Whether there have to be lamps (rule 1).
     pub lamps: bool,
     /// Whether the power has to be on, to set or to ask (rule 4).
@@ -100,25 +132,27 @@ pub struct Row {
 /// since a constant would be put together on the stack at each look-up.
 #[rattlefmt::skip]
 pub static BODIES: [Row; 19] = [
-    Row { body: Body::Powr, class: One, letters: *b"POWR", set: SetsPower, asks: true, lamps: false, on: false },
-    Row { body: Body::Inpt, class: One, letters: *b"INPT", set: SetsInput, asks: true, lamps: false, on: true },
-    Row { body: Body::Avmt, class: One, letters: *b"AVMT", set: SetsMute, asks: true, lamps: false, on: true },
-    Row { body: Body::Erst, class: One, letters: *b"ERST", set: QueryOnly, asks: true, lamps: false, on: false },
-    Row { body: Body::Lamp, class: One, letters: *b"LAMP", set: QueryOnly, asks: true, lamps: true, on: false },
-    Row { body: Body::Inst, class: One, letters: *b"INST", set: QueryOnly, asks: true, lamps: false, on: false },
-    Row { body: Body::Name, class: One, letters: *b"NAME", set: QueryOnly, asks: true, lamps: false, on: false },
-    Row { body: Body::Inf1, class: One, letters: *b"INF1", set: QueryOnly, asks: true, lamps: false, on: false },
-    Row { body: Body::Inf2, class: One, letters: *b"INF2", set: QueryOnly, asks: true, lamps: false, on: false },
-    Row { body: Body::Info, class: One, letters: *b"INFO", set: QueryOnly, asks: true, lamps: false, on: false },
-    Row { body: Body::Clss, class: One, letters: *b"CLSS", set: QueryOnly, asks: true, lamps: false, on: false },
-    Row { body: Body::Frez, class: Two, letters: *b"FREZ", set: SetsFreeze, asks: true, lamps: false, on: true },
-    Row { body: Body::Svol, class: Two, letters: *b"SVOL", set: StepsSpeaker, asks: false, lamps: false, on: true },
-    Row { body: Body::Mvol, class: Two, letters: *b"MVOL", set: StepsMicrophone, asks: false, lamps: false, on: true },
-    Row { body: Body::Snum, class: Two, letters: *b"SNUM", set: QueryOnly, asks: true, lamps: false, on: false },
-    Row { body: Body::Sver, class: Two, letters: *b"SVER", set: QueryOnly, asks: true, lamps: false, on: false },
-    Row { body: Body::Innm, class: Two, letters: *b"INNM", set: NamesInput, asks: false, lamps: false, on: false },
-    Row { body: Body::Inpt2, class: Two, letters: *b"INPT", set: SetsInput2, asks: true, lamps: false, on: true },
-    Row { body: Body::Inst2, class: Two, letters: *b"INST", set: QueryOnly, asks: true, lamps: false, on: false },
+    Row { body: Body::Powr, class: One, letters: *b"POWR", set: SetsPower, kind: Power, lamps: false, on: false },
+    Row { body: Body::Inpt(One), class: One, letters: *b"INPT", set: SetsInput, kind: Input, lamps: false, on: true },
+    Row { body: Body::Avmt, class: One, letters: *b"AVMT", set: SetsMute, kind: Mutes, lamps: false, on: true },
+    Row { body: Body::Erst, class: One, letters: *b"ERST", set: QueryOnly, kind: Errors, lamps: false, on: false },
+    Row { body: Body::Lamp, class: One, letters: *b"LAMP", set: QueryOnly, kind: Lamps, lamps: true, on: false },
+    Row { body: Body::Inst(One), class: One, letters: *b"INST", set: QueryOnly, kind: Inputs, lamps: false, on: false },
+    Row { body: Body::Name, class: One, letters: *b"NAME", set: QueryOnly, kind: Text(Name), lamps: false, on: false },
+    Row { body: Body::Inf1, class: One, letters: *b"INF1", set: QueryOnly, kind: Text(Info), lamps: false, on: false },
+    Row { body: Body::Inf2, class: One, letters: *b"INF2", set: QueryOnly, kind: Text(Info), lamps: false, on: false },
+    Row { body: Body::Info, class: One, letters: *b"INFO", set: QueryOnly, kind: Text(Info), lamps: false, on: false },
+    Row { body: Body::Clss, class: One, letters: *b"CLSS", set: QueryOnly, kind: Class, lamps: false, on: false },
+    Row { body: Body::Frez, class: Two, letters: *b"FREZ", set: SetsFreeze, kind: Freeze, lamps: false, on: true },
+    Row { body: Body::Svol, class: Two, letters: *b"SVOL", set: StepsSpeaker, kind: Nothing, lamps: false, on: true },
+    Row { body: Body::Mvol, class: Two, letters: *b"MVOL", set: StepsMicrophone, kind: Nothing, lamps: false,
+          on: true },
+    Row { body: Body::Snum, class: Two, letters: *b"SNUM", set: QueryOnly, kind: Text(Info), lamps: false, on: false },
+    Row { body: Body::Sver, class: Two, letters: *b"SVER", set: QueryOnly, kind: Text(Info), lamps: false, on: false },
+    Row { body: Body::Innm, class: Two, letters: *b"INNM", set: NamesInput, kind: Text(InputName), lamps: false,
+          on: false },
+    Row { body: Body::Inpt(Two), class: Two, letters: *b"INPT", set: SetsInput, kind: Input, lamps: false, on: true },
+    Row { body: Body::Inst(Two), class: Two, letters: *b"INST", set: QueryOnly, kind: Inputs, lamps: false, on: false },
 ];
 
 fn same_class(a: ClassNumber, b: ClassNumber) -> bool
@@ -147,7 +181,27 @@ impl Body {
     pub fn row(self) -> Row
         ensures { result ≡ row_of self }
     {
-        BODIES[self as usize]
+        match self {
+            Body::Powr => BODIES[0],
+            Body::Inpt(One) => BODIES[1],
+            Body::Avmt => BODIES[2],
+            Body::Erst => BODIES[3],
+            Body::Lamp => BODIES[4],
+            Body::Inst(One) => BODIES[5],
+            Body::Name => BODIES[6],
+            Body::Inf1 => BODIES[7],
+            Body::Inf2 => BODIES[8],
+            Body::Info => BODIES[9],
+            Body::Clss => BODIES[10],
+            Body::Frez => BODIES[11],
+            Body::Svol => BODIES[12],
+            Body::Mvol => BODIES[13],
+            Body::Snum => BODIES[14],
+            Body::Sver => BODIES[15],
+            Body::Innm => BODIES[16],
+            Body::Inpt(Two) => BODIES[17],
+            Body::Inst(Two) => BODIES[18],
+        }
     }
 
     /// The body that four letters name in a line of the class, whatever their case.
@@ -183,6 +237,6 @@ impl Body {
     pub fn has_query(self) -> bool
         ensures { result ≡ has_query self }
     {
-        self.row().asks
+        !matches!(self.row().kind, Text(InputName) | Nothing)
     }
 }

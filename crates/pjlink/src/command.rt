@@ -39,12 +39,10 @@ pub enum Volume {
 pub enum Command {
     /// POWR: on where true, else off (PJLink 1.04, 4.1).
     PowerSet(bool),
-    /// INPT under `%1`: the input is chosen (PJLink 1.04, 4.3).
-    InputSet(Input),
+    /// INPT under the class: the input is chosen (PJLink 1.04, 4.3; RULES, Class 2).
+    InputSet(ClassNumber, Input),
     /// AVMT: that much is muted where true, else no longer; the half not named stays (PJLink 1.04, 4.5).
     MuteSet(Half, bool),
-    /// INPT under `%2`: the input is chosen (RULES, Class 2).
-    InputSet2(Input),
     /// FREZ: the picture stands still where true, else no longer (RULES, Class 2).
     FreezeSet(bool),
     /// SVOL or MVOL: a step up where true, else down (RULES, Class 2).
@@ -62,9 +60,8 @@ impl Command {
     {
         match self {
             Command::PowerSet(_) => Body::Powr,
-            Command::InputSet(_) => Body::Inpt,
+            Command::InputSet(k, _) => Body::Inpt(k),
             Command::MuteSet(_, _) => Body::Avmt,
-            Command::InputSet2(_) => Body::Inpt2,
             Command::FreezeSet(_) => Body::Frez,
             Command::VolumeStep(v, _) => volume_body(v),
             Command::NameQuery(_) => Body::Innm,
@@ -84,9 +81,7 @@ impl Command {
         ensures { result ≡ is_command self }
     {
         match self {
-            Command::InputSet(i) | Command::InputSet2(i) | Command::NameQuery(i) => {
-                input::is_input(i)
-            }
+            Command::InputSet(_, i) | Command::NameQuery(i) => input::is_input(i),
             Command::Query(b) => b.has_query(),
             _ => true,
         }
@@ -100,7 +95,7 @@ impl Command {
             Command::PowerSet(on) | Command::FreezeSet(on) | Command::VolumeStep(_, on) => {
                 on.put(out)
             }
-            Command::InputSet(i) | Command::InputSet2(i) => i.put(out),
+            Command::InputSet(_, i) => i.put(out),
             Command::MuteSet(half, on) => {
                 half.put(out);
                 on.put(out);

@@ -2,11 +2,11 @@
 ghost use Rattle.std.specs.Prelude.{◌≡◌};
 ghost use Rattle.words.specs.Refusing.{refusal_digit};
 ghost use Rattle.pjlink.specs.Carried.{value_said, parameter_said};
-ghost use Rattle.pjlink.specs.CanSay.{is_set, has_own_parameter, is_refusal_to};
+ghost use Rattle.pjlink.specs.CanSay.{is_set, has_own_parameter, is_refusal_to, is_text_by};
 ghost use Rattle.pjlink.specs.Reading.{text_or, read_queried, read_value, read_parameter};
 
 use crate::answer::{Answer, Reply};
-use crate::body::Body;
+use crate::body::{AnswerKind, TextRule};
 use crate::command::Command;
 use words::refusal::Refusal;
 use words::{codec, list, texts};
@@ -18,24 +18,31 @@ fn text_if(legal: bool, p: &[u8]) -> Option<Answer<'_>>
     if legal { Some(Answer::Text(p)) } else { None }
 }
 
-fn read_queried(b: Body, p: &[u8]) -> Option<Answer<'_>>
-    ensures { value_said result ≡ read_queried b p.now }
+// Whether a text follows a rule.
+fn is_text_by(rule: TextRule, s: &[u8]) -> bool
+    ensures { result ≡ is_text_by rule s.now }
 {
-    match b {
-        Body::Powr => Some(Answer::Power(codec::parse(p)?)),
-        Body::Inpt | Body::Inpt2 => Some(Answer::Input(codec::parse(p)?)),
-        Body::Avmt => Some(Answer::Mutes(codec::parse(p)?)),
-        Body::Erst => Some(Answer::Errors(codec::parse(p)?)),
-        Body::Lamp => Some(Answer::Lamps(list::parse_list(p)?)),
-        Body::Inst | Body::Inst2 => Some(Answer::Inputs(list::parse_list(p)?)),
-        Body::Name => text_if(texts::is_name(p), p),
-        Body::Inf1 | Body::Inf2 | Body::Info | Body::Snum | Body::Sver => {
-            text_if(texts::is_info(p), p)
-        }
-        Body::Innm => text_if(texts::is_input_name(p), p),
-        Body::Clss => Some(Answer::Class(codec::parse(p)?)),
-        Body::Frez => Some(Answer::Freeze(codec::parse(p)?)),
-        Body::Svol | Body::Mvol => None,
+    match rule {
+        TextRule::Name => texts::is_name(s),
+        TextRule::Info => texts::is_info(s),
+        TextRule::InputName => texts::is_input_name(s),
+    }
+}
+
+fn read_queried(kind: AnswerKind, p: &[u8]) -> Option<Answer<'_>>
+    ensures { value_said result ≡ read_queried kind p.now }
+{
+    match kind {
+        AnswerKind::Power => Some(Answer::Power(codec::parse(p)?)),
+        AnswerKind::Input => Some(Answer::Input(codec::parse(p)?)),
+        AnswerKind::Mutes => Some(Answer::Mutes(codec::parse(p)?)),
+        AnswerKind::Errors => Some(Answer::Errors(codec::parse(p)?)),
+        AnswerKind::Lamps => Some(Answer::Lamps(list::parse_list(p)?)),
+        AnswerKind::Inputs => Some(Answer::Inputs(list::parse_list(p)?)),
+        AnswerKind::Text(rule) => text_if(is_text_by(rule, p), p),
+        AnswerKind::Class => Some(Answer::Class(codec::parse(p)?)),
+        AnswerKind::Freeze => Some(Answer::Freeze(codec::parse(p)?)),
+        AnswerKind::Nothing => None,
     }
 }
 
@@ -61,7 +68,7 @@ fn read_value(c: Command, p: &[u8]) -> Option<Answer<'_>>
         }
         return None;
     }
-    read_queried(c.body(), p)
+    read_queried(c.body().row().kind, p)
 }
 
 // Whether a refusal is allowed in reply to c: ERR2 is none to `?`.

@@ -38,15 +38,14 @@ fn name_query_of(p: &[u8]) -> Option<Command>
     }
 }
 
-// What a parameter besides `?` asks of a body that sets this.
-fn set_of(set: Sets, p: &[u8]) -> Option<Command>
-    ensures { result ≡ set_of set p.now }
+// What a parameter besides `?` asks of a body of the class that sets this.
+fn set_of(class: ClassNumber, set: Sets, p: &[u8]) -> Option<Command>
+    ensures { result ≡ set_of class set p.now }
 {
     match set {
         Sets::SetsPower => Some(Command::PowerSet(codec::parse(p)?)),
-        Sets::SetsInput => Some(Command::InputSet(input::input_of(p)?)),
+        Sets::SetsInput => Some(Command::InputSet(class, input::input_of(p)?)),
         Sets::SetsMute => mute_of(p),
-        Sets::SetsInput2 => Some(Command::InputSet2(input::input_of(p)?)),
         Sets::SetsFreeze => Some(Command::FreezeSet(codec::parse(p)?)),
         Sets::StepsSpeaker => Some(Command::VolumeStep(Volume::Speaker, codec::parse(p)?)),
         Sets::StepsMicrophone => Some(Command::VolumeStep(Volume::Microphone, codec::parse(p)?)),
@@ -61,7 +60,8 @@ fn command_of(b: Body, p: &[u8]) -> Option<Command>
     if b.has_query() && matches!(p, [b'?']) {
         return Some(Command::Query(b));
     }
-    set_of(b.row().set, p)
+    let row = b.row();
+    set_of(row.class, row.set, p)
 }
 
 /// What four letters with the parameter p ask for in a line of the class: the letters in any case, the parameter

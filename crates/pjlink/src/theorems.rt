@@ -1,6 +1,6 @@
 // What is proved beside the contracts of the functions. Nothing is done here: that these functions have their contracts
 // is that the theorems stand.
-ghost use Rattle.std.specs.Prelude.{◌≡◌, ◌≤◌, ◌++◌, ℕ, Bool, List, Option, Result, false, true, length};
+ghost use Rattle.std.specs.Prelude.{◌≡◌, ◌≤◌, ◌++◌, ℕ, Bool, List, Option, Result, false, true, not, length};
 ghost use Rattle.std.specs.Prelude.{[], ◌∷◌, map, codes, Ok, Err, Some, None};
 ghost use Rattle.words.specs.Bytes.{◌at◌, no_cr};
 ghost use Rattle.pjlink.specs.declared.answer.Answer.{Answer};
@@ -10,14 +10,16 @@ ghost use Rattle.words.specs.declared.input.Source.TheVariants.{Internal};
 ghost use Rattle.pjlink.specs.Carried.{parameter_said};
 ghost use Rattle.pjlink.specs.Said.{said_bytes, nothing, Said, parameter_most};
 ghost use Rattle.pjlink.specs.Said.{refused, lamps_are, inputs_are, text_is, class_is, freeze_is};
+ghost use Rattle.std.specs.List.{filter};
+ghost use Rattle.pjlink.specs.Bodies.{bodies, has_query};
 ghost use Rattle.pjlink.specs.Commands.{class_digit, command_line};
 ghost use Rattle.pjlink.specs.Forms.{is_command_form, line_class, head_body, is_reply_form, reply_parameter};
 ghost use Rattle.pjlink.specs.Forms.{IsLetters, reply_line};
 ghost use Rattle.pjlink.specs.declared.command.Command.{Command};
-ghost use Rattle.pjlink.specs.declared.command.Command.TheVariants.{InputSet, InputSet2, FreezeSet, VolumeStep};
+ghost use Rattle.pjlink.specs.declared.command.Command.TheVariants.{InputSet, FreezeSet, VolumeStep};
 ghost use Rattle.pjlink.specs.declared.command.Command.TheVariants.{NameQuery, Query};
 ghost use Rattle.pjlink.specs.declared.command.Volume.TheVariants.{Speaker, Microphone};
-ghost use Rattle.pjlink.specs.declared.body.Body.TheVariants.{Lamp, Inst, Clss, Frez, Snum, Svol, Innm, Inpt2};
+ghost use Rattle.pjlink.specs.declared.body.Body.TheVariants.{Inpt, Lamp, Inst, Clss, Frez, Snum, Svol, Mvol, Innm};
 ghost use Rattle.pjlink.specs.declared.request.Unasked.TheVariants.{Unlisted, UnknownBody};
 ghost use Rattle.pjlink.specs.Reading.{read_parameter};
 ghost use Rattle.pjlink.specs.Greetings.{read_greeting};
@@ -70,11 +72,12 @@ pub fn a_reply_gives_its_parts()
 {}
 
 /// Lines worked out (RULES, Controller and Class 2): commands of Class 2 as they are written; which lines have the form
-/// of each class; what a line asks for under each; and a random number, whose digits are in lower case.
+/// of each class; what a line asks for under each; which bodies `?` alone does not ask; and a random number, whose
+/// digits are in lower case.
 #[tactic(auto, using(crate::proofs::Examples::worked_lines))]
 pub fn lines_are_worked_out()
     ensures written { map command_line
-        (InputSet2 hdmi ∷ FreezeSet true ∷ VolumeStep Speaker true ∷ VolumeStep Microphone false ∷ NameQuery hdmi
+        (InputSet Two hdmi ∷ FreezeSet true ∷ VolumeStep Speaker true ∷ VolumeStep Microphone false ∷ NameQuery hdmi
         ∷ Query Snum ∷ [])
         ≡ codes "%2INPT 31\r" ∷ codes "%2FREZ 1\r" ∷ codes "%2SVOL 1\r" ∷ codes "%2MVOL 0\r" ∷ codes "%2INNM ?31\r"
         ∷ codes "%2SNUM ?\r" ∷ [] }
@@ -86,10 +89,11 @@ pub fn lines_are_worked_out()
         ∷ request_to 1 "INST" "?" ∷ request_to 2 "CLSS" "?" ∷ request_to 1 "SNUM" "?"
         ∷ request_to 2 "SNUM" "1" ∷ request_to 2 "SVOL" "?" ∷ request_to 2 "INNM" "?31"
         ∷ request_to 2 "INNM" "?" ∷ []
-        ≡ Ok (InputSet hdmi) ∷ Ok (InputSet2 hdmi) ∷ Err (Unlisted Inpt2)
-        ∷ Ok (Query Inst) ∷ Err UnknownBody ∷ Err UnknownBody
+        ≡ Ok (InputSet One hdmi) ∷ Ok (InputSet Two hdmi) ∷ Err (Unlisted (Inpt Two))
+        ∷ Ok (Query (Inst One)) ∷ Err UnknownBody ∷ Err UnknownBody
         ∷ Err (Unlisted Snum) ∷ Err (Unlisted Svol) ∷ Ok (NameQuery hdmi)
         ∷ Err (Unlisted Innm) ∷ [] }
+    ensures unasked { filter (λ b. not (has_query b)) bodies ≡ Svol ∷ Mvol ∷ Innm ∷ [] }
     ensures random_heard { read_greeting (codes "PJLINK 1 498e4a67\r") ≡ Some (Secured 1234061927) }
     ensures upper_case_unheard { read_greeting (codes "PJLINK 1 498E4A67\r") ≡ None }
 {}
@@ -111,7 +115,7 @@ pub fn parameters_are_worked_out()
         ≡ class_is One ∷ class_is Two ∷ nothing ∷ nothing ∷ [] }
     ensures frozen { map (read_parameter (Query Frez)) (codes "0" ∷ codes "1" ∷ codes "2" ∷ codes "OK" ∷ [])
         ≡ freeze_is false ∷ freeze_is true ∷ nothing ∷ nothing ∷ [] }
-    ensures wide_inputs { read_parameter (Query Inst) (codes "31 6B")
+    ensures wide_inputs { read_parameter (Query (Inst One)) (codes "31 6B")
         ≡ inputs_are (hdmi ∷ record { source = Internal; number = 11 } ∷ []) }
     ensures refusals { read_parameter (NameQuery hdmi) (codes "ERR2") ∷ read_parameter (Query Snum) (codes "ERR2")
         ∷ read_parameter (NameQuery hdmi) (codes "HDMI 1") ∷ []
