@@ -128,8 +128,8 @@ pub struct Row {
     pub on: bool,
 }
 
-/// Every body, in the order of the enum: those of Class 1 in the order of RULES, then those of Class 2. It is a static,
-/// since a constant would be put together on the stack at each look-up.
+/// Every body: those of Class 1 in the order of RULES, then those of Class 2. It is a static, since a constant would be
+/// put together on the stack at each look-up.
 #[rattlefmt::skip]
 pub static BODIES: [Row; 19] = [
     Row { body: Body::Powr, class: One, letters: *b"POWR", set: SetsPower, kind: Power, lamps: false, on: false },
