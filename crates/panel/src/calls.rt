@@ -75,7 +75,7 @@ impl Panel {
     /// A command to a projector: its line is written from the start of the lent memory, and is so long. Refused:
     /// `NotLegal`, `NoRoom` for less than 168 bytes, `OutOfRange` for no such projector and for no command, `NotReady`
     /// before the greeting or over another command, in that order.
-    #[tactic(auto, using(crate::proofs::PanelsTold::projectors_there), unfolding(crate::specs::PanelCalls::command_at))]
+    #[tactic(auto, using(crate::proofs::LinesSent::entry_sends), unfolding(crate::specs::PanelCalls::command_at))]
     pub fn send(&mut self, projector: usize, coded: Coded, out: &mut [u8]) -> Result<usize, Refusal>
         ensures number { outcome_number panel_refusal_number result
             ≡ (ours_panel.command self.old projector coded (length out.old)).number }
