@@ -42,7 +42,7 @@ pub extern "C" fn pj_set_up<'a>(
     ensures { result ≡ changed_of (ours.set_up (wanted_of name.now maker.now model.now other.now
         password.now inputs.now lamps.now warm cool)) }
 {
-    let wanted = Wanted::of_class_1(
+    let wanted = Wanted::for_class_1(
         name, maker, model, other, password, inputs, lamps, warm, cool,
     );
     set_up(&wanted)
@@ -70,10 +70,10 @@ pub extern "C" fn pj_set_up_2<'a>(
         password.now inputs.now lamps.now warm cool serial.now
         version.now (names_in lengths.now names.now))) }
 {
-    let wanted = Wanted::of_class_1(
+    let wanted = Wanted::for_class_1(
         name, maker, model, other, password, inputs, lamps, warm, cool,
     )
-    .in_class_2(serial, version, names, lengths);
+    .for_class_2(serial, version, names, lengths);
     set_up(&wanted)
 }
 

@@ -33,7 +33,7 @@ pub extern "C" fn pj_set_up_in_place<'a>(
     ensures device { device.new ≡ (ours.set_up (wanted_of name.now maker.now model.now other.now password.now
         inputs.now lamps.now warm cool)).device }
 {
-    let wanted = Wanted::of_class_1(
+    let wanted = Wanted::for_class_1(
         name, maker, model, other, password, inputs, lamps, warm, cool,
     );
     numbered::number_of(setup::set_up_in(device, &wanted))
@@ -62,10 +62,10 @@ pub extern "C" fn pj_set_up_2_in_place<'a>(
     ensures device { device.new ≡ (ours.set_up (wanted_of_2 name.now maker.now model.now other.now password.now
         inputs.now lamps.now warm cool serial.now version.now (names_in lengths.now names.now))).device }
 {
-    let wanted = Wanted::of_class_1(
+    let wanted = Wanted::for_class_1(
         name, maker, model, other, password, inputs, lamps, warm, cool,
     )
-    .in_class_2(serial, version, names, lengths);
+    .for_class_2(serial, version, names, lengths);
     numbered::number_of(setup::set_up_in(device, &wanted))
 }
 
