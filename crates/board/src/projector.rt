@@ -1,8 +1,7 @@
 // The projector's calls on a record that the host lends: it changes where it lies, and what the call says comes back. A
-// refused call leaves the record as it was; a refused set-up leaves the blank one.
+// refused call leaves the record as it was.
 ghost use Rattle.std.specs.Prelude.{◌≡◌};
 ghost use Rattle.record.specs.Legal.{is_legal};
-ghost use Rattle.record.specs.Wanted.{wanted_of, wanted_of_2, names_in};
 ghost use Rattle.ours.specs.Board.{ours};
 ghost use Rattle.ours.specs.Tied.{lent_told};
 ghost use Rattle.board.specs.Results.{receiving_of, opening_of};
@@ -11,63 +10,7 @@ use crate::results::{Opening, Receiving};
 use clock::pass;
 use device::calls;
 use record::types::Device;
-use setup::wanted::Wanted;
 use text::numbered;
-
-/// Set-up of Class 1 into the record: 3, then 8.
-#[unsafe(no_mangle)]
-pub extern "C" fn pj_set_up_in_place<'a>(
-    device: &mut Device,
-    name: &'a [u8],
-    maker: &'a [u8],
-    model: &'a [u8],
-    other: &'a [u8],
-    password: &'a [u8],
-    inputs: &'a [u8],
-    lamps: &'a [u32],
-    warm: u32,
-    cool: u32,
-) -> u32
-    ensures number { result ≡ (ours.set_up (wanted_of name.now maker.now model.now other.now password.now inputs.now
-        lamps.now warm cool)).number }
-    ensures device { device.new ≡ (ours.set_up (wanted_of name.now maker.now model.now other.now password.now
-        inputs.now lamps.now warm cool)).device }
-{
-    let wanted = Wanted::for_class_1(
-        name, maker, model, other, password, inputs, lamps, warm, cool,
-    );
-    numbered::number_of(setup::set_up_in(device, &wanted))
-}
-
-/// Set-up of Class 2 into the record: the names one after the other, each of its length. 3, then 8.
-#[unsafe(no_mangle)]
-pub extern "C" fn pj_set_up_2_in_place<'a>(
-    device: &mut Device,
-    name: &'a [u8],
-    maker: &'a [u8],
-    model: &'a [u8],
-    other: &'a [u8],
-    password: &'a [u8],
-    inputs: &'a [u8],
-    lamps: &'a [u32],
-    warm: u32,
-    cool: u32,
-    serial: &'a [u8],
-    version: &'a [u8],
-    names: &'a [u8],
-    lengths: &'a [usize],
-) -> u32
-    ensures number { result ≡ (ours.set_up (wanted_of_2 name.now maker.now model.now other.now password.now inputs.now
-        lamps.now warm cool serial.now version.now (names_in lengths.now names.now))).number }
-    ensures device { device.new ≡ (ours.set_up (wanted_of_2 name.now maker.now model.now other.now password.now
-        inputs.now lamps.now warm cool serial.now version.now (names_in lengths.now names.now))).device }
-{
-    let wanted = Wanted::for_class_1(
-        name, maker, model, other, password, inputs, lamps, warm, cool,
-    )
-    .for_class_2(serial, version, names, lengths);
-    numbered::number_of(setup::set_up_in(device, &wanted))
-}
 
 /// Whether the record is legal.
 #[unsafe(no_mangle)]
