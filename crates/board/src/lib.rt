@@ -12,6 +12,7 @@ pub mod projector;
 pub mod reader;
 pub mod results;
 pub mod sessions;
+pub mod setting_up;
 pub mod sums;
 pub mod theorems;
 pub mod which;

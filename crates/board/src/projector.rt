@@ -1,8 +1,7 @@
 // The projector's calls in place: each changes the host's record, and returns the rest of its result. A
-// refused call leaves the record as it was; a refused set-up leaves the blank one.
+// refused call leaves the record as it was.
 ghost use Rattle.std.specs.Prelude.{◌≡◌};
 ghost use Rattle.record.specs.Legal.{is_legal};
-ghost use Rattle.record.specs.Wanted.{wanted_of, wanted_of_2, names_in};
 ghost use Rattle.ours.specs.Board.{ours};
 ghost use Rattle.ours.specs.Tied.{lent_told};
 ghost use Rattle.board.specs.Results.{receiving_of, opening_of};
@@ -10,64 +9,7 @@ ghost use Rattle.board.specs.Results.{receiving_of, opening_of};
 use crate::results::{Opening, Receiving};
 use ours::projector;
 use record::types::Device;
-use setup::wanted::Wanted;
 use text::numbered;
-
-/// Sets up a Class 1 projector in the record. Errors, in this order, with the blank record: 3, 8.
-#[unsafe(no_mangle)]
-pub extern "C" fn pj_set_up_in_place<'a>(
-    device: &mut Device,
-    name: &'a [u8],
-    maker: &'a [u8],
-    model: &'a [u8],
-    other: &'a [u8],
-    password: &'a [u8],
-    inputs: &'a [u8],
-    lamps: &'a [u32],
-    warm: u32,
-    cool: u32,
-) -> u32
-    ensures number { result ≡ (ours.set_up (wanted_of name.now maker.now model.now other.now password.now inputs.now
-        lamps.now warm cool)).number }
-    ensures device { device.new ≡ (ours.set_up (wanted_of name.now maker.now model.now other.now password.now
-        inputs.now lamps.now warm cool)).device }
-{
-    let wanted = Wanted::of_class_1(
-        name, maker, model, other, password, inputs, lamps, warm, cool,
-    );
-    numbered::number_of(setup::set_up_in(device, &wanted))
-}
-
-/// Sets up a Class 2 projector in the record. The inputs' names come one after the other, each of its length. Errors,
-/// in this order, with the blank record: 3, 8.
-#[unsafe(no_mangle)]
-pub extern "C" fn pj_set_up_2_in_place<'a>(
-    device: &mut Device,
-    name: &'a [u8],
-    maker: &'a [u8],
-    model: &'a [u8],
-    other: &'a [u8],
-    password: &'a [u8],
-    inputs: &'a [u8],
-    lamps: &'a [u32],
-    warm: u32,
-    cool: u32,
-    serial: &'a [u8],
-    version: &'a [u8],
-    names: &'a [u8],
-    lengths: &'a [usize],
-) -> u32
-    ensures number { result ≡ (ours.set_up (wanted_of_2 name.now maker.now model.now other.now password.now inputs.now
-        lamps.now warm cool serial.now version.now (names_in lengths.now names.now))).number }
-    ensures device { device.new ≡ (ours.set_up (wanted_of_2 name.now maker.now model.now other.now password.now
-        inputs.now lamps.now warm cool serial.now version.now (names_in lengths.now names.now))).device }
-{
-    let wanted = Wanted::of_class_1(
-        name, maker, model, other, password, inputs, lamps, warm, cool,
-    )
-    .in_class_2(serial, version, names, lengths);
-    numbered::number_of(setup::set_up_in(device, &wanted))
-}
 
 /// Returns whether the record is legal. Refuses nothing.
 #[unsafe(no_mangle)]

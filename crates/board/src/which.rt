@@ -36,7 +36,7 @@ pub extern "C" fn pj_which_setting<'a>(
     ensures { result ≡ setting_number (setting_told (set_up (wanted_of name.now maker.now model.now
         other.now password.now inputs.now lamps.now warm cool))) }
 {
-    let wanted = Wanted::of_class_1(
+    let wanted = Wanted::for_class_1(
         name, maker, model, other, password, inputs, lamps, warm, cool,
     );
     number_of(wanted.check())
@@ -65,9 +65,9 @@ pub extern "C" fn pj_which_setting_2<'a>(
         other.now password.now inputs.now lamps.now warm cool serial.now
         version.now (names_in lengths.now names.now)))) }
 {
-    let wanted = Wanted::of_class_1(
+    let wanted = Wanted::for_class_1(
         name, maker, model, other, password, inputs, lamps, warm, cool,
     )
-    .in_class_2(serial, version, names, lengths);
+    .for_class_2(serial, version, names, lengths);
     number_of(wanted.check())
 }

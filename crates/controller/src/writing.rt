@@ -1,9 +1,10 @@
 //! Writing a command, led on request by the digest that opens a secured connection.
 ghost use Rattle.std.proofs.Common.{arith};
-ghost use Rattle.std.specs.Prelude.{◌≡◌, length};
+ghost use Rattle.std.specs.Prelude.{◌≡◌, ◌≤◌, ◌++◌, length, true};
 ghost use Rattle.text.specs.Words.{over};
 ghost use Rattle.text.specs.Outcomes.{told_written, written_told};
-ghost use Rattle.controller.specs.Writing.{is_writable, led_by, written_command, unwritten_number};
+ghost use Rattle.pjlink.specs.Commands.{command_line};
+ghost use Rattle.controller.specs.Writing.{command_room, is_writable, led_by, written_command, unwritten_number};
 
 use pjlink::command::Command;
 use reasons::numbers;
@@ -65,9 +66,23 @@ fn led_by(secured: bool, random: u32, password: &[u8]) -> Line
     line
 }
 
+/// Writes the line of a command that can be written to the start of `out`, which has room for any, led by the digest of
+/// `random` and `password` if `secured`. Returns its length in bytes.
+pub fn put_command(c: Command, secured: bool, random: u32, password: &[u8], out: &mut [u8]) -> usize
+    requires writable { is_writable c secured password.now ≡ true }
+    requires room { command_room ≤ length out.old }
+    ensures length { result ≡ length (led_by secured random password.now ++ command_line c) }
+    ensures written { out.new ≡ over (led_by secured random password.now ++ command_line c) out.old }
+{
+    let mut line = led_by(secured, random, password);
+    c.put(&mut line);
+    text::put(out, 0, line.as_slice());
+    line.len()
+}
+
 /// Writes the command's line to the start of `out`, led by the digest of `random` and `password` if `secured`. Returns
 /// its length in bytes. Errors, in this order: `NoRoom`, `OutOfRange`.
-#[tactic(auto, unfolding(crate::specs::Writing::written_command))]
+#[tactic(auto, using(crate::proofs::Cases::written_line), unfolding(crate::specs::Writing::written_command))]
 pub fn write_command(
     c: Command,
     secured: bool,
@@ -86,8 +101,5 @@ pub fn write_command(
     if !is_writable(c, secured, password) {
         return Err(Unwritten::OutOfRange);
     }
-    let mut line = led_by(secured, random, password);
-    c.put(&mut line);
-    text::put(out, 0, line.as_slice());
-    Ok(line.len())
+    Ok(put_command(c, secured, random, password, out))
 }

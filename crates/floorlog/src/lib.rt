@@ -39,7 +39,7 @@ pub fn sample() -> Device
     ensures sample { result ≡ sample_device }
     ensures legal { is_legal result ≡ true }
 {
-    let wanted = Wanted::of_class_1(b"", b"", b"", b"", b"", b"11", &[0], 20, 60);
+    let wanted = Wanted::for_class_1(b"", b"", b"", b"", b"", b"11", &[0], 20, 60);
     let mut device = record::fresh::blank();
     setup::start_in(&mut device, &wanted);
     device

@@ -68,7 +68,7 @@ module _ (p : Panel) where
 
   module _ (legal : is_panel p ≡ true) (i : ℕ) (there : i < p.count) where
     -- whatever stands for what is past the end
-    is_entry-slice_index_or : (d : Entry) → is_entry (slice_index_or p.entries i d) ≡ true
+    pub is_entry-slice_index_or : (d : Entry) → is_entry (slice_index_or p.entries i d) ≡ true
     is_entry-slice_index_or d = grind (arith, panel_told, list_all_at)
 
     pub entry_at_legal : is_entry (entry_at p i) ≡ true
@@ -76,5 +76,3 @@ module _ (p : Panel) where
 
     pub fits_there : (d : Entry) → (slice_index_or p.entries i d).password.len ≤ password_room
     fits_there d = (password_uses (slice_index_or p.entries i d) (is_entry-slice_index_or d)).inside
-
-pub ruleset projectors_there = (few_projectors, fits_there)

@@ -75,7 +75,7 @@ impl Panel {
     /// Writes the line of a command to a projector to the start of `out`, and returns its length in bytes. Errors, in
     /// this order: `NotLegal`; `NoRoom` for less than 168 bytes; `OutOfRange` for no such projector and for no command;
     /// `NotReady` before the greeting or over another command.
-    #[tactic(auto, using(crate::proofs::PanelsTold::projectors_there), unfolding(crate::specs::PanelCalls::command_at))]
+    #[tactic(auto, using(crate::proofs::LinesSent::entry_sends), unfolding(crate::specs::PanelCalls::command_at))]
     pub fn send(&mut self, projector: usize, coded: Coded, out: &mut [u8]) -> Result<usize, Refusal>
         ensures number { outcome_number panel_refusal_number result
             ≡ (ours_panel.command self.old projector coded (length out.old)).number }

@@ -126,7 +126,7 @@ impl<'a> Class<'a> {
 
 impl<'a> Wanted<'a> {
     /// The settings of a projector of Class 1, in the order in which they are tested.
-    pub fn of_class_1(
+    pub fn for_class_1(
         name: &'a [u8],
         maker: &'a [u8],
         model: &'a [u8],
@@ -156,7 +156,7 @@ impl<'a> Wanted<'a> {
 
     /// The same settings of a projector of Class 2, with what it alone has: the names one after the other, each of its
     /// length.
-    pub fn in_class_2(
+    pub fn for_class_2(
         self,
         serial: &'a [u8],
         version: &'a [u8],

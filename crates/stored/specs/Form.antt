@@ -3,7 +3,7 @@
 -- (seconds as four bytes); last W and C as two bytes each; all highest first". Version 2 has "a section of marks, one
 -- byte 0 or 1 each, after the lamps .. Each version has one form; the newest is written" (RULES, Lamps). Version 3 has
 -- the class after C in one byte, and in Class 2 a serial number, a version and a name for each input, each after its
--- count (RULES, Class 2). `parts` lists what a form has: by this list it is written, and by this list it is read.
+-- count (RULES, Class 2). `form_parts` lists what a form has: by this list it is written, and by this list it is read.
 --   form_version               the version byte of the newest form. Still loaded: marked_version, which has marks and
 --                              no class; old_version, which has neither
 --   FormSaid                   what a form says: the settings, the lamps' seconds among them, and the bytes of marks
@@ -16,7 +16,7 @@
 --   each_enabled y xs          lamps of the seconds xs, each enabled: a form has their marks, if any, after them
 --   marks_part v               the marks (marks_alone), which the oldest version has not
 --   class_part v               the class, which the newest has, with what Class 2 has (parts_in_class_2)
---   parts v                    the parts of a form of the version v, after its first byte
+--   form_parts v               the parts of a form of the version v, after its first byte
 --   nothing_said               what is said before the first of them: Class 1, unless another is said
 --   form_bytes v f             the form of the version v that says f
 --   form                       how a form is read, of whatever version
@@ -122,8 +122,8 @@ parts_after_marks v =
     ∷ class_part v
     ∷ []
 
-abbrev pub parts : ℕ → List Part
-parts v =
+abbrev pub form_parts : ℕ → List Part
+form_parts v =
     setting a_text (λ w. w.name) (λ w s. record w { name = s })
     ∷ setting a_text (λ w. w.maker) (λ w s. record w { maker = s })
     ∷ setting a_text (λ w. w.model) (λ w s. record w { model = s })
@@ -138,12 +138,12 @@ abbrev pub nothing_said : FormSaid
 nothing_said = record { settings = wanted_of [] [] [] [] [] [] [] 0 0; marks = [] }
 
 unfoldable pub form_bytes : ℕ → FormSaid → List ℕ
-form_bytes v f = v ∷ parts_written (parts v) f
+form_bytes v f = v ∷ parts_written (form_parts v) f
 
 unfoldable pub form : Field FormSaid
 form =
     byte giving λ v.
-    parts_read (parts v) nothing_said
+    parts_read (form_parts v) nothing_said
 
 abbrev pub settings_marked : Wanted → List Bool → FormSaid
 settings_marked w ms = record { settings = w; marks = map flag_of ms }

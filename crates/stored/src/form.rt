@@ -92,7 +92,7 @@ impl<'a> Form<'a> {
 
 impl<'a> Reader<'a> {
     // The marks, which the oldest version has not.
-    fn marks(&mut self, version: u8, form: &mut Form<'a>) -> Result<(), LoadError>
+    fn marks_part(&mut self, version: u8, form: &mut Form<'a>) -> Result<(), LoadError>
         ensures class { form.new.class ≡ form.old.class }
         ensures read { Reads (λ u. said_of form.new) result self.new
             ((marks_part version).read (said_of form.old) self.old) }
@@ -105,7 +105,7 @@ impl<'a> Reader<'a> {
     }
 
     // What Class 2 alone has.
-    fn in_class_2(&mut self, form: &mut Form<'a>) -> Result<(), LoadError>
+    fn parts_in_class_2(&mut self, form: &mut Form<'a>) -> Result<(), LoadError>
         requires { form.old.class ≡ 2 }
         ensures { Reads (λ u. said_of form.new) result self.new
             (parts_read parts_in_class_2 (said_of form.old) self.old) }
@@ -117,7 +117,7 @@ impl<'a> Reader<'a> {
     }
 
     // The class, and what it has.
-    fn with_class(&mut self, form: &mut Form<'a>) -> Result<(), LoadError>
+    fn parts_with_class(&mut self, form: &mut Form<'a>) -> Result<(), LoadError>
         requires { form.old.class ≡ 1 }
         ensures { Reads (λ u. said_of form.new) result self.new
             (parts_read parts_with_class (said_of form.old) self.old) }
@@ -126,11 +126,11 @@ impl<'a> Reader<'a> {
         if form.class != 2 {
             return Ok(());
         }
-        self.in_class_2(form)
+        self.parts_in_class_2(form)
     }
 
     // The same in the newest version, which alone has a class.
-    fn class(&mut self, version: u8, form: &mut Form<'a>) -> Result<(), LoadError>
+    fn class_part(&mut self, version: u8, form: &mut Form<'a>) -> Result<(), LoadError>
         requires { form.old.class ≡ 1 }
         ensures { Reads (λ u. said_of form.new) result self.new
             ((class_part version).read (said_of form.old) self.old) }
@@ -138,7 +138,7 @@ impl<'a> Reader<'a> {
         if version != VERSION {
             return Ok(());
         }
-        self.with_class(form)
+        self.parts_with_class(form)
     }
 
     /// The form, of whatever version.
@@ -155,10 +155,10 @@ impl<'a> Reader<'a> {
         form.password = self.text()?;
         form.inputs = self.section(2)?;
         form.lamps = self.section(4)?;
-        self.marks(version, &mut form)?;
+        self.marks_part(version, &mut form)?;
         form.warm = self.number()?;
         form.cool = self.number()?;
-        self.class(version, &mut form)?;
+        self.class_part(version, &mut form)?;
         Ok(form)
     }
 }

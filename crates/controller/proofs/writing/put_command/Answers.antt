@@ -4,8 +4,7 @@ use Rattle.text.proofs.Stores.{sets_over}
 use Rattle.digest.proofs.Laws.{length-leading_digest}
 use Rattle.pjlink.proofs.CommandLines.{line_at_most_11}
 use Rattle.controller.specs.Writing.{led_by}
-use Rattle.controller.proofs.Cases.{written_line}
-use Rattle.controller.proofs.writing.write_command.Goals as goal
+use Rattle.controller.proofs.writing.put_command.Goals as goal
 
 lead_short : (secured : Bool) (random : ℕ) (password : List ℕ) → length (led_by secured random password) ≤ 32
 lead_short secured random password = grind (arith, length-leading_digest)
@@ -14,4 +13,4 @@ pub put-requires : goal.put-requires
 put-requires c = grind (arith, lead_short)
 
 pub returns-clause-written : goal.returns-clause-written
-returns-clause-written c = grind (arith, lead_short, line_at_most_11, length-append, sets_over, written_line)
+returns-clause-written c = grind (arith, lead_short, line_at_most_11, length-append, sets_over)
