@@ -99,6 +99,7 @@ def contrasts(style):
             (f'{scheme}: text', TEXT_LEAST, contrast(of('body', 'color'), ground)),
             (f'{scheme}: a bar on its band', MARK_LEAST, contrast(of('.l', 'fill'), band)),
             (f'{scheme}: a bar on the page', MARK_LEAST, contrast(of('.l', 'fill'), ground)),
+            (f'{scheme}: a stripe on its bar', MARK_LEAST, contrast(of('.m', 'fill'), of('.l', 'fill'))),
             (f'{scheme}: an hour on a band', MARK_LEAST, contrast(of('.h', 'stroke'), band)),
             (f'{scheme}: a band\'s edge', MARK_LEAST, contrast(of('.b', 'stroke'), ground)),
             (f'{scheme}: a cell\'s edge', MARK_LEAST, contrast(border, ground)),
@@ -149,6 +150,17 @@ def faults(text):
             cells = sum(int(cell.attributes.get('colspan', 1)) for cell in row.inside)
             ask(wide in (None, cells), 'a row has more cells than another, or fewer')
             wide = cells
+    # terms, each with what is said of it
+    for terms in all_of('dl'):
+        ask([part.name for part in terms.inside] == ['dt', 'dd'] * (len(terms.inside) // 2), 'a term has nothing said of it')
+        ask(all(part.words() for part in terms.inside), 'a term is empty, or nothing is said of it')
+    # a stripe is said in words too
+    is_marked = any(', over ' in title.words() for title in all_of('title'))
+    legends = [p for p in all_of('p') if p.words().startswith('A bar with a stripe ')]
+    ask(not is_marked or len(legends) == 1, 'it does not say what a stripe says')
+    for bar in all_of('rect'):
+        if bar.attributes.get('class') == 'm':
+            ask(float(bar.attributes['height']) < 16, 'a stripe hides its bar')
     # styles
     style = '\n'.join(s.text for s in all_of('style'))
     ask('url(' not in style and '@import' not in style, 'a style takes something from elsewhere')
@@ -160,7 +172,7 @@ def faults(text):
         ask(said(found, {'screen'}, ':root', 'color-scheme') == 'light dark', 'it leaves its dark colours to a guess')
         ask(said(found, {'print'}, 'thead', 'display') == 'table-header-group', 'the hours are not on every page of paper')
         ask(said(found, {'print'}, 'tr', 'break-inside') == 'avoid', 'a row breaks between two pages of paper')
-        for mark in ['.b', '.l']:
+        for mark in ['.b', '.l', '.m']:
             ask(said(found, {'print'}, mark, 'print-color-adjust') == 'exact', f'{mark} is not printed')
             ask(said(found, {'(forced-colors:active)'}, mark, 'fill'), f'{mark} is not seen in forced colours')
         ask(said(found, {''}, 'svg', 'width') == '100%', 'a picture is not as wide as there is room')
@@ -193,6 +205,14 @@ SPOILT = [
     ('svg{display:block;width:100%}', 'svg{display:block}'),
     ('</main>', '<script>1</script></main>'),
     ('</main>', '<img src="x.png"></main>'),
-    ('<td colspan="2">', '<td>'),
+    ('<td colspan="3">', '<td>'),
+    ('.m{fill:#ffffff}', '.m{fill:#3d7ab5}'),
+    ('.m{fill:#111111}', '.m{fill:#4f8fc2}'),
+    ('.m{fill:Canvas}', ''),
+    ('.b,.l,.m{-webkit', '.b,.l{-webkit'),
+    ('<p>A bar with a stripe ', '<p>A bar '),
+    (re.compile('<dd>[^<]*</dd>'), '<dd></dd>'),
+    (re.compile('<dt>[^<]*</dt>'), ''),
+    ('<rect class="m" height="4"', '<rect class="m" height="16"'),
     ('<th ', '<th title="more" '),
 ]

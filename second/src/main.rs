@@ -29,7 +29,11 @@ second replays SEED COUNT PROGRAM..
                         the same for a `burnt`, or for a `replay` that is given forms; one log in two comes with a form
 second burnts log SEED NUMBER, second burnts form SEED NUMBER
                         that log, and the form that it comes with
-second page LOG [FORM]  read a page that `burnt --page` prints from standard input; it has to show what the log says
+second page LOG [FORM] [WORD..]
+                        read a page that `burnt --page` prints from standard input; it has to show what the log says; the
+                        words are `--began=TIME`, `--long=HOURS` and `--life=HOURS`, as `burnt` has them
+second values LOG [FORM] [WORD..]
+                        print what `burnt --csv` prints
 second pages SEED COUNT PROGRAM..
                         the same for so many random logs, and some fixed ones; the program's words have `--page` in them
 second pages log SEED NUMBER, second pages form SEED NUMBER
@@ -63,7 +67,14 @@ fn main() -> ExitCode {
         ["replays", seed, count, _, ..] => {
             with_seed(seed, |seed| with_count(count, |count| burnts(Played::Replay, seed, count, &words[3..])))
         }
-        ["page", log, ref form @ ..] if form.len() < 2 => with_form(form.first(), |form| page(log, form)),
+        ["page", log, ref words @ ..] => {
+            let form = words.iter().find(|word| !word.starts_with("--"));
+            with_form(form, |form| page(log, form, asked(words)))
+        }
+        ["values", log, ref words @ ..] => {
+            let form = words.iter().find(|word| !word.starts_with("--"));
+            with_form(form, |form| values(log, form, asked(words)))
+        }
         ["pages", part @ ("log" | "form"), seed, number] => part_of(pages::nth, part, seed, number),
         ["pages", seed, count, _, ..] => {
             with_seed(seed, |seed| with_count(count, |count| pages(seed, count, &words[3..])))
@@ -180,18 +191,32 @@ fn burnts(played: Played, seed: u64, count: usize, words: &[&str]) -> ExitCode {
     }
 }
 
-fn page(log: &str, form: Option<&[u8]>) -> io::Result<()> {
+/// What a program's words ask for beside `--page`.
+fn asked(words: &[&str]) -> pages::Asked {
+    let value = |name| words.iter().find_map(|word| word.strip_prefix(name));
+    let hours = |name| value(name).map(|text| text.parse().expect("a number of hours"));
+    pages::Asked {
+        began: value("--began=").map(|text| pages::moment(text).expect("a moment")),
+        long: hours("--long="),
+        life: hours("--life="),
+    }
+}
+
+fn page(log: &str, form: Option<&[u8]>, asked: pages::Asked) -> io::Result<()> {
     let log = fs::read(log)?;
     let mut page = Vec::new();
     io::stdin().lock().read_to_end(&mut page)?;
-    pages::fault(&pages::expected(form, &log, None), &page).map_err(io::Error::other)
+    pages::fault(&pages::expected(form, &log, asked), &page).map_err(io::Error::other)
+}
+
+fn values(log: &str, form: Option<&[u8]>, asked: pages::Asked) -> io::Result<()> {
+    let told = burnt::told(form, &fs::read(log)?).map_err(|number| io::Error::other(number.to_string()))?;
+    io::stdout().write_all(pages::values(&told, asked).as_bytes())
 }
 
 fn pages(seed: u64, count: usize, words: &[&str]) -> ExitCode {
     println!("seed {seed}");
-    let began =
-        words.iter().find_map(|word| word.strip_prefix("--began=")).map(|text| pages::moment(text).expect("a moment"));
-    match pages::compare(&program(words), seed, count, began) {
+    match pages::compare(&program(words), seed, count, asked(words)) {
         Ok(met) => {
             println!("{met}, seed {seed}");
             verdict(met.missed().is_empty())

@@ -1,3 +1,4 @@
+pub mod Asked
 pub mod Told
 pub mod ChainTold
 pub mod ChainTelling

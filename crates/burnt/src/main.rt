@@ -1,5 +1,5 @@
 // Which lamp burnt when (RULES, Floor log and The programs): of a log the stretches of its lamps as they end, and at
-// the end each lamp's seconds; or, with `--page`, one HTML document that shows them.
+// the end each lamp's seconds; or, with `--page`, one HTML document that shows them, or with `--csv` a table of them.
 #![tactic(auto)]
 
 mod chained;
@@ -10,30 +10,37 @@ pub mod theorems;
 
 ghost use Rattle.std.specs.Prelude.{◌≡◌, option_map};
 ghost use Rattle.recorded.specs.Following.{stray_seen};
-ghost use Rattle.report.specs.Reports.{report_new};
+ghost use Rattle.burnt.specs.Asked.{query_of, report_for};
 ghost use Rattle.burnt.specs.LogTold.{told, stray_in, unplayed_in, IsTooMuch};
+ghost use Rattle.command.specs.Asked.{asked_seen};
 
-use command::asked::Command;
+use command::asked::{Command, Shape};
 use formfile::Begun;
 use program::about::About;
 use program::outside::System;
 use program::run;
 use program::telling::{Ending, Telling};
+use record::types::Device;
 use report::Report;
+use report::page::{Projector, Query, Sheet};
 use std::process::ExitCode;
 use textio::lines::Failure;
 use textio::reader::{ByteSource, Reader};
 use textio::writer::ByteSink;
 
-const USAGE: &str = "usage: burnt [--page] [--began TIME] [-o FILE] [--form FORM] [FORM] [LOG..]\n";
+const USAGE: &str = "usage: burnt [--page | --csv] [OPTION..] [FORM] [LOG..]\n";
 
 const HELP: &str = "
 Tells which lamp burnt when: writes each stretch of a lamp as it ends, in
 seconds since the log began, and at the end each lamp's seconds.
 
       --page             write one HTML document that shows them
-      --began TIME       of a page: when the log began, as 2026-11-23T06:00;
-                         its days and hours are then those of the clock
+      --csv              write a table of them as comma-separated values
+      --began TIME       when the log began, as 2026-11-23T06:00; days and
+                         hours are then those of the clock
+      --long HOURS       mark stretches of more than so many hours
+      --life HOURS       of a page: a lamp lives so long; say what is left,
+                         and until when at this log's pace
   FORM                   the stored form that the log begins with; without
                          one it begins with the sample set-up
   LOG..                  the files of the log, in their order; - is standard
@@ -51,10 +58,37 @@ not understood, a call was refused, or a line does not belong to its
 history.
 ";
 
+// What is asked of a page or a table of a log that begins with that device.
+fn query_of(command: &Command<'_>, begun: &Device) -> Query
+    ensures { result ≡ query_of (asked_seen command.now) begun.now }
+{
+    Query {
+        began: command.began,
+        long: command.long,
+        life: command.life,
+        projector: Projector {
+            name: begun.settings.name,
+            maker: begun.settings.maker,
+            model: begun.settings.model,
+        },
+    }
+}
+
+// How such a log is told.
+fn report_for(command: &Command<'_>, begun: &Device) -> Report
+    ensures { result ≡ report_for (asked_seen command.now) begun.now }
+{
+    match command.shape {
+        Shape::Lines => Report::Lines,
+        Shape::Page => Report::Page(Sheet::new(query_of(command, begun))),
+        Shape::Csv => Report::Csv(query_of(command, begun)),
+    }
+}
+
 struct Burnt;
 
 impl Telling for Burnt {
-    ghost told = { λ _ asked begun log. told begun.device begun.sum (report_new asked.page asked.began) log };
+    ghost told = { λ _ asked begun log. told begun.device begun.sum (report_for asked begun.device) log };
 
     ghost ends = { λ _ begun log ending.
         (option_map stray_seen ending.stray ≡ stray_in begun.device begun.sum log)
@@ -72,7 +106,7 @@ impl Telling for Burnt {
         telling::tell_log(
             begun.device,
             begun.sum,
-            Report::new(command.page, command.began),
+            report_for(command, &begun.device),
             from,
             to,
         )

@@ -6,7 +6,8 @@
 --   after_word p r w   what the words r and w behind them ask for
 --   read_on p r ws     and the words ws behind them;    begun   before any
 --   ended r            what they ask for where they end
---   AskedFor           that: whether a page, of a log that began when, by which form, into which file, of which logs
+--   AskedFor           that: what is written, of a log that began when, from how many hours on a stretch is long, how
+--                      many a lamp lives, by which form, into which file, of which logs
 --   asked_by p ws      what the words of a command line ask for, the program's name not among them
 --   GoesOn, Asks       the same of what the code has, which may be out of memory too
 -- Assumes nothing.
@@ -18,15 +19,19 @@ use Rattle.std.specs.Borrow.{Bor}
 use Rattle.std.specs.List.{before_first, after_first}
 use Rattle.text.specs.Words.{◌is◌}
 use Rattle.words.specs.Bytes.{◌at◌}
+use Rattle.numbers.specs.Decimal.{read_number}
 use Rattle.command.specs.declared.asked.Use.{Use}
 use Rattle.command.specs.declared.asked.Use.TheVariants as use_case
 use Rattle.command.specs.declared.asked.Next.{Next}
 use Rattle.command.specs.declared.asked.Next.TheVariants.{Any, FormName, OutputName, Moment as MomentNext, Free}
+use Rattle.command.specs.declared.asked.Next.TheVariants.{Long as LongNext, Life as LifeNext}
+use Rattle.command.specs.declared.asked.Shape.{Shape}
+use Rattle.command.specs.declared.asked.Shape.TheVariants.{Lines, Page, Csv}
 use Rattle.calendar.specs.declared.Moment.{Moment}
 use Rattle.calendar.specs.Moments.{moment_in}
 use Rattle.command.specs.declared.asked.Stop.{Stop}
 use Rattle.command.specs.declared.asked.Stop.TheVariants.{Help, Version, Unknown, Alone, Twice, NoForm, NoMoment}
-use Rattle.command.specs.declared.asked.Stop.TheVariants.{NoMemory}
+use Rattle.command.specs.declared.asked.Stop.TheVariants.{NoHours, Apart, NoMemory}
 use Rattle.command.specs.declared.asked.Reading.{Reading as ReadingCase}
 use Rattle.command.specs.declared.asked.Command.{Command}
 
@@ -35,7 +40,10 @@ use_of has_page w =
     if bytes_eq w (codes "-h") || bytes_eq w (codes "--help") then use_case.Help
     else if bytes_eq w (codes "-V") || bytes_eq w (codes "--version") then use_case.Version
     else if has_page && bytes_eq w (codes "--page") then use_case.Page
+    else if has_page && bytes_eq w (codes "--csv") then use_case.Csv
     else if has_page && bytes_eq w (codes "--began") then use_case.Began
+    else if has_page && bytes_eq w (codes "--long") then use_case.Long
+    else if has_page && bytes_eq w (codes "--life") then use_case.Life
     else if bytes_eq w (codes "--form") then use_case.Form
     else if bytes_eq w (codes "-o") || bytes_eq w (codes "--output") then use_case.Output
     else use_case.Unknown
@@ -51,8 +59,10 @@ is_equals b = b is "="
 
 pub record Reading : Type 0 where
   pub next : Next
-  pub page : Bool
+  pub shape : Shape
   pub began : Option Moment
+  pub long : Option ℕ
+  pub life : Option ℕ
   pub form : Option (List ℕ)
   pub output : Option (List ℕ)
   pub free : List (List ℕ)
@@ -66,9 +76,21 @@ pub data Stopped : Type 0 where
   twice : List ℕ → Stopped
   no_form : List ℕ → Stopped
   no_moment : List ℕ → Stopped
+  no_hours : List ℕ → Stopped
+  apart : List ℕ → Stopped
 
 abbrev pub begun : Reading
-begun = record { next = Any; page = false; began = None; form = None; output = None; free = []; has_dash = false }
+begun = record {
+  next = Any;
+  shape = Lines;
+  began = None;
+  long = None;
+  life = None;
+  form = None;
+  output = None;
+  free = [];
+  has_dash = false;
+}
 
 abbrev pub with_moment : Reading → List ℕ → Option Moment → Result Reading Stopped
 with_moment r w None = Err (no_moment w)
@@ -76,6 +98,38 @@ with_moment r w (Some m) = Ok (record r { next = Any; began = Some m })
 
 abbrev pub with_began : Reading → List ℕ → Result Reading Stopped
 with_began r w = if is_some r.began then Err (twice (codes "--began")) else with_moment r w (moment_in w)
+
+-- a number of hours has one to five digits
+abbrev pub with_long_hours : Reading → List ℕ → Option ℕ → Result Reading Stopped
+with_long_hours r w None = Err (no_hours w)
+with_long_hours r w (Some n) = Ok (record r { next = Any; long = Some n })
+
+abbrev pub with_long : Reading → List ℕ → Result Reading Stopped
+with_long r w = if is_some r.long then Err (twice (codes "--long")) else with_long_hours r w (read_number w)
+
+abbrev pub with_life_hours : Reading → List ℕ → Option ℕ → Result Reading Stopped
+with_life_hours r w None = Err (no_hours w)
+with_life_hours r w (Some n) = Ok (record r { next = Any; life = Some n })
+
+abbrev pub with_life : Reading → List ℕ → Result Reading Stopped
+with_life r w = if is_some r.life then Err (twice (codes "--life")) else with_life_hours r w (read_number w)
+
+-- one output has one shape
+abbrev pub page_from : Shape → Reading → List ℕ → Result Reading Stopped
+page_from Csv r w = Err (apart w)
+page_from Lines r w = Ok (record r { shape = Page })
+page_from Page r w = Ok (record r { shape = Page })
+
+abbrev pub with_page : Reading → List ℕ → Result Reading Stopped
+with_page r w = page_from r.shape r w
+
+abbrev pub csv_from : Shape → Reading → List ℕ → Result Reading Stopped
+csv_from Page r w = Err (apart w)
+csv_from Lines r w = Ok (record r { shape = Csv })
+csv_from Csv r w = Ok (record r { shape = Csv })
+
+abbrev pub with_csv : Reading → List ℕ → Result Reading Stopped
+with_csv r w = csv_from r.shape r w
 
 abbrev pub with_form : Reading → List ℕ → Result Reading Stopped
 with_form r name =
@@ -96,10 +150,16 @@ by_use use_case.Help true r w value = Err help
 by_use use_case.Help false r w value = Err (unknown w)
 by_use use_case.Version true r w value = Err version
 by_use use_case.Version false r w value = Err (unknown w)
-by_use use_case.Page true r w value = Ok (record r { page = true })
+by_use use_case.Page true r w value = with_page r w
 by_use use_case.Page false r w value = Err (unknown w)
+by_use use_case.Csv true r w value = with_csv r w
+by_use use_case.Csv false r w value = Err (unknown w)
 by_use use_case.Began true r w value = Ok (record r { next = MomentNext })
 by_use use_case.Began false r w value = with_began r value
+by_use use_case.Long true r w value = Ok (record r { next = LongNext })
+by_use use_case.Long false r w value = with_long r value
+by_use use_case.Life true r w value = Ok (record r { next = LifeNext })
+by_use use_case.Life false r w value = with_life r value
 by_use use_case.Form true r w value = Ok (record r { next = FormName })
 by_use use_case.Form false r w value = with_form r value
 by_use use_case.Output true r w value = Ok (record r { next = OutputName })
@@ -115,6 +175,8 @@ abbrev pub by_next : Next → Bool → Reading → List ℕ → Result Reading S
 by_next FormName has_page r w = with_form r w
 by_next OutputName has_page r w = with_output r w
 by_next MomentNext has_page r w = with_began r w
+by_next LongNext has_page r w = with_long r w
+by_next LifeNext has_page r w = with_life r w
 by_next Free has_page r w = with_free r w
 by_next Any has_page r w =
     if bytes_eq w (codes "--") then Ok (record r { next = Free })
@@ -133,27 +195,39 @@ read_on has_page r [] = Ok r
 read_on has_page r (w ∷ ws) = and_then (after_word has_page r w) (λ s. read_on has_page s ws)
 
 pub record AskedFor : Type 0 where
-  pub page : Bool
+  pub shape : Shape
   pub began : Option Moment
+  pub long : Option ℕ
+  pub life : Option ℕ
   pub form : Option (List ℕ)
   pub output : Option (List ℕ)
   pub logs : List (List ℕ)
 
+abbrev pub asked_for_by : Reading → Option (List ℕ) → List (List ℕ) → AskedFor
+asked_for_by r form logs = record {
+  shape = r.shape;
+  began = r.began;
+  long = r.long;
+  life = r.life;
+  form = form;
+  output = r.output;
+  logs = logs;
+}
+
 abbrev pub by_first : Reading → List (List ℕ) → Result AskedFor Stopped
-by_first r [] = Ok (record { page = r.page; began = r.began; form = None; output = r.output; logs = [] })
-by_first r (w ∷ ws) =
-    if bytes_eq w dash then Err (no_form w)
-    else Ok (record { page = r.page; began = r.began; form = Some w; output = r.output; logs = ws })
+by_first r [] = Ok (asked_for_by r None [])
+by_first r (w ∷ ws) = if bytes_eq w dash then Err (no_form w) else Ok (asked_for_by r (Some w) ws)
 
 abbrev pub by_files : Option (List ℕ) → Reading → Result AskedFor Stopped
-by_files (Some name) r =
-    Ok (record { page = r.page; began = r.began; form = Some name; output = r.output; logs = r.free })
+by_files (Some name) r = Ok (asked_for_by r (Some name) r.free)
 by_files None r = by_first r r.free
 
 abbrev pub by_end : Next → Reading → Result AskedFor Stopped
 by_end FormName r = Err (alone (codes "--form"))
 by_end OutputName r = Err (alone (codes "--output"))
 by_end MomentNext r = Err (no_moment (codes "--began"))
+by_end LongNext r = Err (no_hours (codes "--long"))
+by_end LifeNext r = Err (no_hours (codes "--life"))
 by_end Any r = by_files r.form r
 by_end Free r = by_files r.form r
 
@@ -169,8 +243,10 @@ text_seen t = option_map (λ b. b.now) t
 abbrev pub seen_in : ReadingCase → Reading
 seen_in r = record {
   next = r.next;
-  page = r.page;
+  shape = r.shape;
   began = r.began;
+  long = r.long;
+  life = r.life;
   form = text_seen r.form;
   output = text_seen r.output;
   free = map (λ (b : Bor (List ℕ)). b.now) r.free.items;
@@ -185,6 +261,8 @@ StopsBy (Alone w) r = r ≡ Err (alone w.now)
 StopsBy (Twice w) r = r ≡ Err (twice w.now)
 StopsBy (NoForm w) r = r ≡ Err (no_form w.now)
 StopsBy (NoMoment w) r = r ≡ Err (no_moment w.now)
+StopsBy (NoHours w) r = r ≡ Err (no_hours w.now)
+StopsBy (Apart w) r = r ≡ Err (apart w.now)
 StopsBy NoMemory r = ⊤
 
 abbrev pub GoesOn : Result ReadingCase Stop → Result Reading Stopped → Type 0
@@ -193,8 +271,10 @@ GoesOn (Err why) s = StopsBy why s
 
 abbrev pub asked_seen : Command → AskedFor
 asked_seen c = record {
-  page = c.page;
+  shape = c.shape;
   began = c.began;
+  long = c.long;
+  life = c.life;
   form = text_seen c.form;
   output = text_seen c.output;
   logs = map (λ (b : Bor (List ℕ)). b.now) c.logs.items;

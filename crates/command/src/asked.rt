@@ -24,6 +24,10 @@ pub enum Stop<'a> {
     NoForm(&'a str),
     /// It has this word as a day and a time of day.
     NoMoment(&'a str),
+    /// It has this word where a number of hours is wanted.
+    NoHours(&'a str),
+    /// It has this word beside another that asks for an output of another kind.
+    Apart(&'a str),
     /// There is no memory for the words.
     NoMemory,
 }
@@ -45,6 +49,8 @@ enum Next {
     FormName,
     OutputName,
     Moment,
+    Long,
+    Life,
     // no option comes any more
     Free,
 }
@@ -55,19 +61,37 @@ enum Use {
     Help,
     Version,
     Page,
+    Csv,
     Began,
+    Long,
+    Life,
     Form,
     Output,
     Unknown,
 }
 
+/// What is written of a log.
+#[derive(Clone, Copy, Debug, PartialEq, Eq)]
+pub enum Shape {
+    /// Lines, as they come.
+    Lines,
+    /// One HTML document.
+    Page,
+    /// A table of comma-separated values.
+    Csv,
+}
+
 /// What a command line asks for.
 #[derive(Drop)]
 pub struct Command<'a> {
-    /// Whether it asks for a page.
-    pub page: bool,
+    /// What is written.
+    pub shape: Shape,
     /// When the log began, if that is given.
     pub began: Option<Moment>,
+    /// A stretch of more than so many hours is a long one, if that is said: 0 to 99,999.
+    pub long: Option<u32>,
+    /// So many hours a lamp lives, if that is said: 0 to 99,999.
+    pub life: Option<u32>,
     /// The file of the stored form that the log begins with; none for the sample set-up.
     pub form: Option<&'a str>,
     /// The file that the output goes into; none for standard output.
@@ -80,8 +104,10 @@ pub struct Command<'a> {
 #[derive(Drop)]
 struct Reading<'a> {
     next: Next,
-    page: bool,
+    shape: Shape,
     began: Option<Moment>,
+    long: Option<u32>,
+    life: Option<u32>,
     form: Option<&'a str>,
     output: Option<&'a str>,
     free: Vec<&'a str>,
@@ -101,8 +127,17 @@ fn use_of(has_page: bool, name: &str) -> Use
     if has_page && name == "--page" {
         return Use::Page;
     }
+    if has_page && name == "--csv" {
+        return Use::Csv;
+    }
     if has_page && name == "--began" {
         return Use::Began;
+    }
+    if has_page && name == "--long" {
+        return Use::Long;
+    }
+    if has_page && name == "--life" {
+        return Use::Life;
     }
     if name == "--form" {
         return Use::Form;
@@ -133,7 +168,7 @@ fn cut(word: &str) -> (&str, &str)
 
 impl<'a> Reading<'a> {
     ghost use Rattle.command.specs.Asked.{seen_in, GoesOn, with_began, with_form, with_output, with_free};
-    ghost use Rattle.command.specs.Asked.{by_option, after_word};
+    ghost use Rattle.command.specs.Asked.{with_long, with_life, with_page, with_csv, by_option, after_word};
     ghost use Rattle.command.specs.Asked.{begun, ended, read_on};
 
     fn new(alloc: Global) -> Reading<'a>
@@ -141,8 +176,10 @@ impl<'a> Reading<'a> {
     {
         Reading {
             next: Next::Any,
-            page: false,
+            shape: Shape::Lines,
             began: None,
+            long: None,
+            life: None,
             form: None,
             output: None,
             free: Vec::new(alloc),
@@ -162,6 +199,58 @@ impl<'a> Reading<'a> {
         self.began = Some(moment);
         self.next = Next::Any;
         Ok(self)
+    }
+
+    fn with_long(mut self, word: &'a str) -> Result<Reading<'a>, Stop<'a>>
+        ensures { GoesOn result (with_long (seen_in self.entry) word.now) }
+    {
+        if self.long.is_some() {
+            return Err(Stop::Twice("--long"));
+        }
+        let Some(hours) = numbers::read_number(word.as_bytes()) else {
+            return Err(Stop::NoHours(word));
+        };
+        self.long = Some(hours);
+        self.next = Next::Any;
+        Ok(self)
+    }
+
+    fn with_life(mut self, word: &'a str) -> Result<Reading<'a>, Stop<'a>>
+        ensures { GoesOn result (with_life (seen_in self.entry) word.now) }
+    {
+        if self.life.is_some() {
+            return Err(Stop::Twice("--life"));
+        }
+        let Some(hours) = numbers::read_number(word.as_bytes()) else {
+            return Err(Stop::NoHours(word));
+        };
+        self.life = Some(hours);
+        self.next = Next::Any;
+        Ok(self)
+    }
+
+    fn with_page(mut self, word: &'a str) -> Result<Reading<'a>, Stop<'a>>
+        ensures { GoesOn result (with_page (seen_in self.entry) word.now) }
+    {
+        match self.shape {
+            Shape::Csv => Err(Stop::Apart(word)),
+            _ => {
+                self.shape = Shape::Page;
+                Ok(self)
+            }
+        }
+    }
+
+    fn with_csv(mut self, word: &'a str) -> Result<Reading<'a>, Stop<'a>>
+        ensures { GoesOn result (with_csv (seen_in self.entry) word.now) }
+    {
+        match self.shape {
+            Shape::Page => Err(Stop::Apart(word)),
+            _ => {
+                self.shape = Shape::Csv;
+                Ok(self)
+            }
+        }
     }
 
     fn with_form(mut self, name: &'a str) -> Result<Reading<'a>, Stop<'a>>
@@ -206,15 +295,23 @@ impl<'a> Reading<'a> {
         match (use_of(has_page, name), is_alone) {
             (Use::Help, true) => Err(Stop::Help),
             (Use::Version, true) => Err(Stop::Version),
-            (Use::Page, true) => {
-                self.page = true;
-                Ok(self)
-            }
+            (Use::Page, true) => self.with_page(word),
+            (Use::Csv, true) => self.with_csv(word),
             (Use::Began, true) => {
                 self.next = Next::Moment;
                 Ok(self)
             }
             (Use::Began, false) => self.with_began(value),
+            (Use::Long, true) => {
+                self.next = Next::Long;
+                Ok(self)
+            }
+            (Use::Long, false) => self.with_long(value),
+            (Use::Life, true) => {
+                self.next = Next::Life;
+                Ok(self)
+            }
+            (Use::Life, false) => self.with_life(value),
             (Use::Form, true) => {
                 self.next = Next::FormName;
                 Ok(self)
@@ -237,6 +334,8 @@ impl<'a> Reading<'a> {
             Next::FormName => self.with_form(word),
             Next::OutputName => self.with_output(word),
             Next::Moment => self.with_began(word),
+            Next::Long => self.with_long(word),
+            Next::Life => self.with_life(word),
             Next::Free => self.with_free(word),
             Next::Any => {
                 if word == "--" {
@@ -260,9 +359,12 @@ impl<'a> Reading<'a> {
             Next::FormName => return Err(Stop::Alone("--form")),
             Next::OutputName => return Err(Stop::Alone("--output")),
             Next::Moment => return Err(Stop::NoMoment("--began")),
+            Next::Long => return Err(Stop::NoHours("--long")),
+            Next::Life => return Err(Stop::NoHours("--life")),
             _ => {}
         }
-        let (page, began, output, mut logs) = (self.page, self.began, self.output, self.free);
+        let (shape, began, long, life) = (self.shape, self.began, self.long, self.life);
+        let (output, mut logs) = (self.output, self.free);
         let form = match self.form {
             Some(name) => Some(name),
             None => {
@@ -278,8 +380,10 @@ impl<'a> Reading<'a> {
             }
         };
         Ok(Command {
-            page,
+            shape,
             began,
+            long,
+            life,
             form,
             output,
             logs,

@@ -19,7 +19,7 @@ use Rattle.program.specs.declared.about.About.{About}
 use Rattle.command.specs.Asked.{text_seen}
 use Rattle.command.specs.declared.asked.Stop.{Stop}
 use Rattle.command.specs.declared.asked.Stop.TheVariants.{Help, Version, Unknown, Alone, Twice, NoForm}
-use Rattle.command.specs.declared.asked.Stop.TheVariants.{NoMoment, NoMemory}
+use Rattle.command.specs.declared.asked.Stop.TheVariants.{NoMoment, NoHours, Apart, NoMemory}
 use Rattle.std.specs.Borrow.{Bor}
 use Rattle.std.proofs.Common.{codes}
 
@@ -81,3 +81,5 @@ module _ (writes fails : Error → Type 0) (a : About) (o : Outs) (status : Stat
   word_so (Twice w) h v n said nothing is = record { said = said; nothing = nothing; status_is = is }
   word_so (NoForm w) h v n said nothing is = record { said = said; nothing = nothing; status_is = is }
   word_so (NoMoment w) h v n said nothing is = record { said = said; nothing = nothing; status_is = is }
+  word_so (NoHours w) h v n said nothing is = record { said = said; nothing = nothing; status_is = is }
+  word_so (Apart w) h v n said nothing is = record { said = said; nothing = nothing; status_is = is }

@@ -8,10 +8,10 @@
 --                       output
 --   StopsSo ..          what a command line is answered that asks for no log
 --   IsUnbegun ..        a form begins nothing: which, and why, goes to standard error, and its line to standard output
---                       where neither a page nor a file is asked for; the status is 1
+--                       where neither a page, comma-separated values nor a file is asked for; the status is 1
 --   Runs ..             all of it: what a command line asks for, or which word is wrong, and what is done for it
 -- Assumes nothing.
-use Rattle.std.specs.Prelude.{ℕ, ◌≡◌, ◌⊎◌, [], Bool, true, false, not, ◌&&◌, List, ◌++◌, codes, is_none, unwrap_or}
+use Rattle.std.specs.Prelude.{ℕ, ◌≡◌, ◌⊎◌, [], Bool, true, false, ◌&&◌, List, ◌++◌, codes, is_none, unwrap_or}
 use Rattle.std.specs.Prelude.{Some, None, Ok, Err, IfSome}
 use Rattle.std.specs.declared.option.Option.{Option}
 use Rattle.std.specs.declared.result.Result.{Result}
@@ -26,9 +26,11 @@ use Rattle.crc32.specs.Crc.{crc32_of}
 use Rattle.floorlog.specs.Cuts.{failure_line, number_line}
 use Rattle.command.specs.Asked.{AskedFor, Asks, asked_by, asked_seen}
 use Rattle.command.specs.declared.asked.Command.{Command}
+use Rattle.command.specs.declared.asked.Shape.{Shape}
+use Rattle.command.specs.declared.asked.Shape.TheVariants.{Lines}
 use Rattle.command.specs.declared.asked.Stop.{Stop}
 use Rattle.command.specs.declared.asked.Stop.TheVariants.{Help, Version, Unknown, Alone, Twice, NoForm}
-use Rattle.command.specs.declared.asked.Stop.TheVariants.{NoMoment, NoMemory}
+use Rattle.command.specs.declared.asked.Stop.TheVariants.{NoMoment, NoHours, Apart, NoMemory}
 use Rattle.formfile.specs.Begun.{IsBegun, IsReadBy}
 use Rattle.formfile.specs.declared.Begun.{Begun}
 use Rattle.formfile.specs.declared.NotBegun.{NotBegun}
@@ -107,8 +109,12 @@ abbrev pub unbegun_line : NotBegun → List ℕ
 unbegun_line (Unread e) = failure_line (Read e)
 unbegun_line (Refused e) = number_line (load_error_number e)
 
+abbrev pub is_lines : Shape → Bool
+is_lines Lines = true
+is_lines s = false
+
 abbrev pub is_lined : AskedFor → Bool
-is_lined a = not a.page && is_none a.output
+is_lined a = is_lines a.shape && is_none a.output
 
 abbrev pub LeavesLine : (Error → Type 0) → Bool → Option (List ℕ) → Option (List ℕ) → NotBegun → Type 0
 LeavesLine writes true old new why = IsSaid writes old new (unbegun_line why)
@@ -137,6 +143,8 @@ StopsSo writes fails (Alone w) a = SaysAlone fails (stop_text (Alone w) a.usage.
 StopsSo writes fails (Twice w) a = SaysAlone fails (stop_text (Twice w) a.usage.now) Usage
 StopsSo writes fails (NoForm w) a = SaysAlone fails (stop_text (NoForm w) a.usage.now) Usage
 StopsSo writes fails (NoMoment w) a = SaysAlone fails (stop_text (NoMoment w) a.usage.now) Usage
+StopsSo writes fails (NoHours w) a = SaysAlone fails (stop_text (NoHours w) a.usage.now) Usage
+StopsSo writes fails (Apart w) a = SaysAlone fails (stop_text (Apart w) a.usage.now) Usage
 StopsSo writes fails NoMemory a =
     SaysAlone fails (unread_text (codes "the command line") (codes ": out of memory")) Failed
 

@@ -45,7 +45,7 @@ use Rattle.program.specs.declared.status.Status.{Status}
 use Rattle.program.specs.declared.status.Status.TheVariants.{Done, Strayed}
 use Rattle.command.specs.declared.asked.Stop.{Stop}
 use Rattle.command.specs.declared.asked.Stop.TheVariants.{Help, Version, Unknown, Alone, Twice, NoForm, NoMoment}
-use Rattle.command.specs.declared.asked.Stop.TheVariants.{NoMemory}
+use Rattle.command.specs.declared.asked.Stop.TheVariants.{NoHours, Apart, NoMemory}
 
 abbrev pub cause_words : ErrorKind → List ℕ
 cause_words NotFound = codes ": no such file"
@@ -121,6 +121,8 @@ stop_text (Alone w) usage = with_usage w.now (codes ": a file's name is missing 
 stop_text (Twice w) usage = with_usage w.now (codes ": given twice") usage
 stop_text (NoForm w) usage = with_usage w.now (codes ": a form is a file") usage
 stop_text (NoMoment w) usage = with_usage w.now (codes ": no day and time, as 2026-11-23T06:00") usage
+stop_text (NoHours w) usage = with_usage w.now (codes ": no number of hours, of one to five digits") usage
+stop_text (Apart w) usage = with_usage w.now (codes ": --page and --csv do not go together") usage
 stop_text NoMemory usage = []
 
 abbrev pub UnbegunSaid : (Error → Type 0) → Option (List ℕ) → Option (List ℕ) → Result (Unit {0}) Error → List ℕ

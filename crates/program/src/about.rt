@@ -9,6 +9,6 @@ pub struct About {
     pub usage: &'static str,
     /// What `--help` writes after that line.
     pub help: &'static str,
-    /// Whether it knows `--page`.
+    /// Whether it knows `--page`, and what goes with it.
     pub has_page: bool,
 }

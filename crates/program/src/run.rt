@@ -3,7 +3,7 @@ ghost use Rattle.std.specs.Prelude.{◌≡◌, ◌++◌, map, codes, IfOk, IfErr
 ghost use Rattle.program.specs.Said.{UnbegunSaid, unread_text, unwritten_text, cause_of, failed_text, shown_name};
 ghost use Rattle.program.specs.Said.{IsSaid, ending_status, ending_text};
 ghost use Rattle.program.specs.Joined.{names_seen, files_asked, joined_left};
-ghost use Rattle.program.specs.Running.{TellsOut, TellsSaved, BeginsBy, is_lined, LeavesLine, AboutEnds};
+ghost use Rattle.program.specs.Running.{TellsOut, TellsSaved, BeginsBy, is_lines, is_lined, LeavesLine, AboutEnds};
 ghost use Rattle.program.specs.Running.{StopsSo, Does, Runs, SaysAlone};
 ghost use Rattle.program.specs.About.{help_text, version_text};
 ghost use Rattle.textio.specs.Fronts.{WritesText};
@@ -17,7 +17,7 @@ use crate::said;
 use crate::status::Status;
 use crate::telling::{Ending, Telling};
 use command::asked;
-use command::asked::{Command, Stop};
+use command::asked::{Command, Shape, Stop};
 use floorlog::cut;
 use formfile::{Begun, NotBegun};
 use reasons::about::version_line;
@@ -278,11 +278,20 @@ fn begin_by<O: Outside>(outside: &O, alloc: Global, form: Option<&str>) -> Resul
     }
 }
 
-// Whether a form that does not load leaves its line: no page is written for it, and no file.
+fn is_lines(shape: Shape) -> bool
+    ensures { result ≡ is_lines shape }
+{
+    match shape {
+        Shape::Lines => true,
+        Shape::Page | Shape::Csv => false,
+    }
+}
+
+// Whether a form that does not load leaves its line: no page is written for it, no table and no file.
 fn is_lined(command: &Command<'_>) -> bool
     ensures { result ≡ is_lined (asked_seen command.now) }
 {
-    !command.page && command.output.is_none()
+    is_lines(command.shape) && command.output.is_none()
 }
 
 // The files of the log; standard input where none is named.

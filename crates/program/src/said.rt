@@ -130,5 +130,19 @@ pub fn say_stop<E: ByteSink>(to: &mut E, stop: &Stop<'_>, usage: &str) -> io::Re
             "\n",
             usage,
         ),
+        Stop::NoHours(word) => put_four(
+            to,
+            word,
+            ": no number of hours, of one to five digits",
+            "\n",
+            usage,
+        ),
+        Stop::Apart(word) => put_four(
+            to,
+            word,
+            ": --page and --csv do not go together",
+            "\n",
+            usage,
+        ),
     }
 }

@@ -1,5 +1,7 @@
 pub mod LampLines
 pub mod Days
+pub mod Times
+pub mod Table
 pub mod Frame
 pub mod Reports
 pub mod Settled

@@ -1,17 +1,36 @@
 // The rows of the days, and the bars in them. A picture is 86,400 units wide, a unit a second, so that a bar lies where
 // its seconds do; it is stretched to the width that there is.
-ghost use Rattle.std.specs.Prelude.{◌≡◌, ◌-◌, ◌*◌, ◌<◌, ◌≤◌, max, ◌++◌, length, IfOk};
+ghost use Rattle.std.specs.Prelude.{◌≡◌, ◌-◌, ◌*◌, ◌<◌, ◌≤◌, ◌++◌, length, IfOk};
 ghost use Rattle.textio.specs.Fronts.{WritesText};
 ghost use Rattle.report.specs.Days.{band_top, band, bands, lamp_name, lamp_names, day_row, idle_days, rows_opened};
+ghost use Rattle.report.specs.Days.{date_text, dated, day_name, first_name, row_ended, row_ended_if_any, days_ended};
+ghost use Rattle.report.specs.Days.{note_words, note_behind, is_noted, note_in_title, stripe, bar, bar_if, bars};
+ghost use Rattle.report.specs.Days.{bars_in, row_opened, row_more, row_after, seconds_within};
 ghost use Rattle.calendar.specs.Days.{weekday, weekday_name};
-ghost use Rattle.report.specs.Days.{date_text, dated, day_name, first_name, row_ended_if_any, days_ended, bar_if, bars};
-ghost use Rattle.report.specs.Days.{bars_in};
 
 use crate::page::{DAY, Stretch};
 use calendar::{Date, Moment};
 use std::io;
 use textio::forms::fill;
 use textio::writer::{ByteSink, put};
+
+/// The row that is open.
+#[derive(Clone, Copy)]
+pub struct DayRow {
+    /// Its day, counted from 1; 0 where none is open.
+    pub day: u64,
+    /// The seconds in it that lamps burnt.
+    pub sum: u64,
+}
+
+/// What is marked of a stretch.
+#[derive(Clone, Copy)]
+pub struct StretchNote {
+    /// It goes over a midnight of the clock.
+    pub over_midnight: bool,
+    /// The hours that it passes, where it is said how many are many.
+    pub hours: Option<u32>,
+}
 
 // A lamp's band with the gaps above it and below.
 const BAND: u64 = 18;
@@ -65,23 +84,34 @@ fn put_names<W: ByteSink>(out: &mut W, lamps: u64) -> io::Result<()>
     Ok(())
 }
 
-// The picture that is open ends, if there is one.
-fn end_row<W: ByteSink>(out: &mut W, rows: u64) -> io::Result<()>
-    ensures { WritesText W.fails_with (W.contents out.old) (W.contents out.new) result (row_ended_if_any rows) }
+fn put_row_ended<W: ByteSink>(out: &mut W, sum: u64) -> io::Result<()>
+    ensures { WritesText W.fails_with (W.contents out.old) (W.contents out.new) result (row_ended sum) }
 {
-    if rows == 0 {
-        return Ok(());
-    }
-    put(out, b"</svg></td></tr>\n")
+    fill(
+        out,
+        "</svg></td><td># h # min</td></tr>\n",
+        &[sum / 3600, sum / 60 % 60],
+    )
 }
 
-fn put_date<W: ByteSink>(out: &mut W, date: Date) -> io::Result<()>
+// The picture that is open ends, if there is one.
+fn end_row<W: ByteSink>(out: &mut W, row: DayRow) -> io::Result<()>
+    ensures { WritesText W.fails_with (W.contents out.old) (W.contents out.new) result (row_ended_if_any row) }
+{
+    if row.day == 0 {
+        return Ok(());
+    }
+    put_row_ended(out, row.sum)
+}
+
+/// A day of the calendar.
+pub fn put_date<W: ByteSink>(out: &mut W, date: Date) -> io::Result<()>
     ensures { WritesText W.fails_with (W.contents out.old) (W.contents out.new) result (date_text date) }
 {
     let Date { year, month, day } = date;
     fill(
         out,
-        " ####-##-##",
+        "####-##-##",
         &[
             year / 1000,
             year / 100 % 10,
@@ -95,7 +125,8 @@ fn put_date<W: ByteSink>(out: &mut W, date: Date) -> io::Result<()>
     )
 }
 
-fn put_word<W: ByteSink>(out: &mut W, word: &str) -> io::Result<()>
+/// A text.
+pub fn put_word<W: ByteSink>(out: &mut W, word: &str) -> io::Result<()>
     ensures { WritesText W.fails_with (W.contents out.old) (W.contents out.new) result word.now }
 {
     put(out, word.as_bytes())
@@ -115,6 +146,7 @@ pub fn put_dated<W: ByteSink>(out: &mut W, m: Moment, days: u64) -> io::Result<(
 {
     let number = m.number.saturating_add(days);
     put_weekday(out, number)?;
+    put(out, b" ")?;
     let date = m.date.after(days);
     put_date(out, date)
 }
@@ -151,7 +183,7 @@ fn put_idle<W: ByteSink>(out: &mut W, began: Option<Moment>, rows: u64, day: u64
     put(out, b"<tr><th scope=\"row\">")?;
     put_first(out, began, rows, day)?;
     put_day(out, began, day)?;
-    put(out, b"</th><td colspan=\"2\">no lamp burnt</td></tr>\n")
+    put(out, b"</th><td colspan=\"3\">no lamp burnt</td></tr>\n")
 }
 
 // The row of a day, counted from 1: its name, those of the lamps, and a picture with a band for each.
@@ -166,7 +198,7 @@ fn put_row<W: ByteSink>(out: &mut W, began: Option<Moment>, lamps: u64, day: u64
     let height = lamps * BAND;
     fill(
         out,
-        "</td><td><svg viewBox=\"0 0 86400 #\" height=\"#\" preserveAspectRatio=\"none\" role=\"img\" \
+        "</td><td class=\"p\"><svg viewBox=\"0 0 86400 #\" height=\"#\" preserveAspectRatio=\"none\" role=\"img\" \
         aria-label=\"when each lamp burnt on ",
         &[height, height],
     )?;
@@ -175,103 +207,141 @@ fn put_row<W: ByteSink>(out: &mut W, began: Option<Moment>, lamps: u64, day: u64
     put_bands(out, lamps)
 }
 
-/// The rows after that of the day `rows` up to that of the day `day`; the last day that has a row then.
-pub fn open_to<W: ByteSink>(
+/// The rows after the one that is open up to that of the day; the row that is open then.
+fn open_to<W: ByteSink>(
     out: &mut W,
     began: Option<Moment>,
     lamps: u64,
-    rows: u64,
+    row: DayRow,
     day: u64,
-) -> io::Result<u64>
+) -> io::Result<DayRow>
     requires { lamps ≤ 8 }
-    ensures rows { IfOk result (λ n. n ≡ max rows day) }
+    ensures row { IfOk result (λ r. r ≡ row_opened row day) }
     ensures text { WritesText W.fails_with (W.contents out.old) (W.contents out.new) result
-        (rows_opened began lamps rows day) }
+        (rows_opened began lamps row day) }
 {
-    if day <= rows {
-        return Ok(rows);
+    if day <= row.day {
+        return Ok(row);
     }
-    end_row(out, rows)?;
-    put_idle(out, began, rows, day - 1)?;
+    end_row(out, row)?;
+    put_idle(out, began, row.day, day - 1)?;
     put_row(out, began, lamps, day)?;
-    Ok(day)
+    Ok(DayRow { day, sum: 0 })
 }
 
-/// The rows after that of the day `rows` up to that of the day `day`, where no lamp burnt in these.
-pub fn end<W: ByteSink>(out: &mut W, began: Option<Moment>, rows: u64, day: u64) -> io::Result<()>
-    ensures { WritesText W.fails_with (W.contents out.old) (W.contents out.new) result (days_ended began rows day) }
+/// The rows after the one that is open up to that of the day, where no lamp burnt in these.
+pub fn end<W: ByteSink>(out: &mut W, began: Option<Moment>, row: DayRow, day: u64) -> io::Result<()>
+    ensures { WritesText W.fails_with (W.contents out.old) (W.contents out.new) result (days_ended began row day) }
 {
-    end_row(out, rows)?;
-    put_idle(out, began, rows, day)
+    end_row(out, row)?;
+    put_idle(out, began, row.day, day)
+}
+
+/// What is marked of a stretch, in words.
+pub fn put_note<W: ByteSink>(out: &mut W, note: StretchNote) -> io::Result<()>
+    ensures { WritesText W.fails_with (W.contents out.old) (W.contents out.new) result (note_words note) }
+{
+    match (note.over_midnight, note.hours) {
+        (false, None) => Ok(()),
+        (true, None) => put(out, b"over midnight"),
+        (false, Some(hours)) => fill(out, "over # h", &[hours as u64]),
+        (true, Some(hours)) => fill(out, "over midnight and over # h", &[hours as u64]),
+    }
+}
+
+fn is_noted(note: StretchNote) -> bool
+    ensures { result ≡ is_noted note }
+{
+    note.over_midnight || note.hours.is_some()
+}
+
+fn put_behind<W: ByteSink>(out: &mut W, note: StretchNote) -> io::Result<()>
+    ensures { WritesText W.fails_with (W.contents out.old) (W.contents out.new) result (note_behind note) }
+{
+    put(out, b", ")?;
+    put_note(out, note)
+}
+
+// The same behind a bar's title, where there is a note.
+fn put_note_in_title<W: ByteSink>(out: &mut W, note: StretchNote) -> io::Result<()>
+    ensures { WritesText W.fails_with (W.contents out.old) (W.contents out.new) result (note_in_title note) }
+{
+    if !is_noted(note) {
+        return Ok(());
+    }
+    put_behind(out, note)
+}
+
+// A stripe on the bar, where it is marked.
+fn put_stripe<W: ByteSink>(
+    out: &mut W,
+    note: StretchNote,
+    x: u64,
+    seconds: u64,
+    k: u64,
+) -> io::Result<()>
+    requires { k < 8 }
+    ensures { WritesText W.fails_with (W.contents out.old) (W.contents out.new) result (stripe note x seconds k) }
+{
+    if !is_noted(note) {
+        return Ok(());
+    }
+    fill(
+        out,
+        "<rect class=\"m\" height=\"4\" y=\"#\" x=\"#\" width=\"#\"/>",
+        &[top(k) + 6, x, seconds],
+    )
 }
 
 // What of a stretch lies in a day: from the second x of the day on, so many seconds.
 #[derive(Clone, Copy)]
 struct Part {
     whole: Stretch,
+    note: StretchNote,
     x: u64,
     seconds: u64,
     ghost ordered: { whole.from ≤ whole.to },
 }
 
-// The bar of a lamp, if its mark is set.
-fn put_bar<W: ByteSink>(out: &mut W, k: u64, is_lit: bool, p: Part) -> io::Result<()>
+// The bar of a lamp.
+fn put_bar<W: ByteSink>(out: &mut W, k: u64, p: Part) -> io::Result<()>
     requires { k < 8 }
     ensures { WritesText W.fails_with (W.contents out.old) (W.contents out.new) result
-        (bar_if is_lit p.whole.from p.whole.to p.x p.seconds k) }
+        (bar p.note p.whole.from p.whole.to p.x p.seconds k) }
 {
-    if !is_lit {
-        return Ok(());
-    }
     let Stretch { from, to } = p.whole;
     fill(
         out,
         "<rect class=\"l\" height=\"16\" y=\"#\" x=\"#\" width=\"#\">\
-        <title>lamp # from # to #: # seconds</title></rect>",
+        <title>lamp # from # to #: # seconds",
         &[top(k), p.x, p.seconds, k + 1, from, to, to - from],
-    )
+    )?;
+    put_note_in_title(out, p.note)?;
+    put(out, b"</title></rect>")?;
+    put_stripe(out, p.note, p.x, p.seconds, k)
+}
+
+// The same, if the lamp's mark is set.
+fn put_bar_if<W: ByteSink>(out: &mut W, k: u64, is_lit: bool, p: Part) -> io::Result<()>
+    requires { k < 8 }
+    ensures { WritesText W.fails_with (W.contents out.old) (W.contents out.new) result
+        (bar_if is_lit p.note p.whole.from p.whole.to p.x p.seconds k) }
+{
+    if !is_lit {
+        return Ok(());
+    }
+    put_bar(out, k, p)
 }
 
 fn put_bars<W: ByteSink>(out: &mut W, lit: &[bool], p: Part) -> io::Result<()>
     requires { length lit.now ≤ 8 }
     ensures { WritesText W.fails_with (W.contents out.old) (W.contents out.new) result
-        (bars lit.now p.whole.from p.whole.to p.x p.seconds) }
+        (bars lit.now p.note p.whole.from p.whole.to p.x p.seconds) }
 {
     for (k, is_lit) in lit.iter().enumerate() {
-        put_bar(out, k as u64, *is_lit, p)?;
+        put_bar_if(out, k as u64, *is_lit, p)?;
     }
     Ok(())
-}
-
-// What of the stretch lies in the day, counted from 1; it lies at `placed`, counted from the first midnight.
-fn put_bars_in<W: ByteSink>(
-    out: &mut W,
-    day: u64,
-    lit: &[bool],
-    placed: Stretch,
-    s: Stretch,
-) -> io::Result<()>
-    requires eight_at_most { length lit.now ≤ 8 }
-    requires begun { (1 ≤ day) × ((day - 1) * 86400 < placed.to) }
-    requires in_order { s.from ≤ s.to }
-    ensures { WritesText W.fails_with (W.contents out.old) (W.contents out.new) result
-        (bars_in day lit.now placed.from placed.to s.from s.to) }
-{
-    let midnight = (day - 1) * DAY;
-    let x = placed.from.saturating_sub(midnight);
-    let y = (placed.to - midnight).min(DAY);
-    if y <= x {
-        return Ok(());
-    }
-    put_bars(
-        out,
-        lit,
-        Part {
-            whole: s,
-            x,
-            seconds: y - x,
-        },
-    )
 }
 
 /// A stretch of the lamps whose marks are set, and where it lies, counted from the first midnight.
@@ -281,27 +351,74 @@ pub struct Placed<'a> {
     pub lit: &'a [bool],
     /// The stretch.
     pub whole: Stretch,
+    /// What is marked of it.
+    pub note: StretchNote,
     /// Where it lies.
     pub at: Stretch,
 }
 
-/// The rows up to that of the day, and in it what of the stretch lies there; the last day that has a row then.
-pub fn draw_in<W: ByteSink>(
-    out: &mut W,
-    began: Option<Moment>,
-    rows: u64,
-    day: u64,
-    p: Placed<'_>,
-) -> io::Result<u64>
+// What of the stretch lies in the day, counted from 1.
+fn put_bars_in<W: ByteSink>(out: &mut W, day: u64, p: Placed<'_>) -> io::Result<()>
     requires eight_at_most { length p.lit.now ≤ 8 }
     requires begun { (1 ≤ day) × ((day - 1) * 86400 < p.at.to) }
     requires in_order { p.whole.from ≤ p.whole.to }
-    ensures rows { IfOk result (λ n. n ≡ max rows day) }
-    ensures text { WritesText W.fails_with (W.contents out.old) (W.contents out.new) result
-        (rows_opened began (length p.entry.lit.now) rows day
-        ++ bars_in day p.entry.lit.now p.entry.at.from p.entry.at.to p.entry.whole.from p.entry.whole.to) }
+    ensures { WritesText W.fails_with (W.contents out.old) (W.contents out.new) result
+        (bars_in day p.entry.lit.now p.entry.note p.entry.at.from p.entry.at.to p.entry.whole.from p.entry.whole.to) }
 {
-    let opened = open_to(out, began, p.lit.len() as u64, rows, day)?;
-    put_bars_in(out, day, p.lit, p.at, p.whole)?;
-    Ok(opened)
+    let midnight = (day - 1) * DAY;
+    let x = p.at.from.saturating_sub(midnight);
+    let y = (p.at.to - midnight).min(DAY);
+    if y <= x {
+        return Ok(());
+    }
+    put_bars(
+        out,
+        p.lit,
+        Part {
+            whole: p.whole,
+            note: p.note,
+            x,
+            seconds: y - x,
+        },
+    )
+}
+
+// So many seconds of what lies there are in the day, counted from 1.
+fn seconds_within(day: u64, at: Stretch) -> u64
+    requires { (1 ≤ day) × ((day - 1) * 86400 < at.to) }
+    ensures { result ≡ seconds_within day at.from at.to }
+{
+    let midnight = (day - 1) * DAY;
+    let y = (at.to - midnight).min(DAY);
+    y.saturating_sub(at.from.saturating_sub(midnight))
+}
+
+fn add(row: DayRow, seconds: u64) -> DayRow
+    ensures { result ≡ row_more row seconds }
+{
+    DayRow {
+        day: row.day,
+        sum: row.sum.saturating_add(seconds),
+    }
+}
+
+/// The rows up to that of the day, and in it what of the stretch lies there; the row that is open then.
+pub fn draw_in<W: ByteSink>(
+    out: &mut W,
+    began: Option<Moment>,
+    row: DayRow,
+    day: u64,
+    p: Placed<'_>,
+) -> io::Result<DayRow>
+    requires eight_at_most { length p.lit.now ≤ 8 }
+    requires begun { (1 ≤ day) × ((day - 1) * 86400 < p.at.to) }
+    requires in_order { p.whole.from ≤ p.whole.to }
+    ensures row { IfOk result (λ r. r ≡ row_after p.entry.at.from p.entry.at.to row day) }
+    ensures text { WritesText W.fails_with (W.contents out.old) (W.contents out.new) result
+        (rows_opened began (length p.entry.lit.now) row day
+        ++ bars_in day p.entry.lit.now p.entry.note p.entry.at.from p.entry.at.to p.entry.whole.from p.entry.whole.to) }
+{
+    let opened = open_to(out, began, p.lit.len() as u64, row, day)?;
+    put_bars_in(out, day, p)?;
+    Ok(add(opened, seconds_within(day, p.at)))
 }

@@ -1,15 +1,21 @@
 // What stands around the rows of the days: the head and the hours above them, the table of totals below.
-ghost use Rattle.std.specs.Prelude.{◌≤◌, ◌<◌};
+ghost use Rattle.std.specs.Prelude.{◌≡◌, ◌+◌, ◌*◌, ◌<◌, ◌≤◌};
 ghost use Rattle.textio.specs.Fronts.{WritesText};
-ghost use Rattle.report.specs.Frame.{head, no_clock, moment_text, clock_text, head_of_days, hours_since};
-ghost use Rattle.report.specs.Frame.{hours_of_day, hours};
-ghost use Rattle.report.specs.Frame.{table_row, table_rows, table, until_text, paragraph};
+ghost use Rattle.report.specs.Frame.{head, no_clock, moment_text, clock_text, stripe_long, stripe_midnight};
+ghost use Rattle.report.specs.Frame.{stripe_text, head_of_days, hours_since, hours_of_day, hours, life_heads};
+ghost use Rattle.report.specs.Frame.{days_left, day_left, until_day, until_when, life_left, life_cells, lamp_cells};
+ghost use Rattle.report.specs.Frame.{table_row, table_rows, table_begun, table, longest_text, stretch_said, span_said};
+ghost use Rattle.report.specs.Frame.{until_text, paragraph, escaped, html_text, about_item, about_item_if};
+ghost use Rattle.report.specs.Frame.{settings_text, projector_text};
 ghost use Rattle.report.specs.Reports.{given_text};
 
-use crate::days;
 use crate::lamps::Totals;
+use crate::page::{self, DAY, Projector, Query, Stretch};
+use crate::{days, times};
 use calendar::Moment;
+use record::types::Text;
 use std::io;
+use text::rooms;
 use textio::forms::fill;
 use textio::writer::{ByteSink, put};
 
@@ -31,7 +37,9 @@ pub fn put_head<W: ByteSink>(out: &mut W) -> io::Result<()>
         td,th{border:1px solid #767676;padding:.25em .6em;text-align:right}\n\
         .d{width:100%}\n\
         .d td,.d th{border-width:1px 0;padding:.2em .4em;text-align:left;vertical-align:top}\n\
-        .d td:last-child{width:100%}\n\
+        .d .p{width:100%}\n\
+        dl{display:grid;grid-template-columns:auto 1fr;gap:.2em 1em;margin:1em 0}\n\
+        dd{margin:0;overflow-wrap:anywhere}\n\
         .n span{display:block;font-size:13px;line-height:18px;white-space:nowrap}\n\
         .o{position:relative;height:1.4em;font-size:13px;font-weight:normal}\n\
         .o span{position:absolute;transform:translateX(-50%);white-space:nowrap}\n\
@@ -42,12 +50,20 @@ pub fn put_head<W: ByteSink>(out: &mut W) -> io::Result<()>
         .b{fill:#eeeeee;stroke:#767676}\n\
         .h{stroke:#767676}\n\
         .l{fill:#0b5394;stroke:#0b5394}\n\
+        .m{fill:#ffffff}\n\
         @media(min-width:50em){\n\
-        .d th{white-space:nowrap}}\n\
+        .d th,.d td{white-space:nowrap}}\n\
         @media(max-width:50em){\n\
         body{padding:0 .5em}\n\
         td,th{padding:.2em .3em}\n\
+        td{overflow-wrap:anywhere}\n\
+        .d td{overflow-wrap:normal}\n\
         .o .s{display:none}}\n\
+        @media(max-width:30em){\n\
+        td,th{font-size:13px;padding:.2em}\n\
+        .d td,.d th{padding:.2em}\n\
+        .o span{display:none}\n\
+        .o .f,.o .t{display:block}}\n\
         @media screen{\n\
         :root{color-scheme:light dark}}\n\
         @media screen and (prefers-color-scheme:dark){\n\
@@ -55,19 +71,79 @@ pub fn put_head<W: ByteSink>(out: &mut W) -> io::Result<()>
         td,th{border-color:#8c8c8c}\n\
         .b{fill:#2a2a2a;stroke:#8c8c8c}\n\
         .h{stroke:#8c8c8c}\n\
-        .l{fill:#6fb7f2;stroke:#6fb7f2}}\n\
+        .l{fill:#6fb7f2;stroke:#6fb7f2}\n\
+        .m{fill:#111111}}\n\
         @media(forced-colors:active){\n\
         .b{fill:Canvas;stroke:CanvasText}\n\
         .h{stroke:CanvasText}\n\
-        .l{fill:CanvasText;stroke:CanvasText}}\n\
+        .l{fill:CanvasText;stroke:CanvasText}\n\
+        .m{fill:Canvas}}\n\
         @media print{\n\
         body{font-size:10pt;margin:0;padding:0}\n\
         thead{display:table-header-group}\n\
         tr,svg{break-inside:avoid}\n\
-        .b,.l{-webkit-print-color-adjust:exact;print-color-adjust:exact}}\n\
+        .b,.l,.m{-webkit-print-color-adjust:exact;print-color-adjust:exact}}\n\
         </style></head><body><main>\n\
         <h1>Which lamp burnt when</h1>\n",
     )
+}
+
+fn put_escaped<W: ByteSink>(out: &mut W, is_ascii: bool, b: u8) -> io::Result<()>
+    ensures { WritesText W.fails_with (W.contents out.old) (W.contents out.new) result (escaped is_ascii b) }
+{
+    if is_ascii && 126 < b {
+        return put(out, b"&#65533;");
+    }
+    match b {
+        b'<' => put(out, b"&lt;"),
+        b'>' => put(out, b"&gt;"),
+        b'&' => put(out, b"&amp;"),
+        _ => put(out, &[b]),
+    }
+}
+
+// A text, as HTML writes it.
+fn put_html<W: ByteSink>(out: &mut W, is_ascii: bool, text: &[u8]) -> io::Result<()>
+    ensures { WritesText W.fails_with (W.contents out.old) (W.contents out.new) result (html_text is_ascii text.now) }
+{
+    for k in 0..text.len() {
+        put_escaped(out, is_ascii, text[k])?;
+    }
+    Ok(())
+}
+
+fn put_item<W: ByteSink>(out: &mut W, is_ascii: bool, term: &str, text: &[u8]) -> io::Result<()>
+    ensures { WritesText W.fails_with (W.contents out.old) (W.contents out.new) result
+        (about_item is_ascii term.now text.now) }
+{
+    put(out, b"<dt>")?;
+    days::put_word(out, term)?;
+    put(out, b"</dt><dd>")?;
+    put_html(out, is_ascii, text)?;
+    put(out, b"</dd>\n")
+}
+
+// A text of the settings, unless they leave it empty.
+fn put_item_if<W: ByteSink>(out: &mut W, is_ascii: bool, term: &str, text: Text) -> io::Result<()>
+    ensures { WritesText W.fails_with (W.contents out.old) (W.contents out.new) result
+        (about_item_if is_ascii term.now (settings_text text)) }
+{
+    let shown = rooms::first(&text.bytes, text.len);
+    if shown.is_empty() {
+        return Ok(());
+    }
+    put_item(out, is_ascii, term, shown)
+}
+
+/// The projector's name, maker and model.
+pub fn put_about<W: ByteSink>(out: &mut W, p: Projector) -> io::Result<()>
+    ensures { WritesText W.fails_with (W.contents out.old) (W.contents out.new) result (projector_text p) }
+{
+    put(out, b"<dl>\n")?;
+    put_item_if(out, false, "projector", p.name)?;
+    put_item_if(out, true, "manufacturer", p.maker)?;
+    put_item_if(out, true, "model", p.model)?;
+    put(out, b"</dl>\n")
 }
 
 fn put_no_clock<W: ByteSink>(out: &mut W) -> io::Result<()>
@@ -111,6 +187,49 @@ pub fn put_clock<W: ByteSink>(out: &mut W, began: Option<Moment>) -> io::Result<
     }
 }
 
+fn put_stripe_long<W: ByteSink>(out: &mut W, long: Option<u32>) -> io::Result<()>
+    ensures { WritesText W.fails_with (W.contents out.old) (W.contents out.new) result (stripe_long long) }
+{
+    match long {
+        None => Ok(()),
+        Some(hours) => fill(
+            out,
+            "<p>A bar with a stripe is a burn of more than # h.</p>\n",
+            &[hours as u64],
+        ),
+    }
+}
+
+fn put_stripe_midnight<W: ByteSink>(out: &mut W, long: Option<u32>) -> io::Result<()>
+    ensures { WritesText W.fails_with (W.contents out.old) (W.contents out.new) result (stripe_midnight long) }
+{
+    match long {
+        None => put(
+            out,
+            b"<p>A bar with a stripe is a burn over midnight.</p>\n",
+        ),
+        Some(hours) => fill(
+            out,
+            "<p>A bar with a stripe is a burn over midnight or of more than # h.</p>\n",
+            &[hours as u64],
+        ),
+    }
+}
+
+/// What a stripe on a bar says, where one can be.
+pub fn put_stripe_text<W: ByteSink>(
+    out: &mut W,
+    began: Option<Moment>,
+    long: Option<u32>,
+) -> io::Result<()>
+    ensures { WritesText W.fails_with (W.contents out.old) (W.contents out.new) result (stripe_text began long) }
+{
+    match began {
+        None => put_stripe_long(out, long),
+        Some(_) => put_stripe_midnight(out, long),
+    }
+}
+
 /// The head of the table of the days, up to the hours.
 pub fn put_head_of_days<W: ByteSink>(out: &mut W) -> io::Result<()>
     ensures { WritesText W.fails_with (W.contents out.old) (W.contents out.new) result head_of_days }
@@ -132,7 +251,7 @@ fn put_hours_since<W: ByteSink>(out: &mut W) -> io::Result<()>
         <span class=\"s\" style=\"left:37.5%\">+9 h</span><span style=\"left:50%\">+12 h</span>\n\
         <span class=\"s\" style=\"left:62.5%\">+15 h</span><span style=\"left:75%\">+18 h</span>\n\
         <span class=\"s\" style=\"left:87.5%\">+21 h</span><span class=\"t\" style=\"left:100%\">+24 h</span>\n\
-        </div></th></tr></thead><tbody>\n",
+        </div></th><th scope=\"col\">burnt</th></tr></thead><tbody>\n",
     )
 }
 
@@ -146,7 +265,7 @@ fn put_hours_of_day<W: ByteSink>(out: &mut W) -> io::Result<()>
         <span class=\"s\" style=\"left:37.5%\">09:00</span><span style=\"left:50%\">12:00</span>\n\
         <span class=\"s\" style=\"left:62.5%\">15:00</span><span style=\"left:75%\">18:00</span>\n\
         <span class=\"s\" style=\"left:87.5%\">21:00</span><span class=\"t\" style=\"left:100%\">24:00</span>\n\
-        </div></th></tr></thead><tbody>\n",
+        </div></th><th scope=\"col\">burnt</th></tr></thead><tbody>\n",
     )
 }
 
@@ -160,17 +279,132 @@ pub fn put_hours<W: ByteSink>(out: &mut W, began: Option<Moment>) -> io::Result<
     }
 }
 
-// The row of the lamp at that place.
-fn put_table_row<W: ByteSink>(out: &mut W, t: Totals, k: usize) -> io::Result<()>
+fn put_life_heads<W: ByteSink>(out: &mut W, life: Option<u32>) -> io::Result<()>
+    ensures { WritesText W.fails_with (W.contents out.old) (W.contents out.new) result (life_heads life) }
+{
+    match life {
+        None => Ok(()),
+        Some(hours) => fill(
+            out,
+            "<th scope=\"col\">left of # h</th><th scope=\"col\">until, at this log's pace</th>",
+            &[hours as u64],
+        ),
+    }
+}
+
+// A hundred years.
+const DAYS_MOST: u64 = 36525;
+
+// What a lamp burns in `seconds` is `burnt`: so many days does it burn `left`.
+fn days_left(left: u64, seconds: u64, burnt: u64) -> u64
+    requires { 0 < burnt }
+    ensures { result ≡ days_left left seconds burnt }
+{
+    left.saturating_mul(seconds) / burnt / DAY
+}
+
+fn put_day_left<W: ByteSink>(
+    out: &mut W,
+    began: Option<Moment>,
+    seconds: u64,
+    days: u64,
+) -> io::Result<()>
+    requires { days ≤ 36525 }
+    ensures { WritesText W.fails_with (W.contents out.old) (W.contents out.new) result
+        (day_left began seconds days) }
+{
+    match began {
+        None => fill(out, "# days", &[days]),
+        Some(m) => days::put_dated(out, m, page::at(began, seconds) / DAY + days),
+    }
+}
+
+fn put_until_day<W: ByteSink>(
+    out: &mut W,
+    began: Option<Moment>,
+    seconds: u64,
+    days: u64,
+) -> io::Result<()>
+    ensures { WritesText W.fails_with (W.contents out.old) (W.contents out.new) result
+        (until_day began seconds days) }
+{
+    if DAYS_MOST < days {
+        return put(out, b"over 100 years");
+    }
+    put_day_left(out, began, seconds, days)
+}
+
+fn put_until_when<W: ByteSink>(
+    out: &mut W,
+    began: Option<Moment>,
+    seconds: u64,
+    burnt: u64,
+    left: u64,
+) -> io::Result<()>
+    ensures { WritesText W.fails_with (W.contents out.old) (W.contents out.new) result
+        (until_when began seconds burnt left) }
+{
+    if burnt < 1 {
+        return put(out, b"burns not in this log");
+    }
+    let days = days_left(left, seconds, burnt);
+    put_until_day(out, began, seconds, days)
+}
+
+// What is left of a lamp's hours, and until when.
+fn put_life_left<W: ByteSink>(
+    out: &mut W,
+    began: Option<Moment>,
+    seconds: u64,
+    burnt: u64,
+    left: u64,
+) -> io::Result<()>
+    ensures { WritesText W.fails_with (W.contents out.old) (W.contents out.new) result
+        (life_left began seconds burnt left) }
+{
+    fill(
+        out,
+        "<td># h # min (# s)</td><td>",
+        &[left / 3600, left / 60 % 60, left],
+    )?;
+    put_until_when(out, began, seconds, burnt, left)?;
+    put(out, b"</td>")
+}
+
+// The same, where it is said how long a lamp lives.
+fn put_life_cells<W: ByteSink>(
+    out: &mut W,
+    q: Query,
+    seconds: u64,
+    burnt: u64,
+    last: u64,
+) -> io::Result<()>
+    ensures { WritesText W.fails_with (W.contents out.old) (W.contents out.new) result
+        (life_cells q.began q.life seconds burnt last) }
+{
+    match q.life {
+        None => Ok(()),
+        Some(hours) => put_life_left(
+            out,
+            q.began,
+            seconds,
+            burnt,
+            (hours as u64 * 3600).saturating_sub(last),
+        ),
+    }
+}
+
+// The number of the lamp at that place, and its seconds.
+fn put_lamp_cells<W: ByteSink>(out: &mut W, t: Totals, k: usize) -> io::Result<()>
     requires { k < 8 }
     ensures { WritesText W.fails_with (W.contents out.old) (W.contents out.new) result
-        (table_row t.starts t.burnt t.lasts k) }
+        (lamp_cells t.starts t.burnt t.lasts k) }
 {
     let (start, burnt, last) = (t.starts[k] as u64, t.burnt[k], t.lasts[k] as u64);
     fill(
         out,
         "<tr><th scope=\"row\">lamp #</th><td># h # min (# s)</td><td># h # min (# s)</td>\
-        <td># h # min (# s)</td></tr>\n",
+        <td># h # min (# s)</td>",
         &[
             k as u64 + 1,
             start / 3600,
@@ -186,31 +420,93 @@ fn put_table_row<W: ByteSink>(out: &mut W, t: Totals, k: usize) -> io::Result<()
     )
 }
 
-fn put_table_rows<W: ByteSink>(out: &mut W, t: Totals) -> io::Result<()>
+// The row of the lamp at that place.
+fn put_table_row<W: ByteSink>(
+    out: &mut W,
+    q: Query,
+    seconds: u64,
+    t: Totals,
+    k: usize,
+) -> io::Result<()>
+    requires { k < 8 }
+    ensures { WritesText W.fails_with (W.contents out.old) (W.contents out.new) result
+        (table_row q seconds t.starts t.burnt t.lasts k) }
+{
+    put_lamp_cells(out, t, k)?;
+    put_life_cells(out, q, seconds, t.burnt[k], t.lasts[k] as u64)?;
+    put(out, b"</tr>\n")
+}
+
+fn put_table_rows<W: ByteSink>(out: &mut W, q: Query, seconds: u64, t: Totals) -> io::Result<()>
     requires { t.count ≤ 8 }
     ensures { WritesText W.fails_with (W.contents out.old) (W.contents out.new) result
-        (table_rows t.count t.starts t.burnt t.lasts) }
+        (table_rows q seconds t.count t.starts t.burnt t.lasts) }
 {
     for k in 0..t.count {
-        put_table_row(out, t, k)?;
+        put_table_row(out, q, seconds, t, k)?;
     }
     Ok(())
 }
 
-/// The table of the lamps: of each its hours and minutes, and its seconds.
-pub fn put_table<W: ByteSink>(out: &mut W, t: Totals) -> io::Result<()>
-    requires { t.count ≤ 8 }
-    ensures { WritesText W.fails_with (W.contents out.old) (W.contents out.new) result
-        (table t.count t.starts t.burnt t.lasts) }
+fn begin_table<W: ByteSink>(out: &mut W) -> io::Result<()>
+    ensures { WritesText W.fails_with (W.contents out.old) (W.contents out.new) result table_begun }
 {
     put(
         out,
         b"<table><caption>Each lamp's burning time</caption><thead><tr><th scope=\"col\">lamp</th>\
-        <th scope=\"col\">at the start</th><th scope=\"col\">burnt</th>\
-        <th scope=\"col\">now</th></tr></thead><tbody>\n",
-    )?;
-    put_table_rows(out, t)?;
+        <th scope=\"col\">at the start</th><th scope=\"col\">burnt</th><th scope=\"col\">now</th>",
+    )
+}
+
+/// The table of the lamps, of a log of so many seconds: of each its hours and minutes, and its seconds; and where it is
+/// said how long a lamp lives, what is left, and until when.
+pub fn put_table<W: ByteSink>(out: &mut W, q: Query, seconds: u64, t: Totals) -> io::Result<()>
+    requires { t.count ≤ 8 }
+    ensures { WritesText W.fails_with (W.contents out.old) (W.contents out.new) result
+        (table q seconds t.count t.starts t.burnt t.lasts) }
+{
+    begin_table(out)?;
+    put_life_heads(out, q.life)?;
+    put(out, b"</tr></thead><tbody>\n")?;
+    put_table_rows(out, q, seconds, t)?;
     put(out, b"</tbody></table>\n")
+}
+
+fn put_stretch_said<W: ByteSink>(out: &mut W, began: Option<Moment>, s: Stretch) -> io::Result<()>
+    ensures { WritesText W.fails_with (W.contents out.old) (W.contents out.new) result (stretch_said began s) }
+{
+    put(out, b"<p>The longest burn is from ")?;
+    times::put_instant(out, began, s.from)?;
+    put(out, b" to ")?;
+    times::put_instant(out, began, s.to)?;
+    put(out, b": ")?;
+    times::put_spent(out, s.to.saturating_sub(s.from))?;
+    put(out, b".</p>\n")
+}
+
+/// The longest stretch, if there is one.
+pub fn put_longest<W: ByteSink>(out: &mut W, began: Option<Moment>, s: Stretch) -> io::Result<()>
+    ensures { WritesText W.fails_with (W.contents out.old) (W.contents out.new) result (longest_text began s) }
+{
+    if s.to <= s.from {
+        return Ok(());
+    }
+    put_stretch_said(out, began, s)
+}
+
+/// When the log ends, and how long it is.
+pub fn put_span_said<W: ByteSink>(
+    out: &mut W,
+    began: Option<Moment>,
+    seconds: u64,
+) -> io::Result<()>
+    ensures { WritesText W.fails_with (W.contents out.old) (W.contents out.new) result (span_said began seconds) }
+{
+    put(out, b"<p>The log ends at ")?;
+    times::put_instant(out, began, seconds)?;
+    put(out, b", after ")?;
+    times::put_spent(out, seconds)?;
+    put(out, b".</p>\n")
 }
 
 /// Until when a log goes: the seconds that it lets pass, and the lines that belong to it.

@@ -5,24 +5,27 @@ mod days;
 mod frame;
 pub mod lamps;
 pub mod page;
+mod table;
 pub mod theorems;
+mod times;
 
 ghost use Rattle.std.specs.Prelude.{◌≡◌, ◌≤◌, length, OnOk, OnErr};
 ghost use Rattle.textio.specs.Fronts.{WritesText};
-ghost use Rattle.report.specs.Reports.{report_new, begun_text, report_told, told_text, ended_text, ended_until};
+ghost use Rattle.report.specs.Reports.{begun_text, report_told, told_text, ended_text, ended_until};
 ghost use Rattle.report.specs.Reports.{stray_line, given_text};
 
 use crate::lamps::Totals;
-use crate::page::{Sheet, Stretch};
-use calendar::Moment;
+use crate::page::{Query, Sheet, Stretch};
 use std::io;
 use textio::writer::{ByteSink, put};
 
-/// How a log is told: as lines, or as a page that has so many rows.
+/// How a log is told.
 #[derive(Clone, Copy)]
 pub enum Report {
     /// A line for each stretch, and one for each lamp at the end.
     Lines,
+    /// Comma-separated values: a row for each stretch.
+    Csv(Query),
     /// An HTML page.
     Page(Sheet),
 }
@@ -49,23 +52,14 @@ fn put_stray<W: ByteSink>(out: &mut W, stray: Option<&[u8]>) -> io::Result<()>
 }
 
 impl Report {
-    /// Before a log that is drawn on a page, or not, and that began at that moment, if it is known.
-    pub fn new(drawn: bool, began: Option<Moment>) -> Report
-        ensures { result ≡ report_new drawn began }
-    {
-        if drawn {
-            return Report::Page(Sheet { began, rows: 0 });
-        }
-        Report::Lines
-    }
-
     /// What stands before the first stretch.
     pub fn begin<W: ByteSink>(self, out: &mut W) -> io::Result<()>
         ensures { WritesText W.fails_with (W.contents out.old) (W.contents out.new) result (begun_text self) }
     {
         match self {
             Report::Lines => Ok(()),
-            Report::Page(sheet) => page::begin(out, sheet.began),
+            Report::Csv(_) => table::put_csv_head(out),
+            Report::Page(sheet) => page::begin(out, sheet.query),
         }
     }
 
@@ -79,11 +73,13 @@ impl Report {
     {
         match *self {
             Report::Lines => lamps::put_stretches(out, lit, s.from, s.to),
+            Report::Csv(query) => table::put_csv_rows(out, query, lit, s),
             Report::Page(sheet) => {
-                let rows = page::draw(out, sheet, lit, s)?;
+                let row = page::draw(out, sheet, lit, s)?;
                 *self = Report::Page(Sheet {
-                    began: sheet.began,
-                    rows,
+                    query: sheet.query,
+                    row,
+                    longest: page::longest_of(sheet.longest, lit, s),
                 });
                 Ok(())
             }
@@ -105,6 +101,7 @@ impl Report {
     {
         match self {
             Report::Lines => lamps::put_totals(out, t),
+            Report::Csv(_) => Ok(()),
             Report::Page(sheet) => page::end(out, sheet, seconds, t, unplayed),
         }
     }
@@ -127,6 +124,7 @@ impl Report {
                 lamps::put_totals(out, t)?;
                 put_stray(out, until.stray)
             }
+            Report::Csv(_) => Ok(()),
             Report::Page(sheet) => page::end_until(out, sheet, seconds, t, until),
         }
     }

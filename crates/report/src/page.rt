@@ -2,16 +2,18 @@
 // bars, and one line for days in which no lamp burnt; the hours along the top; a table of totals (RULES, Floor log). It
 // is written as it comes: a stretch is drawn once it has ended, and rows are opened up to its days. Bands stand apart
 // by place and name, so that no colour has to be told from another.
-ghost use Rattle.std.specs.Prelude.{◌≡◌, ◌≤◌, length, IfOk};
+ghost use Rattle.std.specs.Prelude.{◌≡◌, ◌-◌, ◌≤◌, length, IfOk};
 ghost use Rattle.textio.specs.Fronts.{WritesText};
-ghost use Rattle.report.specs.Days.{at, days_of, is_any_lit, rows_drawn, stretch_drawn};
-ghost use Rattle.report.specs.Frame.{days_closed, page_begun, page_closed, page_ended, page_ended_until};
-ghost use Rattle.report.specs.Reports.{given_text};
+ghost use Rattle.report.specs.Days.{at, days_of, is_any_lit, is_over_midnight, hours_passed, note_of, row_drawn};
+ghost use Rattle.report.specs.Days.{stretch_drawn};
+ghost use Rattle.report.specs.Frame.{days_closed, page_begun, page_closed, days_told, page_ended, page_ended_until};
+ghost use Rattle.report.specs.Reports.{sheet_new, longest_of, given_text};
 
-use crate::days::Placed;
+use crate::days::{DayRow, Placed, StretchNote};
 use crate::lamps::Totals;
 use crate::{Until, days, frame};
 use calendar::Moment;
+use record::types::Text;
 use std::io;
 use textio::writer::{ByteSink, put};
 
@@ -27,27 +29,68 @@ pub struct Stretch {
     pub to: u64,
 }
 
+/// A projector, as its settings have it.
+#[derive(Clone, Copy)]
+pub struct Projector {
+    /// Its name.
+    pub name: Text,
+    /// Its maker.
+    pub maker: Text,
+    /// Its model.
+    pub model: Text,
+}
+
+/// What is asked of a page and a table beside the stretches.
+#[derive(Clone, Copy)]
+pub struct Query {
+    /// When the log began, if that is known.
+    pub began: Option<Moment>,
+    /// A stretch of more than so many hours is marked, if that is said.
+    pub long: Option<u32>,
+    /// So many hours a lamp lives, if that is said.
+    pub life: Option<u32>,
+    /// The projector that the log is of.
+    pub projector: Projector,
+}
+
 /// What is known of a page while it is written.
 #[derive(Clone, Copy)]
 pub struct Sheet {
-    /// When the log began, if that is known.
-    pub began: Option<Moment>,
-    /// The last day that has a row, counted from 1; 0 where none has.
-    pub rows: u64,
+    /// What is asked of it.
+    pub query: Query,
+    /// The row that is open.
+    pub row: DayRow,
+    /// The longest stretch so far; from 0 to 0 where there is none.
+    pub longest: Stretch,
+}
+
+impl Sheet {
+    /// Before any stretch.
+    pub fn new(query: Query) -> Sheet
+        ensures { result ≡ sheet_new query }
+    {
+        Sheet {
+            query,
+            row: DayRow { day: 0, sum: 0 },
+            longest: Stretch { from: 0, to: 0 },
+        }
+    }
 }
 
 /// What stands above the rows.
-pub fn begin<W: ByteSink>(out: &mut W, began: Option<Moment>) -> io::Result<()>
-    ensures { WritesText W.fails_with (W.contents out.old) (W.contents out.new) result (page_begun began) }
+pub fn begin<W: ByteSink>(out: &mut W, q: Query) -> io::Result<()>
+    ensures { WritesText W.fails_with (W.contents out.old) (W.contents out.new) result (page_begun q) }
 {
     frame::put_head(out)?;
-    frame::put_clock(out, began)?;
+    frame::put_about(out, q.projector)?;
+    frame::put_clock(out, q.began)?;
+    frame::put_stripe_text(out, q.began, q.long)?;
     frame::put_head_of_days(out)?;
-    frame::put_hours(out, began)
+    frame::put_hours(out, q.began)
 }
 
-// A second of the log, counted from the first midnight on.
-fn at(began: Option<Moment>, second: u64) -> u64
+/// A second of the log, counted from the first midnight on.
+pub(crate) fn at(began: Option<Moment>, second: u64) -> u64
     ensures { result ≡ at began second }
 {
     match began {
@@ -72,36 +115,76 @@ fn is_any(lit: &[bool]) -> bool
     lit.iter().any(|is_lit| *is_lit)
 }
 
-/// A stretch of the lamps whose marks are set; of the last day with a row the picture is open. The last day that has
-/// one then. Of no lamp nothing is drawn.
-pub fn draw<W: ByteSink>(out: &mut W, sheet: Sheet, lit: &[bool], s: Stretch) -> io::Result<u64>
-    requires { length lit.now ≤ 8 }
-    ensures rows { IfOk result (λ n. n ≡ rows_drawn sheet.began sheet.rows lit.now s.from s.to) }
-    ensures text { WritesText W.fails_with (W.contents out.old) (W.contents out.new) result
-        (stretch_drawn sheet.began sheet.rows lit.now s.from s.to) }
+fn is_over_midnight(began: Option<Moment>, s: Stretch) -> bool
+    ensures { result ≡ is_over_midnight began s.from s.to }
 {
-    let first = at(sheet.began, s.from);
-    let last = at(sheet.began, s.to);
+    match began {
+        None => false,
+        Some(_) => at(began, s.from) / DAY + 1 < days_until(at(began, s.to)),
+    }
+}
+
+fn hours_passed(long: Option<u32>, seconds: u64) -> Option<u32>
+    ensures { result ≡ hours_passed long seconds }
+{
+    match long {
+        Some(hours) if (hours as u64) * 3600 < seconds => Some(hours),
+        _ => None,
+    }
+}
+
+/// What is marked of a stretch.
+pub fn note_of(q: Query, s: Stretch) -> StretchNote
+    ensures { result ≡ note_of q.began q.long s.from s.to }
+{
+    StretchNote {
+        over_midnight: is_over_midnight(q.began, s),
+        hours: hours_passed(q.long, s.to.saturating_sub(s.from)),
+    }
+}
+
+/// The longest of the stretches, of which this was the longest before; the first of those that are equally long.
+pub fn longest_of(longest: Stretch, lit: &[bool], s: Stretch) -> Stretch
+    ensures { result ≡ longest_of longest lit.now s.from s.to }
+{
+    if is_any(lit) && longest.to.saturating_sub(longest.from) < s.to.saturating_sub(s.from) {
+        return s;
+    }
+    longest
+}
+
+/// A stretch of the lamps whose marks are set; the row that is open then. Of no lamp nothing is drawn.
+pub fn draw<W: ByteSink>(out: &mut W, sheet: Sheet, lit: &[bool], s: Stretch) -> io::Result<DayRow>
+    requires { length lit.now ≤ 8 }
+    ensures row { IfOk result (λ r. r ≡ row_drawn sheet.query.began sheet.row lit.now s.from s.to) }
+    ensures text { WritesText W.fails_with (W.contents out.old) (W.contents out.new) result
+        (stretch_drawn sheet.query.began sheet.query.long sheet.row lit.now s.from s.to) }
+{
+    let began = sheet.query.began;
+    let first = at(began, s.from);
+    let last = at(began, s.to);
     if last <= first {
-        return Ok(sheet.rows);
+        return Ok(sheet.row);
     }
     let burns = is_any(lit);
     if !burns {
-        return Ok(sheet.rows);
+        return Ok(sheet.row);
     }
+    let note = note_of(sheet.query, s);
     let placed = Placed {
         lit,
         whole: s,
+        note,
         at: Stretch {
             from: first,
             to: last,
         },
     };
-    let mut opened = sheet.rows;
+    let mut row = sheet.row;
     for before in first / DAY..days_until(last) {
-        opened = days::draw_in(out, sheet.began, opened, before + 1, placed)?;
+        row = days::draw_in(out, began, row, before + 1, placed)?;
     }
-    Ok(opened)
+    Ok(row)
 }
 
 fn close_days<W: ByteSink>(out: &mut W) -> io::Result<()>
@@ -116,6 +199,21 @@ fn close<W: ByteSink>(out: &mut W) -> io::Result<()>
     put(out, b"</main></body></html>\n")
 }
 
+// The rows up to the end of a log of so many seconds, and what stands below them.
+fn end_days<W: ByteSink>(out: &mut W, sheet: Sheet, seconds: u64, t: Totals) -> io::Result<()>
+    requires { t.count ≤ 8 }
+    ensures { WritesText W.fails_with (W.contents out.old) (W.contents out.new) result
+        (days_told sheet seconds t.count t.starts t.burnt t.lasts) }
+{
+    let began = sheet.query.began;
+    let last = days_until(at(began, seconds));
+    days::end(out, began, sheet.row, last)?;
+    close_days(out)?;
+    frame::put_table(out, sheet.query, seconds, t)?;
+    frame::put_longest(out, began, sheet.longest)?;
+    frame::put_span_said(out, began, seconds)
+}
+
 /// The rows up to the end of a log of so many seconds, and what stands below them: last what was not played of it, if
 /// anything was not.
 pub fn end<W: ByteSink>(
@@ -127,12 +225,9 @@ pub fn end<W: ByteSink>(
 ) -> io::Result<()>
     requires { t.count ≤ 8 }
     ensures { WritesText W.fails_with (W.contents out.old) (W.contents out.new) result
-        (page_ended sheet.began sheet.rows seconds t.count t.starts t.burnt t.lasts (given_text unplayed.entry)) }
+        (page_ended sheet seconds t.count t.starts t.burnt t.lasts (given_text unplayed.entry)) }
 {
-    let last = days_until(at(sheet.began, seconds));
-    days::end(out, sheet.began, sheet.rows, last)?;
-    close_days(out)?;
-    frame::put_table(out, t)?;
+    end_days(out, sheet, seconds, t)?;
     frame::put_paragraph(out, unplayed)?;
     close(out)
 }
@@ -147,13 +242,10 @@ pub fn end_until<W: ByteSink>(
 ) -> io::Result<()>
     requires { t.count ≤ 8 }
     ensures { WritesText W.fails_with (W.contents out.old) (W.contents out.new) result
-        (page_ended_until sheet.began sheet.rows seconds t.count t.starts t.burnt t.lasts until.entry.lines
+        (page_ended_until sheet seconds t.count t.starts t.burnt t.lasts until.entry.lines
         (given_text until.entry.stray)) }
 {
-    let last = days_until(at(sheet.began, seconds));
-    days::end(out, sheet.began, sheet.rows, last)?;
-    close_days(out)?;
-    frame::put_table(out, t)?;
+    end_days(out, sheet, seconds, t)?;
     frame::put_until(out, seconds, until.lines)?;
     frame::put_paragraph(out, until.stray)?;
     close(out)

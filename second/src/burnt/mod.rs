@@ -128,6 +128,8 @@ pub struct Told {
     pub lamps: Vec<Sum>,
     /// The seconds of the log.
     pub seconds: u128,
+    /// The projector's name, maker and model.
+    pub names: [Vec<u8>; 3],
     /// What is said of a line that does not belong to its history.
     pub stray: Option<String>,
     /// What is said of a log of the first kind that was not all played; nothing of one that was.
@@ -147,7 +149,9 @@ pub fn told(form: Option<&[u8]>, log: &[u8]) -> Result<Told, u32> {
     } else {
         unplayed::words(&unplayed::RIGHT, notes((RIGHT.device)(form)?, log))
     };
-    Ok(Told { stretches, lamps: watch.sums().collect(), seconds: watch.second, stray, unplayed })
+    let set_up = (RIGHT.device)(form)?.set_up;
+    let names = [set_up.name, set_up.maker, set_up.model];
+    Ok(Told { stretches, lamps: watch.sums().collect(), seconds: watch.second, names, stray, unplayed })
 }
 
 /// How `burnt` ends, and what it says.

@@ -56,6 +56,14 @@ impl Moment {
         format!("{} {year:04}-{month:02}-{of_month:02}", NAMES[(days + 3).rem_euclid(7) as usize])
     }
 
+    /// "`2026-11-23 06:00:20`", of a second of the log.
+    pub fn instant(&self, second: u128) -> String {
+        let second = u128::from(self.second) + second;
+        let (year, month, day) = date_of(self.days + (second / 86_400) as i64);
+        let [hours, minutes, seconds] = [second / 3600 % 24, second / 60 % 60, second % 60];
+        format!("{year:04}-{month:02}-{day:02} {hours:02}:{minutes:02}:{seconds:02}")
+    }
+
     pub fn time(&self) -> String {
         let Moment { second, .. } = self;
         format!("{}:{:02}:{:02}", second / 3600, second / 60 % 60, second % 60)

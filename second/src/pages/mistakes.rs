@@ -1,7 +1,7 @@
 //! The deliberate mistakes: each makes of a page that shows what it has to show one that someone might really print. It
 //! gives none where this page would stay as right as it is.
 
-use super::drawn::{self, DAY, Drawn, Row, timed, title};
+use super::drawn::{self, DAY, Drawn, Row, short, timed, title};
 use super::html::Part;
 use super::read::{Band, Bar, Hour, Page, Picture, Shown};
 use crate::burnt::Sum;
@@ -67,7 +67,7 @@ pub const MISTAKES: &[(&str, Wrong)] = &[
     }),
     ("bars have a colour that there is not", |sheet, _| {
         let colours: Vec<_> = sheet.bars().iter().map(|(bar, _)| bar.rect.colour.range()).collect();
-        (!colours.is_empty()).then(|| sheet.with(colours.into_iter().map(|range| (range, "m".to_string()))))
+        (!colours.is_empty()).then(|| sheet.with(colours.into_iter().map(|range| (range, "z".to_string()))))
     }),
     // "a picture is 86,400 wide, a unit a second"
     ("x is in minutes", |sheet, random| sheet.at_x(random, |bar| bar.from / 60)),
@@ -125,6 +125,103 @@ pub const MISTAKES: &[(&str, Wrong)] = &[
         let other = any(sheet.bars(), random)?.1.title();
         sheet.in_title(random, |_| other.clone())
     }),
+    // "marked in words and shape"
+    ("a stretch is marked in words alone", |sheet, random| {
+        let striped = sheet.bars().into_iter().flat_map(|(bar, _)| &bar.stripes);
+        Some(sheet.without(any(striped.collect(), random)?.range.clone()))
+    }),
+    ("a stretch is marked in shape alone", |sheet, random| {
+        sheet.in_title(random, |bar| title(bar.lamp, bar.stretch.from, bar.stretch.to))
+    }),
+    ("a stripe is as wide as the whole stretch", |sheet, random| {
+        let bars = sheet.bars().into_iter().filter(|(bar, _)| !bar.stripes.is_empty());
+        let whole = |bar: &drawn::Bar| (bar.stretch.to - bar.stretch.from) as u64;
+        let (bar, drawn) = any(bars.filter(|(_, drawn)| whole(drawn) != drawn.seconds()).collect(), random)?;
+        Some(sheet.with([(bar.stripes[0].width.range(), whole(drawn).to_string())]))
+    }),
+    ("a stripe has the colour of its bar", |sheet, random| {
+        let bars = sheet.bars().into_iter().filter(|(bar, _)| !bar.stripes.is_empty());
+        let (bar, _) = any(bars.collect(), random)?;
+        Some(sheet.with([(bar.stripes[0].colour.range(), bar.rect.colour.text.to_string())]))
+    }),
+    ("a stretch that is not marked has a stripe", |sheet, random| {
+        let bars = sheet.bars().into_iter().filter(|(bar, _)| bar.stripes.is_empty());
+        let (bar, drawn) = any(bars.collect(), random)?;
+        let y = bar.rect.y.text.parse::<u64>().ok()? + 1;
+        let (x, width, end) = (drawn.from, drawn.seconds(), bar.rect.range.end);
+        let stripe = format!("<rect class='m' height='2' y='{y}' x='{x}' width='{width}'/>");
+        Some(sheet.with([(end..end, stripe)]))
+    }),
+    ("it is not said what a stripe says", |sheet, _| Some(sheet.without(sheet.page.legends.first()?.range.clone()))),
+    ("a stripe says that more hours are long", |sheet, _| {
+        let (text, hours) = (sheet.page.legends.first()?.text, sheet.drawn.asked.long?);
+        let words = text.text.replace(&format!("{hours} h"), &format!("{} h", hours + 1));
+        Some(sheet.with([(text.range(), words)]))
+    }),
+    // "the hours that lamps burnt that day"
+    ("a day's sum is a minute more", |sheet, random| sheet.in_sum(random, |day, drawn| drawn.burnt_in(day) + 60)),
+    ("a day's sum is each lamp's", |sheet, random| {
+        sheet.in_sum(random, |day, drawn| {
+            drawn.days[day - 1].iter().flatten().map(|bar| u128::from(bar.seconds())).sum()
+        })
+    }),
+    ("a day's sum is that of its whole stretches", |sheet, random| {
+        sheet.in_sum(random, |day, drawn| {
+            let bars = drawn.days[day - 1].iter().find(|bars| !bars.is_empty()).into_iter().flatten();
+            bars.map(|bar| bar.stretch.to - bar.stretch.from).sum()
+        })
+    }),
+    ("a day's sum goes on with the day before it", |sheet, random| {
+        sheet.in_sum(random, |day, drawn| (1..=day).map(|day| drawn.burnt_in(day)).sum())
+    }),
+    // "the longest stretch and the log's end"
+    ("the longest burn is not said", |sheet, _| Some(sheet.without(sheet.page.longest.first()?.range.clone()))),
+    ("another burn is said to be the longest", |sheet, random| {
+        let shown = sheet.page.longest.first()?.text;
+        let others = sheet.drawn.stretches.iter().map(|stretch| {
+            let [from, to] = [stretch.from, stretch.to].map(|second| sheet.drawn.asked.instant(second));
+            format!("The longest burn is from {from} to {to}: {}.", timed(stretch.to - stretch.from))
+        });
+        let others = others.filter(|words| words != shown.text);
+        Some(sheet.with([(shown.range(), any(others.collect(), random)?)]))
+    }),
+    ("the log ends a second early", |sheet, _| {
+        let seconds = sheet.drawn.seconds.checked_sub(1)?;
+        let words = format!("The log ends at {}, after {}.", sheet.drawn.asked.instant(seconds), timed(seconds));
+        Some(sheet.with([(sheet.page.ends.first()?.text.range(), words)]))
+    }),
+    ("it is not said when the log ends", |sheet, _| Some(sheet.without(sheet.page.ends.first()?.range.clone()))),
+    // "It names the projector, its manufacturer and its model"
+    ("another projector is named", |sheet, random| {
+        let [_, said] = *any(sheet.page.about.iter().collect(), random)?;
+        Some(sheet.with([(said.range(), format!("{}x", said.text))]))
+    }),
+    ("two texts of the projector stand in the other order", |sheet, _| {
+        let [[_, one], [_, other], ..] = sheet.page.about[..] else { return None };
+        let change = [(one.range(), other.text.to_string()), (other.range(), one.text.to_string())];
+        (one.text != other.text).then(|| sheet.with(change))
+    }),
+    ("a text of the projector is written as it is", |sheet, random| {
+        let escaped = sheet.page.about.iter().map(|[_, said]| said).filter(|said| said.text.contains("&lt;"));
+        let said = any(escaped.collect(), random)?;
+        Some(sheet.with([(said.range(), said.text.replace("&lt;", "<"))]))
+    }),
+    // "what is left, and until when"
+    ("what is left of a lamp is counted from the start", |sheet, random| {
+        sheet.in_left(random, 0, |sum, drawn| drawn.left(&Sum { now: sum.start, ..*sum }))
+    }),
+    ("what is left of a lamp is an hour more", |sheet, random| {
+        sheet.in_left(random, 0, |sum, drawn| {
+            let life = drawn.asked.life? * 3600 + 3600;
+            Some([timed(life.saturating_sub(sum.now.into())), String::new()])
+        })
+    }),
+    ("a lamp's pace is that of all its seconds", |sheet, random| {
+        sheet.in_left(random, 1, |sum, drawn| drawn.left(&Sum { burnt: sum.now.into(), ..*sum }))
+    }),
+    ("a lamp that burns not in the log has a day", |sheet, random| {
+        sheet.in_left(random, 1, |sum, _| (sum.burnt == 0).then(|| [String::new(), "0 days".to_string()]))
+    }),
     ("a bar has no title", |sheet, random| Some(sheet.without(any(sheet.bars(), random)?.0.titled.clone()))),
     // "a row for each day that has a second of the log", "a band for each lamp, with its number", "the hours 0 to 24"
     ("a day has no row", |sheet, random| Some(sheet.without(any(sheet.rows(), random)?))),
@@ -159,7 +256,7 @@ pub const MISTAKES: &[(&str, Wrong)] = &[
         })
     }),
     ("of a day with a burn it is said that no lamp burnt", |sheet, random| {
-        let pictures = sheet.page.rows.iter().filter(|row| matches!(row.shown, Shown::Picture(_)));
+        let pictures = sheet.page.rows.iter().filter(|row| matches!(row.shown, Shown::Picture(..)));
         let row = any(pictures.collect(), random)?;
         let line = format!("<tr><th scope=\"row\">{}</th><td>no lamp burnt</td></tr>", row.name.text);
         Some(sheet.with([(row.range.clone(), line)]))
@@ -167,7 +264,7 @@ pub const MISTAKES: &[(&str, Wrong)] = &[
     ("of days without a burn it is said that a lamp burnt", |sheet, random| {
         let words = sheet.page.rows.iter().filter_map(|row| match row.shown {
             Shown::Words(words) => Some(words),
-            Shown::Picture(_) => None,
+            Shown::Picture(..) => None,
         });
         Some(sheet.with([(any(words.collect(), random)?.range(), "a lamp burnt".to_string())]))
     }),
@@ -203,14 +300,14 @@ pub const MISTAKES: &[(&str, Wrong)] = &[
     ("the hours are another kind of hours", |sheet, random| {
         let (place, hour) = any(sheet.page.hours.iter().enumerate().collect(), random)?;
         let hours = place * 3;
-        let other = if sheet.drawn.began.is_some() { format!("+{hours} h") } else { format!("{hours:02}:00") };
+        let other = if sheet.drawn.asked.began.is_some() { format!("+{hours} h") } else { format!("{hours:02}:00") };
         Some(sheet.with([(hour.text.range(), other)]))
     }),
     ("a day has a weekday that is not its own", |sheet, random| {
         let rows = sheet.page.rows.iter().zip(sheet.drawn.rows());
         let rows = rows.filter_map(|(shown, row)| if let Row::Day(day) = row { Some((shown, day)) } else { None });
         let (shown, day) = any(rows.collect(), random)?;
-        let wrong = match sheet.drawn.began {
+        let wrong = match sheet.drawn.asked.began {
             Some(began) => began.day(day + 6)[..3].to_string() + &began.day(day)[3..],
             None => format!("Mon {}", sheet.drawn.day(day)),
         };
@@ -220,11 +317,11 @@ pub const MISTAKES: &[(&str, Wrong)] = &[
         let rows = sheet.page.rows.iter().zip(sheet.drawn.rows());
         let rows = rows.filter_map(|(shown, row)| if let Row::Day(day) = row { Some((shown, day)) } else { None });
         let (shown, day) = any(rows.collect(), random)?;
-        let wrong = if sheet.drawn.began.is_some() { format!("day {day}") } else { "Mon 2026-11-23".to_string() };
+        let wrong = if sheet.drawn.asked.began.is_some() { format!("day {day}") } else { "Mon 2026-11-23".to_string() };
         Some(sheet.with([(shown.name.range(), wrong)]))
     }),
     ("x is counted from another second than midnight", |sheet, random| {
-        let second = sheet.drawn.began.map_or(21_600, |began| u64::from(began.second));
+        let second = sheet.drawn.asked.began.map_or(21_600, |began| u64::from(began.second));
         sheet.at_x(random, |bar| (bar.from + DAY as u64 - second) % DAY as u64)
     }),
     ("lamps are numbered from 0", |sheet, random| {
@@ -446,6 +543,31 @@ impl<'a> Sheet<'a> {
         let bars = self.bars().into_iter().filter(|(_, drawn)| wrong(drawn) != right(drawn));
         let (bar, drawn) = any(bars.collect(), random)?;
         Some(self.with([(place(bar).range(), wrong(drawn))]))
+    }
+
+    /// A day's sum.
+    fn in_sum(&self, random: &mut Random, wrong: impl Fn(usize, &Drawn) -> u128) -> Option<String> {
+        let rows = self.page.rows.iter().zip(self.drawn.rows());
+        let sums = rows.filter_map(|(shown, row)| match (&shown.shown, row) {
+            (Shown::Picture(_, sum), Row::Day(day)) => Some((*sum, short(wrong(day, self.drawn)))),
+            _ => None,
+        });
+        let (sum, wrong) = any(sums.filter(|(sum, wrong)| sum.text != wrong).collect(), random)?;
+        Some(self.with([(sum.range(), wrong)]))
+    }
+
+    /// What is left of a lamp, or until when.
+    fn in_left(
+        &self,
+        random: &mut Random,
+        which: usize,
+        wrong: impl Fn(&Sum, &Drawn) -> Option<[String; 2]>,
+    ) -> Option<String> {
+        let totals = self.page.table.totals.iter().zip(&self.drawn.sums);
+        let cells = totals
+            .filter_map(|(total, sum)| Some((*total.cells.get(4 + which)?, wrong(sum, self.drawn)?[which].clone())));
+        let (cell, wrong) = any(cells.filter(|(cell, wrong)| cell.text != wrong).collect(), random)?;
+        Some(self.with([(cell.range(), wrong)]))
     }
 
     /// A lamp's number in that column of the table.

@@ -23,6 +23,7 @@ use crate::compare::random::Random;
 use crate::compare::shrink;
 use crate::logs::workers::on_all;
 use crate::logs::{Program, TRIES};
+pub use drawn::{Asked, values};
 use drawn::{Drawn, drawn};
 use making::FIXED;
 use mistakes::{MISTAKES, Sheet};
@@ -33,8 +34,8 @@ const LONG: usize = 1 << 20;
 /// What has to be shown of a log, or the number of a form that does not load.
 type Expected = Result<Drawn, u32>;
 
-pub fn expected(form: Option<&[u8]>, log: &[u8], began: Option<Moment>) -> Expected {
-    told(form, log).map(|told| drawn(told, began))
+pub fn expected(form: Option<&[u8]>, log: &[u8], asked: Asked) -> Expected {
+    told(form, log).map(|told| drawn(told, asked))
 }
 
 /// What is shown otherwise than it has to be.
@@ -72,13 +73,13 @@ fn given(drawn: &Expected, printed: &[u8], random: &mut Random) -> Result<Vec<us
 
 /// The logs of a seed, so many random ones, on all processors: what they met, or the first whose page shows something
 /// else, cut down.
-pub fn compare(program: &Program, seed: u64, count: usize, began: Option<Moment>) -> Result<Met, Box<Difference>> {
+pub fn compare(program: &Program, seed: u64, count: usize, asked: Asked) -> Result<Met, Box<Difference>> {
     let started = Started::new(program, Played::Burnt);
     let fault_of =
-        |case: &Case, number| fault(&expected(case.form(), &case.fed.log, began), &started.printed(case, number)).err();
+        |case: &Case, number| fault(&expected(case.form(), &case.fed.log, asked), &started.printed(case, number)).err();
     let met = on_all(FIXED + count, Met::default, |number, met| {
         let case = nth(seed, number);
-        let expected = expected(case.form(), &case.fed.log, began);
+        let expected = expected(case.form(), &case.fed.log, asked);
         let printed = started.printed(&case, number);
         if let Err(words) = fault(&expected, &printed) {
             return Err(Box::new(Difference { number, case, words }));

@@ -18,6 +18,12 @@ pub struct Page<'a> {
     pub hours: Vec<Hour<'a>>,
     pub rows: Vec<Row<'a>>,
     pub table: Table<'a>,
+    /// What it is of: terms, and what is said of them.
+    pub about: Vec<[Part<'a>; 2]>,
+    /// What a stripe says; the longest stretch; when the log ends.
+    pub legends: Vec<Paragraph<'a>>,
+    pub longest: Vec<Paragraph<'a>>,
+    pub ends: Vec<Paragraph<'a>>,
     /// Paragraphs that begin with `! `.
     pub strays: Vec<Paragraph<'a>>,
     /// Those that say neither this, nor what the page is, nor until when its log goes.
@@ -61,7 +67,8 @@ pub struct Row<'a> {
 #[derive(Debug)]
 pub enum Shown<'a> {
     Words(Part<'a>),
-    Picture(Picture<'a>),
+    /// And what of the day lamps burnt.
+    Picture(Picture<'a>, Part<'a>),
 }
 
 #[derive(Debug)]
@@ -89,6 +96,8 @@ pub struct Bar<'a> {
     pub title: Part<'a>,
     /// The title's element.
     pub titled: Range<usize>,
+    /// What lies along its middle, and is less high than it.
+    pub stripes: Vec<Rect<'a>>,
 }
 
 #[derive(Clone, Debug)]
@@ -115,8 +124,8 @@ pub struct Table<'a> {
 #[derive(Debug)]
 pub struct Total<'a> {
     pub range: Range<usize>,
-    /// The lamp; its seconds at the start, burnt, and now.
-    pub cells: [Part<'a>; 4],
+    /// The lamp; its seconds at the start, burnt, and now; maybe what is left, and until when.
+    pub cells: Vec<Part<'a>>,
 }
 
 pub fn read(text: &str) -> Result<Page<'_>, String> {
@@ -133,22 +142,36 @@ pub fn read(text: &str) -> Result<Page<'_>, String> {
     let paragraphs = paragraphs.filter(|said: &Result<_, String>| {
         !said.as_ref().is_ok_and(|said: &Paragraph| said.text.text.starts_with("The log goes until second "))
     });
-    let (strays, others) = paragraphs
-        .collect::<Result<Vec<_>, _>>()?
-        .into_iter()
-        .partition(|said: &Paragraph| said.text.text.starts_with("! "));
+    let mut others = paragraphs.collect::<Result<Vec<_>, _>>()?;
+    let mut taken = |start: &str| {
+        let (taken, left) = std::mem::take(&mut others).into_iter().partition(|said| said.text.text.starts_with(start));
+        others = left;
+        taken
+    };
+    let (strays, legends) = (taken("! "), taken("A bar with a stripe "));
+    let (longest, ends) = (taken("The longest burn "), taken("The log ends at "));
+    let about = all.iter().filter(|element| ["dt", "dd"].contains(&element.name)).collect::<Vec<_>>();
+    let about = about.chunks(2).map(|pair| match pair {
+        [term, said] if term.name == "dt" && said.name == "dd" => Ok([term.text()?, said.text()?]),
+        _ => Err("a term has nothing said of it".to_string()),
+    });
+    let about = about.collect::<Result<_, _>>()?;
     let tables: Vec<_> = all.iter().filter(|element| element.name == "table").collect();
     let [days, lamps] = tables[..] else { return Err("it has not just two tables".to_string()) };
     let (heads, rows) = parts(days)?;
     let heads = cells(heads)?;
-    let [_, _, hours] = heads[..] else { return Err(at(days, "its head has not three cells")) };
+    let [_, _, hours, burnt] = heads[..] else { return Err(at(days, "its head has not four cells")) };
+    if burnt.text()?.text != "burnt" {
+        return Err(at(burnt, "it does not head what lamps burnt"));
+    }
     let hours = hours.all().into_iter().filter(|element| element.name == "span").map(hour).collect::<Result<_, _>>()?;
     let rows = rows.into_iter().map(row).collect::<Result<_, _>>()?;
     let drawings = |element: &Element| element.all().iter().filter(|inside| inside.name == "svg").count();
     if drawings(&html) != drawings(days) {
         return Err("a drawing stands outside the table of the days".to_string());
     }
-    Ok(Page { first, hours, rows, table: table(lamps)?, strays, others, styles, closings })
+    let table = table(lamps)?;
+    Ok(Page { first, about, legends, longest, ends, hours, rows, table, strays, others, styles, closings })
 }
 
 /// The row of a table's head, and the rows below it. Each row of a table is in one of the two.
@@ -182,13 +205,13 @@ fn row<'a>(row: &Element<'a>) -> Result<Row<'a>, String> {
     let cells = cells(row)?;
     let (name, shown) = match cells[..] {
         [name, words] => (name, Shown::Words(words.text()?)),
-        [name, lamps, drawing] => {
+        [name, lamps, drawing, burnt] => {
             let [Node::Element(drawing)] = &drawing.inside[..] else {
                 return Err(at(drawing, "not just one drawing stands in it"));
             };
-            (name, Shown::Picture(picture(names(lamps)?, drawing)?))
+            (name, Shown::Picture(picture(names(lamps)?, drawing)?, burnt.text()?))
         }
-        _ => return Err(at(row, "it has not two cells or three")),
+        _ => return Err(at(row, "it has not two cells or four")),
     };
     Ok(Row { range: row.range.clone(), name: name.text()?, shown })
 }
@@ -229,9 +252,18 @@ fn picture<'a>(names: Vec<Label<'a>>, drawing: &Element<'a>) -> Result<Picture<'
         let title = element.elements().find(|inside| inside.name == "title");
         match (element.name, title) {
             ("rect", Some(title)) => {
-                bars.push(Bar { rect: rect(element)?, title: title.text()?, titled: title.range.clone() })
+                let (rect, titled) = (rect(element)?, title.range.clone());
+                bars.push(Bar { rect, title: title.text()?, titled, stripes: Vec::new() })
             }
-            ("rect", None) => lanes.push(lane(element)?),
+            ("rect", None) => {
+                let stripe = rect(element)?;
+                let is_on =
+                    |bar: &&mut Bar| bar.rect.edges.start < stripe.edges.start && stripe.edges.end < bar.rect.edges.end;
+                match bars.last_mut().filter(is_on) {
+                    Some(bar) => bar.stripes.push(stripe),
+                    None => lanes.push(lane(element)?),
+                }
+            }
             ("svg" | "g" | "title" | "path" | "line", _) => (),
             _ => return Err(at(element, "it is none of what a page is drawn of")),
         }
@@ -269,7 +301,7 @@ fn picture<'a>(names: Vec<Label<'a>>, drawing: &Element<'a>) -> Result<Picture<'
 impl<'a> Page<'a> {
     pub fn pictures(&self) -> impl Iterator<Item = &Picture<'a>> {
         self.rows.iter().filter_map(|row| match &row.shown {
-            Shown::Picture(picture) => Some(picture),
+            Shown::Picture(picture, _) => Some(picture),
             Shown::Words(_) => None,
         })
     }
@@ -326,10 +358,7 @@ fn lane<'a>(element: &Element<'a>) -> Result<Rect<'a>, String> {
 /// "Below stands a table".
 fn table<'a>(table: &Element<'a>) -> Result<Table<'a>, String> {
     let (heads, rows) = parts(table)?;
-    let total = |row: &Element<'a>| {
-        let cells = texts(row)?.try_into().map_err(|_| at(row, "it has not four cells"))?;
-        Ok(Total { range: row.range.clone(), cells })
-    };
+    let total = |row: &Element<'a>| Ok(Total { range: row.range.clone(), cells: texts(row)? });
     let totals = rows.into_iter().map(total).collect::<Result<_, String>>()?;
     Ok(Table { range: table.range.clone(), heads: texts(heads)?, totals })
 }

@@ -1,10 +1,16 @@
 //! Whether a page shows what it has to show.
 
-use super::drawn::{self, Drawn, Row, timed};
+use super::drawn::{self, Drawn, Row, short, timed};
 use super::html::Part;
-use super::read::{Bar, Page, Shown, number};
+use super::read::{Bar, Page, Paragraph, Shown, number};
 
 const HEADS: [&str; 4] = ["lamp", "at the start", "burnt", "now"];
+
+/// The heads of the table of the lamps.
+fn heads(drawn: &Drawn) -> Vec<String> {
+    let left = drawn.asked.life.map(|hours| [format!("left of {hours} h"), "until, at this log's pace".to_string()]);
+    HEADS.map(String::from).into_iter().chain(left.into_iter().flatten()).collect()
+}
 
 /// Along the top stands every third hour.
 const HOURS: u64 = 24;
@@ -12,13 +18,18 @@ const HOURS: u64 = 24;
 pub fn shows(page: &Page, drawn: &Drawn) -> Result<(), String> {
     hours(page, drawn)?;
     clock(page, drawn)?;
+    about(page, drawn)?;
+    said("what a stripe says", &page.legends, drawn.legend())?;
+    said("the longest burn", &page.longest, drawn.longest())?;
+    said("the log's end", &page.ends, Some(drawn.end()))?;
     let rows = drawn.rows();
     alike("rows of days", page.rows.len(), rows.len())?;
     for (shown, row) in page.rows.iter().zip(&rows) {
         says(shown.name, &drawn.name(row))?;
         match (&shown.shown, row) {
             (Shown::Words(words), Row::Idle(..)) => says(*words, "no lamp burnt")?,
-            (Shown::Picture(picture), Row::Day(day)) => {
+            (Shown::Picture(picture, burnt), Row::Day(day)) => {
+                says(*burnt, &short(drawn.burnt_in(*day)))?;
                 says(picture.label, &format!("when each lamp burnt on {}", drawn.day(*day)))?;
                 let lamps = &drawn.days[day - 1];
                 alike(&format!("bands in day {day}"), picture.bands.len(), lamps.len())?;
@@ -38,6 +49,19 @@ pub fn shows(page: &Page, drawn: &Drawn) -> Result<(), String> {
     totals(page, drawn)
 }
 
+/// The projector, as its settings have it.
+fn about(page: &Page, drawn: &Drawn) -> Result<(), String> {
+    let about = drawn.about();
+    alike("things that it is of", page.about.len(), about.len())?;
+    page.about.iter().flatten().zip(about.iter().flatten()).try_for_each(|(shown, words)| says(*shown, words))
+}
+
+/// One paragraph, or none.
+fn said(of: &str, shown: &[Paragraph], words: Option<String>) -> Result<(), String> {
+    alike(&format!("paragraphs of {of}"), shown.len(), words.iter().len())?;
+    shown.iter().zip(&words).try_for_each(|(shown, words)| says(shown.text, words))
+}
+
 /// "the hours 0 to 24 along the top", each at its share of a day's width.
 fn hours(page: &Page, drawn: &Drawn) -> Result<(), String> {
     let mut next = 0;
@@ -54,12 +78,12 @@ fn hours(page: &Page, drawn: &Drawn) -> Result<(), String> {
 
 /// Of the clock, or since the log began.
 pub fn hour_name(drawn: &Drawn, hour: u64) -> String {
-    if drawn.began.is_some() { format!("{hour:02}:00") } else { format!("+{hour} h") }
+    if drawn.asked.began.is_some() { format!("{hour:02}:00") } else { format!("+{hour} h") }
 }
 
 /// It says when the log began, or that it knows no clock.
 fn clock(page: &Page, drawn: &Drawn) -> Result<(), String> {
-    let words = match &drawn.began {
+    let words = match &drawn.asked.began {
         Some(began) => format!("The log began on {} at {}, and", began.day(1), began.time()),
         None => "This page knows no clock:".to_string(),
     };
@@ -74,7 +98,12 @@ fn clock(page: &Page, drawn: &Drawn) -> Result<(), String> {
 fn is_drawn(bar: &Bar, drawn: &drawn::Bar) -> Result<(), String> {
     says(bar.title, &drawn.title())?;
     is_number(bar.rect.x, drawn.from)?;
-    is_number(bar.rect.width, drawn.seconds())
+    is_number(bar.rect.width, drawn.seconds())?;
+    alike("stripes on a bar", bar.stripes.len(), usize::from(!drawn.note().is_empty()))?;
+    bar.stripes.iter().try_for_each(|stripe| {
+        is_number(stripe.x, drawn.from)?;
+        is_number(stripe.width, drawn.seconds())
+    })
 }
 
 /// "Bars have one colour on light grey".
@@ -91,6 +120,11 @@ fn colours(page: &Page) -> Result<(), String> {
         let fill = page.fill(&bar.rect)?;
         if is_light_grey(fill) || *first.get_or_insert(fill) != fill {
             return Err(format!("byte {}: a bar is {fill}", bar.rect.range.start));
+        }
+        for stripe in &bar.stripes {
+            if page.fill(stripe)? == fill {
+                return Err(format!("byte {}: a stripe is as its bar, {fill}", stripe.range.start));
+            }
         }
     }
     Ok(())
@@ -124,14 +158,16 @@ fn unplayed(page: &Page, drawn: &Drawn) -> Result<(), String> {
 }
 
 fn totals(page: &Page, drawn: &Drawn) -> Result<(), String> {
-    alike("heads of the table", page.table.heads.len(), HEADS.len())?;
-    page.table.heads.iter().zip(HEADS).try_for_each(|(head, words)| says(*head, words))?;
+    let heads = heads(drawn);
+    alike("heads of the table", page.table.heads.len(), heads.len())?;
+    page.table.heads.iter().zip(&heads).try_for_each(|(head, words)| says(*head, words))?;
     alike("lamps in the table", page.table.totals.len(), drawn.sums.len())?;
     for (place, (total, sum)) in page.table.totals.iter().zip(&drawn.sums).enumerate() {
         let times = [sum.start.into(), sum.burnt, sum.now.into()].map(timed);
-        let [lamp, cells @ ..] = total.cells;
-        says(lamp, &format!("lamp {}", place + 1))?;
-        cells.into_iter().zip(times).try_for_each(|(cell, time)| says(cell, &time))?;
+        let lamp = [format!("lamp {}", place + 1)];
+        let words: Vec<_> = lamp.into_iter().chain(times).chain(drawn.left(sum).into_iter().flatten()).collect();
+        alike("cells of a lamp", total.cells.len(), words.len())?;
+        total.cells.iter().zip(&words).try_for_each(|(cell, words)| says(*cell, words))?;
     }
     Ok(())
 }

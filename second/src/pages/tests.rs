@@ -1,21 +1,28 @@
 //! Pages drawn by hand, as RULES has them, and not as the program writes them.
 
-use super::drawn::{Row, timed};
+use super::drawn::{Row, short, timed};
 use super::*;
 
 /// What has to be seen, in words of its own.
 fn page(drawn: &Drawn) -> String {
-    let first = match &drawn.began {
+    let first = match &drawn.asked.began {
         Some(began) => format!("The log began on {} at {}, and on", began.day(1), began.time()),
         None => "This page knows no clock: none".to_string(),
     };
-    let mut page =
-        format!("<!doctype html><html><body><p>{first}</p>") + "<table><thead><tr><th>day</th><th>lamp</th><th>";
+    let mut page = format!("<!doctype html><html><style>\n.m{{fill:#123456}}\n</style><body><p>{first}</p><dl>");
+    for [term, said] in drawn.about() {
+        page += &format!("<dt>{term}</dt><dd>{said}</dd>");
+    }
+    page += "</dl>";
+    for said in drawn.legend().into_iter().chain(drawn.longest()).chain([drawn.end()]) {
+        page += &format!("<p>{said}</p>");
+    }
+    page += "<table><thead><tr><th>day</th><th>lamp</th><th>";
     for hour in (0..=24u32).step_by(3) {
         let name = shows::hour_name(drawn, hour.into());
         page += &format!("<span style='left:{}%'>{name}</span>", f64::from(hour) * 100.0 / 24.0);
     }
-    page += "</th></tr></thead><tbody>";
+    page += "</th><th>burnt</th></tr></thead><tbody>";
     for row in drawn.rows() {
         let Row::Day(day) = row else {
             page += &format!("<tr><th>{}</th><td>no lamp burnt</td></tr>", drawn.name(&row));
@@ -36,16 +43,26 @@ fn page(drawn: &Drawn) -> String {
                 let (x, width, title) = (bar.from, bar.seconds(), bar.title());
                 page += &format!("<rect y='{lane}' height='10' fill='#000000' x='{x}' width='{width}'>");
                 page += &format!("<title>{title}</title></rect>\n");
+                if !bar.note().is_empty() {
+                    let y = lane + 4;
+                    page += &format!("<rect y='{y}' height='2' fill='#ffffff' x='{x}' width='{width}'/>");
+                }
             }
         }
-        page += "</svg></td></tr>";
+        page += &format!("</svg></td><td>{}</td></tr>", short(drawn.burnt_in(day)));
     }
-    page +=
-        "</tbody></table><table><thead><tr><td>lamp</td><td>at the start</td><td>burnt</td><td>now</td></tr></thead>";
-    page += "<tbody>";
+    page += "</tbody></table><table><thead><tr><td>lamp</td><td>at the start</td><td>burnt</td><td>now</td>";
+    if let Some(hours) = drawn.asked.life {
+        page += &format!("<td>left of {hours} h</td><td>until, at this log's pace</td>");
+    }
+    page += "</tr></thead><tbody>";
     for (place, sum) in drawn.sums.iter().enumerate() {
         let [start, burnt, now] = [sum.start.into(), sum.burnt, sum.now.into()].map(timed);
-        page += &format!("<tr><td>lamp {}</td><td>{start}</td><td>{burnt}</td><td>{now}</td></tr>", place + 1);
+        page += &format!("<tr><td>lamp {}</td><td>{start}</td><td>{burnt}</td><td>{now}</td>", place + 1);
+        for cell in drawn.left(sum).into_iter().flatten() {
+            page += &format!("<td>{cell}</td>");
+        }
+        page += "</tr>";
     }
     page += "</tbody></table>";
     if let Some(words) = &drawn.stray {
@@ -64,7 +81,8 @@ fn pages_show_the_mistakes() {
     for number in (0..FIXED + 300).filter(|number| number + 1 != FIXED) {
         let case = nth(3, number);
         let began = if number % 2 == 0 { moment("2028-02-26T21:05:07") } else { None };
-        let expected = expected(case.form(), &case.fed.log, began);
+        let [long, life] = [number / 2 % 2, number / 4 % 2].map(|is| (is == 1).then_some(2 + number as u128 % 30));
+        let expected = expected(case.form(), &case.fed.log, Asked { began, long, life });
         let printed = match &expected {
             Ok(drawn) => page(drawn),
             Err(_) => String::new(),
@@ -83,7 +101,7 @@ fn pages_show_the_mistakes() {
 /// The page of one log is none of another.
 #[test]
 fn another_log() {
-    let drawn_on = |log: &str| expected(None, log.as_bytes(), None);
+    let drawn_on = |log: &str| expected(None, log.as_bytes(), Asked::default());
     let log = "O 00000000\nR %1POWR 1\nT 100\n";
     let right = drawn_on(log);
     let printed = page(right.as_ref().unwrap());
@@ -96,9 +114,9 @@ fn another_log() {
 /// A form that does not load has no page.
 #[test]
 fn no_page() {
-    let refused = expected(Some(b"\x04"), b"", None);
+    let refused = expected(Some(b"\x04"), b"", Asked::default());
     assert_eq!(fault(&refused, b""), Ok(()));
-    let page = page(expected(None, b"", None).as_ref().unwrap());
+    let page = page(expected(None, b"", Asked::default()).as_ref().unwrap());
     for printed in [&b"\n"[..], b"! 20\n", page.as_bytes()] {
         assert!(fault(&refused, printed).is_err());
     }
@@ -108,7 +126,7 @@ fn no_page() {
 #[test]
 fn a_difference_is_cut_down() {
     let cat = Program(vec!["sh".to_string(), "-c".to_string(), "cat".to_string()]);
-    let Err(difference) = compare(&cat, 1, 1, None) else { panic!("cat draws pages") };
+    let Err(difference) = compare(&cat, 1, 1, Asked::default()) else { panic!("cat draws pages") };
     assert_eq!(difference.case.form, None);
     assert_eq!(difference.case.fed.log, b"");
 }

@@ -6,5 +6,5 @@ use Rattle.report.proofs.days.put_bars.Given as goal
 
 abbrev pub invariant-loop-k : goal.invariant-loop-k
 invariant-loop-k g l = Appends (g.W.ByteSink.contents l.initial.out) (g.W.ByteSink.contents l.out)
-    (flat_map (λ k. bar_if (slice_index_or l.lit k false) l.p.whole.from l.p.whole.to l.p.x l.p.seconds k)
+    (flat_map (λ k. bar_if (slice_index_or l.lit k false) l.p.note l.p.whole.from l.p.whole.to l.p.x l.p.seconds k)
     (range_with_len 0 l.k))

@@ -12,9 +12,17 @@ returns-in_err-put_weekday g c =
     c.in_err-put_weekday.ensures)
     c.from_residual.ensures
 
+pub returns-in_err-put : goal.returns-in_err-put
+returns-in_err-put g c =
+    writes_then
+    (subst (WritesText _ _ _ _) (ap (λ n. weekday_name (weekday n)) c.saturating_add-number.ensures)
+    c.in_ok-put_weekday.ensures)
+    (writes_fails _ c.in_err-put.ensures c.from_residual-in_err-put.ensures)
+
 pub returns : goal.returns
 returns g c =
     writes_then
     (subst (WritesText _ _ _ _) (ap (λ n. weekday_name (weekday n)) c.saturating_add-number.ensures)
     c.in_ok-put_weekday.ensures)
-    (subst (WritesText _ _ _ _) (ap date_text c.after-date.ensures) c.put_date.ensures)
+    (writes_then c.in_ok-put.ensures
+    (subst (WritesText _ _ _ _) (ap date_text c.after-date.ensures) c.put_date.ensures))

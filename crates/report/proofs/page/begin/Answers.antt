@@ -7,22 +7,41 @@ unfolding page_begun
 returns-in_err-put_head g c =
     writes_fails _ c.in_err-put_head.ensures c.from_residual.ensures
 
+pub returns-in_err-put_about : goal.returns-in_err-put_about
+unfolding page_begun
+returns-in_err-put_about g c =
+    writes_then c.in_ok-put_head.ensures
+    (writes_fails _ c.in_err-put_about.ensures c.from_residual-in_err-put_about.ensures)
+
 pub returns-in_err-put_clock : goal.returns-in_err-put_clock
 unfolding page_begun
 returns-in_err-put_clock g c =
     writes_then c.in_ok-put_head.ensures
-    (writes_fails _ c.in_err-put_clock.ensures c.from_residual-in_err-put_clock.ensures)
+    (writes_then c.in_ok-put_about.ensures
+    (writes_fails _ c.in_err-put_clock.ensures c.from_residual-in_err-put_clock.ensures))
+
+pub returns-in_err-put_stripe_text : goal.returns-in_err-put_stripe_text
+unfolding page_begun
+returns-in_err-put_stripe_text g c =
+    writes_then c.in_ok-put_head.ensures
+    (writes_then c.in_ok-put_about.ensures
+    (writes_then c.in_ok-put_clock.ensures
+    (writes_fails _ c.in_err-put_stripe_text.ensures c.from_residual-in_err-put_stripe_text.ensures)))
 
 pub returns-in_err-put_head_of_days : goal.returns-in_err-put_head_of_days
 unfolding page_begun
 returns-in_err-put_head_of_days g c =
     writes_then c.in_ok-put_head.ensures
+    (writes_then c.in_ok-put_about.ensures
     (writes_then c.in_ok-put_clock.ensures
-    (writes_fails _ c.in_err-put_head_of_days.ensures c.from_residual-in_err-put_head_of_days.ensures))
+    (writes_then c.in_ok-put_stripe_text.ensures
+    (writes_fails _ c.in_err-put_head_of_days.ensures c.from_residual-in_err-put_head_of_days.ensures))))
 
 pub returns : goal.returns
 unfolding page_begun
 returns g c =
     writes_then c.in_ok-put_head.ensures
+    (writes_then c.in_ok-put_about.ensures
     (writes_then c.in_ok-put_clock.ensures
-    (writes_then c.in_ok-put_head_of_days.ensures c.put_hours.ensures))
+    (writes_then c.in_ok-put_stripe_text.ensures
+    (writes_then c.in_ok-put_head_of_days.ensures c.put_hours.ensures))))

@@ -2,45 +2,27 @@ use Rattle.textio.proofs.Fronts.{writes_then, writes_fails}
 use Rattle.report.specs.Frame.{page_ended_until}
 use Rattle.report.proofs.page.end_until.Goals as goal
 
-pub returns-in_err-end : goal.returns-in_err-end
+pub returns-in_err-end_days : goal.returns-in_err-end_days
 unfolding page_ended_until
-returns-in_err-end g c =
-    writes_fails _ (rw (c.days_until-last.ensures, c.at.ensures) at c.in_err-end.ensures) c.from_residual.ensures
-
-pub returns-in_err-close_days : goal.returns-in_err-close_days
-unfolding page_ended_until
-returns-in_err-close_days g c =
-    writes_then (rw (c.days_until-last.ensures, c.at.ensures) at c.in_ok-end.ensures)
-    (writes_fails _ c.in_err-close_days.ensures c.from_residual-in_err-close_days.ensures)
-
-pub returns-in_err-put_table : goal.returns-in_err-put_table
-unfolding page_ended_until
-returns-in_err-put_table g c =
-    writes_then (rw (c.days_until-last.ensures, c.at.ensures) at c.in_ok-end.ensures)
-    (writes_then c.in_ok-close_days.ensures
-    (writes_fails _ c.in_err-put_table.ensures c.from_residual-in_err-put_table.ensures))
+returns-in_err-end_days g c =
+    writes_fails _ c.in_err-end_days.ensures c.from_residual.ensures
 
 pub returns-in_err-put_until : goal.returns-in_err-put_until
 unfolding page_ended_until
 returns-in_err-put_until g c =
-    writes_then (rw (c.days_until-last.ensures, c.at.ensures) at c.in_ok-end.ensures)
-    (writes_then c.in_ok-close_days.ensures
-    (writes_then c.in_ok-put_table.ensures
-    (writes_fails _ c.in_err-put_until.ensures c.from_residual-in_err-put_until.ensures)))
+    writes_then c.in_ok-end_days.ensures
+    (writes_fails _ c.in_err-put_until.ensures c.from_residual-in_err-put_until.ensures)
 
 pub returns-in_err-put_paragraph : goal.returns-in_err-put_paragraph
 unfolding page_ended_until
 returns-in_err-put_paragraph g c =
-    writes_then (rw (c.days_until-last.ensures, c.at.ensures) at c.in_ok-end.ensures)
-    (writes_then c.in_ok-close_days.ensures
-    (writes_then c.in_ok-put_table.ensures
+    writes_then c.in_ok-end_days.ensures
     (writes_then c.in_ok-put_until.ensures
-    (writes_fails _ c.in_err-put_paragraph.ensures c.from_residual-in_err-put_paragraph.ensures))))
+    (writes_fails _ c.in_err-put_paragraph.ensures c.from_residual-in_err-put_paragraph.ensures))
 
 pub returns : goal.returns
 unfolding page_ended_until
 returns g c =
-    writes_then (rw (c.days_until-last.ensures, c.at.ensures) at c.in_ok-end.ensures)
-    (writes_then c.in_ok-close_days.ensures
-    (writes_then c.in_ok-put_table.ensures
-    (writes_then c.in_ok-put_until.ensures (writes_then c.in_ok-put_paragraph.ensures c.close.ensures))))
+    writes_then c.in_ok-end_days.ensures
+    (writes_then c.in_ok-put_until.ensures
+    (writes_then c.in_ok-put_paragraph.ensures c.close.ensures))
