@@ -10,7 +10,7 @@ abbrev pub face_number : ℕ
 face_number = 13
 
 abbrev pub version_said : List ℕ
-version_said = codes "13 of 2026-11-27 (rattle-kit-13f logic dac8208d650f15bf)"
+version_said = codes "13 of 2026-11-27 and later (rattle-kit-13f logic dac8208d650f15bf)"
 
 abbrev pub version_line : List ℕ
 version_line = version_said ++ codes "\n"

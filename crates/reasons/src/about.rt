@@ -14,12 +14,12 @@ pub fn face_number() -> u32
 pub fn about_text_in_c() -> &'static str
     ensures { result.now ≡ in_c about_text }
 {
-    "ceiling 13 of 2026-11-27 (rattle-kit-13f logic dac8208d650f15bf)\0"
+    "ceiling 13 of 2026-11-27 and later (rattle-kit-13f logic dac8208d650f15bf)\0"
 }
 
 /// The version of the face and the kit with LF, which the programs write after their names.
 pub fn version_line() -> &'static str
     ensures { result.now ≡ version_line }
 {
-    "13 of 2026-11-27 (rattle-kit-13f logic dac8208d650f15bf)\n"
+    "13 of 2026-11-27 and later (rattle-kit-13f logic dac8208d650f15bf)\n"
 }
