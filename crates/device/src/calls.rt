@@ -7,7 +7,6 @@ ghost use Rattle.record.specs.Refusals.{refusal_number};
 ghost use Rattle.device.specs.Calls.{received_at, opened_by, place_taken, closed_by, greeting, new_connection};
 ghost use Rattle.device.specs.Outcomes.{result_told, receiving_told, opening_told, opened_place};
 
-use crate::receiving::Taken;
 use crate::{places, receiving};
 use pjlink::greeting::Greeting;
 use record::legality::Legal;
@@ -63,11 +62,13 @@ pub fn receive(
     if places::is_shut(&device.connections[place]) {
         return Err(Refusal::Closed);
     }
-    let Taken { taken, reply } = receiving::take_in(
+    let mut reply = Line::new();
+    let taken = receiving::take_in(
         &device.settings,
         &mut device.own,
         &mut device.connections[place],
         bytes,
+        &mut reply,
     );
     Ok(Received {
         taken,

@@ -1,5 +1,5 @@
 // Receiving, on settings, the projector's own part and one connection.
-ghost use Rattle.std.specs.Prelude.{◌≡◌};
+ghost use Rattle.std.specs.Prelude.{◌≡◌, []};
 ghost use Rattle.device.specs.Ready.{IsReady};
 ghost use Rattle.device.specs.Receiving.{is_match, line_ended, phase_start, keeping_line, taken_in};
 ghost use Rattle.record.specs.Limits.{failed};
@@ -15,15 +15,6 @@ use text::{flag, rooms};
 use words::codec;
 
 const DIGEST_LONG: usize = 32;
-
-/// How many bytes are taken, and the reply to the line that they end: empty where there is none.
-#[derive(Drop)]
-pub struct Taken {
-    /// Bytes up to and including the first CR, or all where there is none.
-    pub taken: usize,
-    /// The bytes of the reply, with its CR; empty where none is due.
-    pub reply: codec::Line,
-}
 
 // The connection in another phase, with nothing collected.
 #[tactic(auto, using(stream::proofs::LinesSpelt::empty_spelt))]
@@ -55,35 +46,34 @@ fn matches(s: &Settings, c: &Connection, l: &Line) -> bool
         )
 }
 
-// What CR does; the reply, empty where there is none.
+// What CR does; the reply is put, or nothing where there is none.
 #[tactic(auto, unfolding(crate::specs::Receiving::line_ended))]
-fn end_line(s: &Settings, o: &mut Own, c: &mut Connection, l: &Line) -> codec::Line
-    requires { IsReady s.now o.old }
-    ensures reply { result.items ≡ (line_ended s.now o.old c.old l.now).reply }
+fn end_line(s: &Settings, o: &mut Own, c: &mut Connection, l: &Line, reply: &mut codec::Line)
+    requires ready { IsReady s.now o.old }
+    requires empty { reply.old.items ≡ [] }
+    ensures reply { reply.new.items ≡ (line_ended s.now o.old c.old l.now).reply }
     ensures own { o.new ≡ (line_ended s.now o.old c.old l.now).own }
     ensures connection { c.new ≡ (line_ended s.now o.old c.old l.now).connection }
 {
-    let mut reply = codec::Line::new();
     match c.phase() {
         Phase::Open { random } => {
             turn(c, Phase::Open { random });
             if !flag::is_raised(l.overlong) {
-                reply = answering::answer_line(s, o, rooms::first(&l.bytes, l.held));
+                answering::answer_line(s, o, rooms::first(&l.bytes, l.held), reply);
             }
         }
         Phase::Awaiting { random, .. } => {
             if matches(s, c, l) {
                 turn(c, Phase::Open { random });
                 let (_, line) = rooms::first(&l.bytes, l.held).split_at(DIGEST_LONG);
-                reply = answering::answer_line(s, o, line);
+                answering::answer_line(s, o, line, reply);
             } else {
                 fail(c);
-                Greeting::Refused.put(&mut reply);
+                Greeting::Refused.put(reply);
             }
         }
         Phase::Closed | Phase::Failed { .. } => (),
     }
-    reply
 }
 
 // A failed connection keeps no byte.
@@ -96,12 +86,20 @@ fn keep(c: &mut Connection, l: &Line)
     }
 }
 
-/// Takes the bytes up to and including the first CR, or all.
+/// Takes the bytes up to and including the first CR, or all: how many, and puts the reply to the line that they end,
+/// with its CR, or nothing where none is due.
 #[tactic(auto, using(record::proofs::PhaseSeen::phase_tests), unfolding(crate::specs::Receiving::taken_in))]
-pub fn take_in(s: &Settings, o: &mut Own, c: &mut Connection, bytes: &[u8]) -> Taken
-    requires { IsReady s.now o.old }
-    ensures taken { result.taken ≡ (taken_in s.now o.old c.old bytes.now).taken }
-    ensures reply { result.reply.items ≡ (taken_in s.now o.old c.old bytes.now).ended.reply }
+pub fn take_in(
+    s: &Settings,
+    o: &mut Own,
+    c: &mut Connection,
+    bytes: &[u8],
+    reply: &mut codec::Line,
+) -> usize
+    requires ready { IsReady s.now o.old }
+    requires empty { reply.old.items ≡ [] }
+    ensures taken { result ≡ (taken_in s.now o.old c.old bytes.now).taken }
+    ensures reply { reply.new.items ≡ (taken_in s.now o.old c.old bytes.now).ended.reply }
     ensures own { o.new ≡ (taken_in s.now o.old c.old bytes.now).ended.own }
     ensures connection { c.new ≡ (taken_in s.now o.old c.old bytes.now).ended.connection }
 {
@@ -109,14 +107,8 @@ pub fn take_in(s: &Settings, o: &mut Own, c: &mut Connection, bytes: &[u8]) -> T
     let passed = stream::gather(c.phase(), &mut line, bytes);
     if !passed.ended {
         keep(c, &line);
-        return Taken {
-            taken: passed.before,
-            reply: codec::Line::new(),
-        };
+        return passed.before;
     }
-    let reply = end_line(s, o, c, &line);
-    Taken {
-        taken: passed.before + 1,
-        reply,
-    }
+    end_line(s, o, c, &line, reply);
+    passed.before + 1
 }

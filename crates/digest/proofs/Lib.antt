@@ -9,3 +9,4 @@ mod Blocks
 pub mod Laws
 mod Vectors
 pub mod OneForm
+pub mod BothDigits

@@ -6,3 +6,4 @@ pub mod Md5
 pub mod Hex
 pub mod TestSuite
 pub mod Computing
+pub mod BothDigits

@@ -1,6 +1,7 @@
 // Numbers and bytes as lowercase hexadecimal digits, and numbers read from them.
 ghost use Rattle.std.specs.Prelude.{◌≡◌, ◌/◌, ◌%◌, ◌<◌, ◌≤◌, length};
 ghost use Rattle.digest.specs.Hex.{hex_digit, hex_of, hex_digits, hex_worth, hex_value};
+ghost use Rattle.digest.specs.BothDigits.{highs_of, lows_of};
 
 // The digit of x at a place p, a power of 16.
 #[tactic(auto, unfolding(crate::specs::Hex::hex_digit))]
@@ -12,11 +13,38 @@ fn digit(x: u32, p: u32) -> u8
     digits[(x / p % 16) as usize]
 }
 
-fn two(x: u8) -> [u8; 2]
+// Of each byte its higher digit, and its lower.
+static HIGHS: [u8; 256] = *b"\
+    0000000000000000111111111111111122222222222222223333333333333333\
+    4444444444444444555555555555555566666666666666667777777777777777\
+    88888888888888889999999999999999aaaaaaaaaaaaaaaabbbbbbbbbbbbbbbb\
+    ccccccccccccccccddddddddddddddddeeeeeeeeeeeeeeeeffffffffffffffff";
+
+static LOWS: [u8; 256] = *b"\
+    0123456789abcdef0123456789abcdef0123456789abcdef0123456789abcdef\
+    0123456789abcdef0123456789abcdef0123456789abcdef0123456789abcdef\
+    0123456789abcdef0123456789abcdef0123456789abcdef0123456789abcdef\
+    0123456789abcdef0123456789abcdef0123456789abcdef0123456789abcdef";
+
+fn highs() -> &'static [u8; 256]
+    ensures { result.now ≡ highs_of 0 256 }
+{
+    &HIGHS
+}
+
+fn lows() -> &'static [u8; 256]
+    ensures { result.now ≡ lows_of 0 256 }
+{
+    &LOWS
+}
+
+/// The two digits of a byte, the higher first.
+#[tactic(auto, using(crate::proofs::BothDigits::high_there, crate::proofs::BothDigits::low_there))]
+pub fn two(x: u8) -> [u8; 2]
     ensures { result ≡ hex_digits 2 x }
 {
-    let w = u32::from(x);
-    [digit(w, 0x10), digit(w, 1)]
+    let i = x as usize;
+    [highs()[i], lows()[i]]
 }
 
 /// Returns the eight digits of a number, the highest first.

@@ -106,6 +106,13 @@ pub fn hex8(x: u32) -> [u8; 8]
     digits::eight(x)
 }
 
+/// Returns the two lowercase hexadecimal digits of a byte, the higher first.
+pub fn hex2(x: u8) -> [u8; 2]
+    ensures { result ≡ hex_digits 2 x }
+{
+    digits::two(x)
+}
+
 /// Returns the number of at most eight hexadecimal digits; a byte that is no digit counts as 0.
 pub fn hex_value(s: &[u8]) -> u32
     requires fits { length s.now ≤ 8 }

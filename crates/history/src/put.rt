@@ -50,8 +50,7 @@ fn put_hex(out: &mut [u8], at: usize, s: &[u8])
     ensures { out.new ≡ sets out.old at (hex_text s.now) }
 {
     for i in 0..s.len() {
-        let digits = digest::hex8(s[i] as u32);
-        text::put(out, at + 2 * i, &[digits[6], digits[7]]);
+        text::put(out, at + 2 * i, &digest::hex2(s[i]));
     }
 }
 

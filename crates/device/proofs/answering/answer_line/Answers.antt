@@ -67,5 +67,5 @@ returns-clause-own c =
     let l = c.args.l.now in
     c.decide-reply.ensures.own
     ∙ ap (after_request s o)
-    (asks s o l c.requires.settings c.class.ensures _ c.in-Some.ensures.taken c.request-asked.ensures)
-    ∙ ap (λ a. a.own) (formed s o l c.requires.settings c.class.ensures _ c.in-Some.ensures.taken)
+    (asks s o l c.requires.ready.settings c.class.ensures _ c.in-Some.ensures.taken c.request-asked.ensures)
+    ∙ ap (λ a. a.own) (formed s o l c.requires.ready.settings c.class.ensures _ c.in-Some.ensures.taken)
