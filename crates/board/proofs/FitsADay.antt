@@ -4,10 +4,10 @@ use Rattle.std.proofs.Common.{ℕ, List, arith}
 use Rattle.std.proofs.lemmas.List.FromFn.{length-map-range_with_len}
 use Rattle.day.specs.Days.{IsDay}
 use Rattle.day.specs.Verdicts.{InRange}
-use Rattle.board.specs.Lists.{Lists, FitADay, jobs_in, rigs_in, plan_in}
+use Rattle.board.specs.Lists.{Lists, CanBeADay, jobs_in, rigs_in, plan_in}
 
-pub in_range_fits : (l : Lists) (a : List ℕ) → InRange (rigs_in l) (plan_in l a) → FitADay l
+pub in_range_fits : (l : Lists) (a : List ℕ) → InRange (rigs_in l) (plan_in l a) → CanBeADay l
 in_range_fits l a w = grind (arith, length-map-range_with_len)
 
-pub day_fits : (l : Lists) → IsDay (jobs_in l) (rigs_in l) → FitADay l
+pub day_fits : (l : Lists) → IsDay (jobs_in l) (rigs_in l) → CanBeADay l
 day_fits l w = grind (arith, length-map-range_with_len)

@@ -18,7 +18,7 @@ use Rattle.board.specs.Days.{flat_verdict, flat_plan, ChecksInto, Plans, PlansIn
 use Rattle.board.specs.Lamps.{not_compared, ComparesInto}
 use Rattle.board.specs.declared.days.FlatVerdict.{FlatVerdict}
 use Rattle.board.specs.declared.days.FlatPlan.{FlatPlan}
-use Rattle.board.specs.declared.lamps.Report.{Report}
+use Rattle.board.specs.declared.lamps.Comparison.{Comparison}
 
 -- the verdict that its numbers tell
 abbrev verdict_from : FlatVerdict → Result (Unit {0}) CheckError
@@ -52,7 +52,7 @@ pub one_flat_plan : (l : Lists) (out : List ℕ) (r s : FlatPlan) (m n : List �
     → PlansInto l out s n → (r ≡ s) × (m ≡ n)
 one_flat_plan l out r s m n (p, x, e, f) (q, y, g, h) = grind (arith, one_plan)
 
-pub one_report : (es ls : List ℕ) (out : List ℤ) (r s : Report) (m n : List ℤ) → ComparesInto es ls out r m
+pub one_report : (es ls : List ℕ) (out : List ℤ) (r s : Comparison) (m n : List ℤ) → ComparesInto es ls out r m
     → ComparesInto es ls out s n → (r ≡ s) × (m ≡ n)
 one_report es ls out r s m n h g = grind (arith, one_comparison)
 
@@ -61,6 +61,6 @@ pub plan_fits : (l : Lists) (room : ℕ) (ps : List Placement) → Plans l room 
 plan_fits l room ps h = grind (arith, length-map, length-map-range_with_len)
 
 -- a later table with one place more is not compared
-pub one_place_short : (out : List ℤ) (r : Report) (m : List ℤ) → ComparesInto (1 ∷ []) (1 ∷ 2 ∷ []) out r m
+pub one_place_short : (out : List ℤ) (r : Comparison) (m : List ℤ) → ComparesInto (1 ∷ []) (1 ∷ 2 ∷ []) out r m
     → (r ≡ not_compared) × (m ≡ out)
 one_place_short out r m h = grind arith

@@ -8,7 +8,7 @@ use Rattle.text.proofs.Choices.{if_yes, both_left, both_right}
 use Rattle.record.specs.Limits.{places_count}
 use Rattle.record.specs.Legal.{is_legal}
 use Rattle.record.specs.Record.{closed}
-use Rattle.record.specs.Places.{connection_at, is_shut, lowest_shut}
+use Rattle.record.specs.Places.{connection_at, is_closed, lowest_closed}
 use Rattle.record.specs.declared.types.Connection.{Connection}
 use Rattle.record.specs.declared.types.Device.{Device}
 use Rattle.record.proofs.Spelt.{closed_spelt}
@@ -17,7 +17,7 @@ use Rattle.device.specs.Calls.{Result, refused_by, reply_room, new_connection, r
 use Rattle.device.proofs.Cases.{received_by, closed_by_lem, greeted_by_lem}
 use Rattle.device.proofs.Numbers.{received_at-number, closed_number}
 use Rattle.ours.specs.Board.{ours}
-use Rattle.demands.specs.Calls.{Call, opens, closes, receives, passes, marks, reports, enables, after, run}
+use Rattle.demands.specs.Calls.{Call, opens, closes, receives, passes, faults, reports, enables, after, run}
 use Rattle.demands.specs.Beside.{ClosedOr}
 use Rattle.demands.proofs.CallsDo.{call_by, connection_at-served, connection_left, IsServed}
 use Rattle.demands.proofs.CallsKeep.{random_kept}
@@ -70,8 +70,8 @@ module _ (d : Device) (p r : ℕ) where
 closed_is_none : (r : ℕ) → is_of r closed ≡ false
 closed_is_none r = ap (λ (k : Connection). is_of r k) closed_spelt
 
-shut_is_none : (r : ℕ) (c : Connection) → is_shut c ≡ true → is_of r c ≡ false
-shut_is_none r c e = grind arith
+place_closed_is_none : (r : ℕ) (c : Connection) → is_closed c ≡ true → is_of r c ≡ false
+place_closed_is_none r c e = grind arith
 
 module _ (d : Device) where
   new_is_of : (s r : ℕ) → is_of r (new_connection d.settings s) ≡ (s == r)
@@ -81,8 +81,8 @@ module _ (d : Device) where
       → is_session (ours.opening d s m).device (ours.place_opened d s m) r ≡ (s == r)
   opened_is_session s r m =
       call_by d (opens s m) (λ g e. g.number ≡ 0 → is_session e g.place r ≡ (s == r)) (λ n some z. absurd (some z))
-      (λ h z. ap (is_of r) (connection_at-served d (opens s m) (lowest_shut d.connections) h
-      ∙ if_yes _ _ (eq-eqb (lowest_shut d.connections) (lowest_shut d.connections) refl)) ∙ new_is_of s r)
+      (λ h z. ap (is_of r) (connection_at-served d (opens s m) (lowest_closed d.connections) h
+      ∙ if_yes _ _ (eq-eqb (lowest_closed d.connections) (lowest_closed d.connections) refl)) ∙ new_is_of s r)
 
   pub closed_is_session : (p r : ℕ) → (ours.closing d p).number ≡ 0
       → is_session (ours.closing d p).device p r ≡ false
@@ -93,36 +93,36 @@ module _ (d : Device) where
   module _ (p r : ℕ) where
     -- whatever call comes on a live connection, it is closed then or of the same number
     kept_is_of : (k : Connection) → ClosedOr (connection_at d p).random k → is_live (connection_at d p) ≡ true
-        → (is_shut k ≡ true) ⊎ (is_of r k ≡ is_of r (connection_at d p))
+        → (is_closed k ≡ true) ⊎ (is_of r k ≡ is_of r (connection_at d p))
     kept_is_of k kept live = grind arith
 
     pub session_lasts : (c : Call) → is_session d p r ≡ true
-        → (is_shut (connection_at (after ours d c) p) ≡ true) ⊎ (is_session (after ours d c) p r ≡ true)
+        → (is_closed (connection_at (after ours d c) p) ≡ true) ⊎ (is_session (after ours d c) p r ≡ true)
     session_lasts c its = grind (arith, random_kept, kept_is_of)
 
     -- a closed place, where a call leaves it
-    module _ (none : is_shut (connection_at d p) ≡ true) where
+    module _ (none : is_closed (connection_at d p) ≡ true) where
       left_none : (c : Call) → IsServed d c → is_none_of r c ≡ true → is_of r (connection_left d c p) ≡ false
-      left_none (opens s m) h other = grind (arith, new_is_of, shut_is_none)
-      left_none (closes q) h other = grind (arith, closed_is_none, shut_is_none)
-      left_none (receives q bs m) h other = grind (arith, shut_is_none, eqb-true)
-      left_none (passes n) h other = grind (arith, shut_is_none, untimed_stays)
-      left_none (marks m) h other = shut_is_none r (connection_at d p) none
-      left_none (reports ds) h other = shut_is_none r (connection_at d p) none
-      left_none (enables k m) h other = shut_is_none r (connection_at d p) none
+      left_none (opens s m) h other = grind (arith, new_is_of, place_closed_is_none)
+      left_none (closes q) h other = grind (arith, closed_is_none, place_closed_is_none)
+      left_none (receives q bs m) h other = grind (arith, place_closed_is_none, eqb-true)
+      left_none (passes n) h other = grind (arith, place_closed_is_none, untimed_stays)
+      left_none (faults m) h other = place_closed_is_none r (connection_at d p) none
+      left_none (reports ds) h other = place_closed_is_none r (connection_at d p) none
+      left_none (enables k m) h other = place_closed_is_none r (connection_at d p) none
 
-      shut_stays_none : (c : Call) → is_none_of r c ≡ true → is_session (after ours d c) p r ≡ false
-      shut_stays_none c other =
-          call_by d c (λ g e. is_session e p r ≡ false) (λ n some. shut_is_none r (connection_at d p) none)
+      closed_stays_none : (c : Call) → is_none_of r c ≡ true → is_session (after ours d c) p r ≡ false
+      closed_stays_none c other =
+          call_by d c (λ g e. is_session e p r ≡ false) (λ n some. place_closed_is_none r (connection_at d p) none)
           (λ h. ap (is_of r) (connection_at-served d c p h) ∙ left_none c h other)
 
     live_stays_none : is_live (connection_at d p) ≡ true → is_session d p r ≡ false → (c : Call)
         → is_session (after ours d c) p r ≡ false
-    live_stays_none live other c = grind (arith, random_kept, kept_is_of, shut_is_none)
+    live_stays_none live other c = grind (arith, random_kept, kept_is_of, place_closed_is_none)
 
     pub stays_none : (c : Call) → is_none_of r c ≡ true → is_session d p r ≡ false
         → is_session (after ours d c) p r ≡ false
-    stays_none c none other = grind (arith, shut_stays_none, live_stays_none)
+    stays_none c none other = grind (arith, closed_stays_none, live_stays_none)
 
 pub over_for_good : (d : Device) (p r : ℕ) (cs : List Call) → is_session d p r ≡ false → are_none_of r cs ≡ true
     → is_session (run ours d cs) p r ≡ false
@@ -138,9 +138,9 @@ pub older_bytes : (d : Device) (p r : ℕ) (cs : List Call) (bs m : List ℕ)
     (t.number ≡ 0 → ⊥) × (t.taken ≡ 0) × (t.length ≡ 0) × (t.memory ≡ m) × (t.device ≡ e)
 older_bytes d p r cs bs m over none = others_bytes (run ours d cs) p r bs m (over_for_good d p r cs over none)
 
-pub shut_is_session : (d : Device) (p r : ℕ) → is_shut (connection_at d p) ≡ true → is_session d p r ≡ false
-shut_is_session d p r e = shut_is_none r (connection_at d p) e
+pub place_closed_is_session : (d : Device) (p r : ℕ) → is_closed (connection_at d p) ≡ true → is_session d p r ≡ false
+place_closed_is_session d p r e = place_closed_is_none r (connection_at d p) e
 
 pub ruleset naming = (own_bytes, own_closing, session_number, others_bytes, others_number, others_closing)
 
-pub ruleset standing = (opened_is_session, session_lasts, shut_is_session, over_for_good, older_bytes)
+pub ruleset standing = (opened_is_session, session_lasts, place_closed_is_session, over_for_good, older_bytes)

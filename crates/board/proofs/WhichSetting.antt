@@ -6,7 +6,7 @@ use Rattle.record.specs.declared.types.Device.{Device}
 use Rattle.record.specs.declared.set_up_error.SetUpError.{SetUpError}
 use Rattle.record.specs.Wanted.{Wanted}
 use Rattle.record.specs.SetUp.{first_out_of_range, set_up}
-use Rattle.record.specs.OutOfRange.{setting_place}
+use Rattle.record.specs.OutOfRange.{setting_position}
 use Rattle.record.specs.SetUpErrors.{setting_told, check_of}
 use Rattle.record.specs.Given.{set_up_given}
 use Rattle.record.specs.declared.types.Setting.{Setting}
@@ -30,7 +30,7 @@ module _ (w : Wanted) where
   pub set_up_which_3 : (set_up_given (set_up w)).number ≡ 3 → which ≡ setting_number (first_out_of_range w)
   set_up_which_3 e = ap setting_number (gives_3_first w e)
 
-  pub set_up_which_8 : (set_up_given (set_up w)).number ≡ 8 → which ≡ setting_place Password
+  pub set_up_which_8 : (set_up_given (set_up w)).number ≡ 8 → which ≡ setting_position Password
   set_up_which_8 e = ap setting_number (gives_8_password w e)
 
 -- what the check tells is what set-up tells

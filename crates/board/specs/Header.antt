@@ -17,9 +17,10 @@ use Rattle.day.specs.declared.check.CheckError.TheVariants as day
 use Rattle.words.specs.Numerals.{hours_most}
 use Rattle.words.specs.Texts.{name_most, info_most, input_name_most, password_most}
 use Rattle.pjlink.specs.Carried.{inputs_carried}
-use Rattle.record.specs.Limits.{text_room, listed_most, lamps_most, lamp_limit, volume_most, volume_start, stretch_most}
+use Rattle.record.specs.Limits.{text_room, listed_most, lamps_most, lamp_limit, volume_most, volume_start}
+use Rattle.record.specs.Limits.{transition_most}
 use Rattle.record.specs.Limits.{errors_count, line_room, places_count, age_end, off, on, cooling, warming}
-use Rattle.record.specs.Limits.{shut, awaiting, opened, failed}
+use Rattle.record.specs.Limits.{phase_closed, phase_awaiting, phase_open, phase_failed}
 use Rattle.record.specs.declared.refusal.Refusal.{Refusal}
 use Rattle.record.specs.declared.refusal.Refusal.TheVariants as device
 use Rattle.record.specs.declared.types.Setting.{Setting}
@@ -32,7 +33,7 @@ use Rattle.stored.specs.declared.error.LoadError.TheVariants as form
 use Rattle.device.specs.Calls.{reply_room}
 use Rattle.history.specs.Calls.{received_most}
 use Rattle.history.specs.Recording.{log_line_room}
-use Rattle.controller.specs.Reading.{Outcome, means_it, erra_said, not_a_line, other_command, disallowed}
+use Rattle.controller.specs.Reading.{ReadingOutcome, means_it, erra_said, not_a_line, other_command, disallowed}
 use Rattle.controller.specs.Writing.{command_room}
 use Rattle.controller.specs.declared.writing.Unwritten.{Unwritten}
 use Rattle.controller.specs.declared.writing.Unwritten.TheVariants as writer
@@ -42,8 +43,8 @@ use Rattle.panel.specs.Entries.{ungreeted, greeted_open, greeted_secured}
 use Rattle.panel.specs.Hearing.{HeardAs, greets, no_greeting, too_late, replies}
 use Rattle.panel.specs.LegalPanels.{panel_most}
 use Rattle.panel.specs.Stepping.{strays_most}
-use Rattle.panel.specs.declared.refusal.Refusal.{Refusal as PanelRefusal}
-use Rattle.panel.specs.declared.refusal.Refusal.TheVariants as panel
+use Rattle.panel.specs.declared.refusal.PanelRefusal.{PanelRefusal}
+use Rattle.panel.specs.declared.refusal.PanelRefusal.TheVariants as panel
 
 -- ---- numbers
 
@@ -91,7 +92,7 @@ abbrev pub unwritten_constant : Unwritten → Constant
 unwritten_constant writer.NoRoom = no_room
 unwritten_constant writer.OutOfRange = out_of_range
 
-abbrev pub outcome_constant : Outcome → Constant
+abbrev pub outcome_constant : ReadingOutcome → Constant
 outcome_constant means_it = served
 outcome_constant erra_said = served
 outcome_constant not_a_line = codes "PJ_NOT_A_LINE" equals 10
@@ -115,7 +116,7 @@ setting_constant (Some setting.Serial) = codes "PJ_SETTING_SERIAL" equals 10
 setting_constant (Some setting.Version) = codes "PJ_SETTING_VERSION" equals 11
 setting_constant (Some setting.Names) = codes "PJ_SETTING_NAMES" equals 12
 
-abbrev pub reply_constant : Outcome → Constant
+abbrev pub reply_constant : ReadingOutcome → Constant
 reply_constant means_it = codes "PJ_HEARD_REPLY" equals 2
 reply_constant erra_said = codes "PJ_HEARD_ERRA" equals 3
 reply_constant other_command = codes "PJ_HEARD_FOREIGN" equals 5
@@ -164,7 +165,7 @@ limits =
     ∷ (codes "PJ_LAMPS_MOST" equals 8 names lamps_most)
     ∷ (codes "PJ_LAMP_MOST" equals 359999999 names lamp_limit)
     ∷ (codes "PJ_HOURS_MOST" equals 99999 names hours_most)
-    ∷ (codes "PJ_WARM_COOL_MOST" equals 600 names stretch_most)
+    ∷ (codes "PJ_WARM_COOL_MOST" equals 600 names transition_most)
     ∷ (codes "PJ_VOLUME_MOST" equals 20 names volume_most)
     ∷ (codes "PJ_VOLUME_FIRST" equals 10 names volume_start)
     ∷ (codes "PJ_PLACES" equals 4 names places_count)
@@ -188,10 +189,10 @@ limits =
 
 abbrev pub phases : List Naming
 phases =
-    (codes "PJ_PHASE_CLOSED" equals 0 names shut)
-    ∷ (codes "PJ_PHASE_AWAITING" equals 1 names awaiting)
-    ∷ (codes "PJ_PHASE_OPEN" equals 2 names opened)
-    ∷ (codes "PJ_PHASE_FAILED" equals 3 names failed)
+    (codes "PJ_PHASE_CLOSED" equals 0 names phase_closed)
+    ∷ (codes "PJ_PHASE_AWAITING" equals 1 names phase_awaiting)
+    ∷ (codes "PJ_PHASE_OPEN" equals 2 names phase_open)
+    ∷ (codes "PJ_PHASE_FAILED" equals 3 names phase_failed)
     ∷ []
 
 abbrev pub powers_kept : List Naming

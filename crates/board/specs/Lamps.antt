@@ -8,21 +8,21 @@ use Rattle.std.specs.Prelude.{ℕ, ◌≡◌, ◌⊎◌, true, false, List, leng
 use Rattle.service.specs.ComparedHolds.{ComparedAs}
 use Rattle.service.specs.declared.CompareError.{CompareError}
 use Rattle.board.specs.Lists.{readings_in}
-use Rattle.board.specs.declared.lamps.Report.{Report}
+use Rattle.board.specs.declared.lamps.Comparison.{Comparison}
 
-abbrev pub not_compared : Report
+abbrev pub not_compared : Comparison
 not_compared = record { number = 3; backwards = false; place = 0 }
 
-abbrev pub report_of : Result (Option ℕ) CompareError → Report
+abbrev pub report_of : Result (Option ℕ) CompareError → Comparison
 report_of (Ok None) = record { number = 0; backwards = false; place = 0 }
 report_of (Ok (Some k)) = record { number = 0; backwards = true; place = k }
 report_of (Err _) = not_compared
 
 module _ (es ls : List ℕ) (out : List ℤ) where
-  abbrev pub Compares : Report → List ℤ → Type 0
+  abbrev pub Compares : Comparison → List ℤ → Type 0
   Compares r m =
       (c : Result (Option ℕ) CompareError) × ComparedAs (readings_in es ls) out c m × (r ≡ report_of c)
 
-  abbrev pub ComparesInto : Report → List ℤ → Type 0
+  abbrev pub ComparesInto : Comparison → List ℤ → Type 0
   ComparesInto r m =
       (length ls ≡ length es) × Compares r m ⊎ ¬ (length ls ≡ length es) × (r ≡ not_compared) × (m ≡ out)

@@ -19,8 +19,8 @@ use Rattle.ours.specs.Board.{Lent}
 use Rattle.board.specs.declared.results.Changed.{Changed}
 use Rattle.board.specs.declared.results.Receiving.{Receiving}
 use Rattle.board.specs.declared.results.Opening.{Opening}
-use Rattle.board.specs.declared.results.Received.{Received}
-use Rattle.board.specs.declared.results.Opened.{Opened}
+use Rattle.board.specs.declared.results.ReceivedByValue.{ReceivedByValue}
+use Rattle.board.specs.declared.results.OpenedByValue.{OpenedByValue}
 use Rattle.board.specs.declared.results.PanelChanged.{PanelChanged}
 use Rattle.board.specs.declared.results.PanelSent.{PanelSent}
 use Rattle.board.specs.declared.results.PanelHeard.{PanelHeard}
@@ -35,10 +35,10 @@ opening_of t p = record { number = t.number; length = t.length; place = p }
 abbrev pub writing_of : WrittenTold → Written
 writing_of t = record { number = t.number; length = t.length }
 
-abbrev pub received_of : Lent Device → Received
+abbrev pub received_of : Lent Device → ReceivedByValue
 received_of r = record { number = r.number; taken = r.taken; length = r.length; device = r.device }
 
-abbrev pub opened_of : Lent Device → ℕ → Opened
+abbrev pub opened_of : Lent Device → ℕ → OpenedByValue
 opened_of r p = record { number = r.number; length = r.length; place = p; device = r.device }
 
 abbrev pub changed_of : Given Device → Changed

@@ -13,9 +13,9 @@
 --   passing_of d g         the result of passing time on d that gave g
 -- Assumes nothing.
 use Rattle.std.specs.Prelude.{ℕ, ◌+◌, Bool, true, not, ◌&&◌, List, [], ◌∷◌, length, if◌then◌else◌, nat_lt, ◌==◌}
-use Rattle.text.specs.Rows.{Row, ◌when◌, by_rows}
+use Rattle.text.specs.Rows.{NumberRow, ◌when◌, by_rows}
 use Rattle.record.specs.Legal.{is_legal}
-use Rattle.record.specs.Places.{connection_at, is_shut}
+use Rattle.record.specs.Places.{connection_at, is_closed}
 use Rattle.record.specs.Given.{Given}
 use Rattle.record.specs.declared.types.Connection.{Connection}
 use Rattle.record.specs.declared.types.Device.{Device}
@@ -25,12 +25,12 @@ use Rattle.demands.specs.Calls.{Call, opens}
 use Rattle.board.specs.declared.sessions.Passing.{Passing}
 
 abbrev pub is_live : Connection → Bool
-is_live c = not (is_shut c)
+is_live c = not (is_closed c)
 
 abbrev pub is_session : Device → ℕ → ℕ → Bool
 is_session d p r = is_live (connection_at d p) && (connection_at d p).random == r
 
-abbrev pub session_rows : Device → ℕ → ℕ → ℕ → List Row
+abbrev pub session_rows : Device → ℕ → ℕ → ℕ → List NumberRow
 session_rows d p r room =
     (1 when not (is_legal d)) ∷ (2 when nat_lt room reply_room) ∷ (3 when is_no_place p)
     ∷ (4 when not (is_session d p r)) ∷ []
@@ -39,7 +39,7 @@ abbrev pub session_received : Device → ℕ → ℕ → List ℕ → List ℕ �
 session_received d p r bs m =
     by_rows (session_rows d p r (length m)) (λ n. lent_by (refused_by n d) m) (ours.receive d p bs m)
 
-abbrev pub session_closing_rows : Device → ℕ → ℕ → List Row
+abbrev pub session_closing_rows : Device → ℕ → ℕ → List NumberRow
 session_closing_rows d p r =
     (1 when not (is_legal d)) ∷ (3 when is_no_place p) ∷ (4 when not (is_session d p r)) ∷ []
 
@@ -63,7 +63,7 @@ abbrev pub bit_where : Bool → ℕ → ℕ
 bit_where t n = if t then n else 0
 
 abbrev pub is_closed_since : Device → Device → ℕ → Bool
-is_closed_since d e p = is_live (connection_at d p) && is_shut (connection_at e p)
+is_closed_since d e p = is_live (connection_at d p) && is_closed (connection_at e p)
 
 abbrev pub places_closed : Device → Device → ℕ
 places_closed d e =

@@ -2,9 +2,9 @@
 --   setting_number m
 -- Assumes nothing.
 use Rattle.std.specs.Prelude.{ℕ, Option, Some, None}
-use Rattle.record.specs.OutOfRange.{setting_place}
+use Rattle.record.specs.OutOfRange.{setting_position}
 use Rattle.record.specs.declared.types.Setting.{Setting}
 
 abbrev pub setting_number : Option Setting → ℕ
 setting_number None = 0
-setting_number (Some s) = setting_place s
+setting_number (Some s) = setting_position s

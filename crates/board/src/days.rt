@@ -106,7 +106,7 @@ impl DayLists<'_> {
             return Err(CheckError::OutOfRange);
         }
         // no room below for so many
-        if !self.fit_a_day() {
+        if !self.can_be_a_day() {
             return Err(CheckError::OutOfRange);
         }
         let mut plan = [NO_PLACEMENT; JOBS_MOST];
@@ -124,7 +124,7 @@ impl DayLists<'_> {
             return Err(PlanError::OutOfRange);
         }
         // no room below for so many
-        if !self.fit_a_day() {
+        if !self.can_be_a_day() {
             return Err(PlanError::OutOfRange);
         }
         let mut jobs = [NO_JOB; JOBS_MOST];

@@ -22,11 +22,11 @@ pub extern "C" fn pj_store_in_place(device: &Device, out: &mut [u8]) -> Written
 
 /// Writes the stored form of the record to the start of `out`, by value. Errors, in this order: 1, 2.
 #[unsafe(no_mangle)]
-pub extern "C" fn pj_store(d: Device, out: &mut [u8]) -> Written
-    ensures says { result ≡ writing_of (wrote_told (ours.store d out.old)) }
-    ensures written { out.new ≡ (ours.store d out.old).memory }
+pub extern "C" fn pj_store(device: Device, out: &mut [u8]) -> Written
+    ensures says { result ≡ writing_of (wrote_told (ours.store device out.old)) }
+    ensures written { out.new ≡ (ours.store device out.old).memory }
 {
-    Written::from(storing::store(&d, out))
+    Written::from(storing::store(&device, out))
 }
 
 /// Fills the record with the device of a stored form; with the blank record if the form is refused. Errors, in this

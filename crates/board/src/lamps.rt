@@ -9,7 +9,7 @@ use service::{CompareError, TABLE_MOST};
 /// lamp, 0 if there is none.
 #[repr(C)]
 #[derive(Clone, Copy)]
-pub struct Report {
+pub struct Comparison {
     /// 0; 3 if the tables cannot be compared (RULES, Service).
     pub number: u32,
     /// Whether some lamp has fewer seconds than before.
@@ -18,12 +18,12 @@ pub struct Report {
     pub place: usize,
 }
 
-impl Report {
+impl Comparison {
     // Of tables that are not compared.
-    fn not_compared() -> Report
+    fn not_compared() -> Comparison
         ensures { result ≡ not_compared }
     {
-        Report {
+        Comparison {
             number: 3,
             backwards: false,
             place: 0,
@@ -32,22 +32,22 @@ impl Report {
 }
 
 /// The answer in numbers; the differences are in the call's result list.
-impl From<Result<Option<usize>, CompareError>> for Report {
+impl From<Result<Option<usize>, CompareError>> for Comparison {
     ghost from_gives = { λ answer report. report ≡ report_of answer };
 
-    fn from(answer: Result<Option<usize>, CompareError>) -> Report {
+    fn from(answer: Result<Option<usize>, CompareError>) -> Comparison {
         match answer {
-            Ok(None) => Report {
+            Ok(None) => Comparison {
                 number: 0,
                 backwards: false,
                 place: 0,
             },
-            Ok(Some(place)) => Report {
+            Ok(Some(place)) => Comparison {
                 number: 0,
                 backwards: true,
                 place,
             },
-            Err(_) => Report::not_compared(),
+            Err(_) => Comparison::not_compared(),
         }
     }
 }
@@ -55,17 +55,17 @@ impl From<Result<Option<usize>, CompareError>> for Report {
 /// Compares two tables of lamp seconds, and writes the later minus the earlier of each place to the start of `out`
 /// (RULES, Service). Error: 3.
 #[unsafe(no_mangle)]
-pub extern "C" fn pj_compare_lamps(earlier: &[u32], later: &[u32], out: &mut [i64]) -> Report
+pub extern "C" fn pj_compare_lamps(earlier: &[u32], later: &[u32], out: &mut [i64]) -> Comparison
     ensures { ComparesInto earlier.now later.now out.old result out.new }
 {
     if later.len() != earlier.len() {
-        return Report::not_compared();
+        return Comparison::not_compared();
     }
     // no room below for so many
     if TABLE_MOST < earlier.len() {
-        return Report::from(Err(CompareError::TooMany));
+        return Comparison::from(Err(CompareError::TooMany));
     }
-    let mut readings = [lists::NO_READING; TABLE_MOST];
+    let mut readings = [lists::NO_LAMP_SECONDS; TABLE_MOST];
     lists::put_readings(earlier, later, &mut readings);
-    Report::from(service::compare(&readings[..earlier.len()], out))
+    Comparison::from(service::compare(&readings[..earlier.len()], out))
 }

@@ -1,11 +1,11 @@
 // The lists of a call, one for each field, as jobs, rigs, placements and readings: the element at a place has the
 // number there of each list.
 ghost use Rattle.std.specs.Prelude.{◌≡◌, ◌≤◌, ◌<◌, ◌↔◌, IsTrue, length, take, drop};
-ghost use Rattle.board.specs.Lists.{HaveOneLength, FitADay, job_at, jobs_in, rigs_in, plan_in, readings_in};
+ghost use Rattle.board.specs.Lists.{HaveOneLength, CanBeADay, job_at, jobs_in, rigs_in, plan_in, readings_in};
 ghost use Rattle.board.specs.Lent.{day_lists};
 
 use day::{JOBS_MOST, Job, Placement, RIGS_MOST, Rig};
-use service::Reading;
+use service::LampSeconds;
 
 /// All zero: the job at the places of an array that a call does not fill.
 pub const NO_JOB: Job = Job {
@@ -28,7 +28,7 @@ pub const NO_PLACEMENT: Placement = Placement {
 };
 
 /// All zero: the reading at the places of an array that a call does not fill.
-pub const NO_READING: Reading = Reading {
+pub const NO_LAMP_SECONDS: LampSeconds = LampSeconds {
     earlier: 0,
     later: 0,
 };
@@ -62,8 +62,8 @@ impl DayLists<'_> {
     }
 
     /// Whether there are no more jobs and rigs than a day has.
-    pub fn fit_a_day(&self) -> bool
-        ensures { IsTrue result ↔ FitADay (day_lists self.now) }
+    pub fn can_be_a_day(&self) -> bool
+        ensures { IsTrue result ↔ CanBeADay (day_lists self.now) }
     {
         self.starts.len() <= JOBS_MOST && self.warm.len() <= RIGS_MOST
     }
@@ -127,14 +127,14 @@ impl DayLists<'_> {
 }
 
 /// Writes the lamps' seconds at both readings to the start of `readings`.
-pub fn put_readings(earlier: &[u32], later: &[u32], readings: &mut [Reading])
+pub fn put_readings(earlier: &[u32], later: &[u32], readings: &mut [LampSeconds])
     requires alike { length later.now ≡ length earlier.now }
     requires room { length earlier.now ≤ length readings.old }
     ensures filled { take (length earlier.now) readings.new ≡ readings_in earlier.now later.now }
     ensures rest { drop (length earlier.now) readings.new ≡ drop (length earlier.now) readings.old }
 {
     for k in 0..earlier.len() {
-        readings[k] = Reading {
+        readings[k] = LampSeconds {
             earlier: earlier[k],
             later: later[k],
         };

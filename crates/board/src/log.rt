@@ -3,7 +3,7 @@
 ghost use Rattle.std.specs.Prelude.{◌≡◌, ◌≤◌, length, take, Ok};
 ghost use Rattle.text.specs.Words.{over};
 ghost use Rattle.text.specs.Outcomes.{told_written};
-ghost use Rattle.history.specs.Calls.{call_seen, opens, receives, passes, closes, marks, reports, enables};
+ghost use Rattle.history.specs.Calls.{call_seen, opens, receives, passes, closes, faults, reports, enables};
 ghost use Rattle.history.specs.Entries.{call, time_seen, entry_seen};
 ghost use Rattle.history.specs.Recording.{recorder_begun, header_next, recorded_by, recorder_after};
 ghost use Rattle.history.specs.Recording.{stated_by, stated_after};
@@ -14,7 +14,7 @@ ghost use Rattle.board.specs.Results.{writing_of};
 
 use crate::writer::Written;
 use device::calls::REPLY_ROOM;
-use history::call::Call;
+use history::call::RecordedCall;
 use history::entry::Entry;
 use history::read::Bytes;
 use history::recorder::Recorder;
@@ -23,7 +23,7 @@ use record::types::Device;
 use recorded::chain;
 use recorded::chain::Why;
 use text::numbered::Numbered;
-use words::errors::Errors;
+use words::errors::ErrorStatus;
 
 /// Returns the recorder of a log before its first file, for the stored form to which the log belongs. Refuses nothing.
 #[unsafe(no_mangle)]
@@ -63,7 +63,7 @@ fn byte_of(number: usize) -> u8
 }
 
 #[tactic(auto, unfolding(crate::specs::Logs::six_of))]
-fn six_of(digits: &[u8]) -> Errors
+fn six_of(digits: &[u8]) -> ErrorStatus
     ensures { result ≡ six_of digits.now }
 {
     match digits {
@@ -76,7 +76,7 @@ fn six_of(digits: &[u8]) -> Errors
 
 // The line of a call. Inlined, so that each export has the line of its own kind alone.
 #[inline(always)]
-fn record(log: &mut Recorder, made: &Call<'_>, out: &mut [u8]) -> Written
+fn record(log: &mut Recorder, made: &RecordedCall<'_>, out: &mut [u8]) -> Written
     ensures says { result
         ≡ writing_of (told_written (recorded_by log.old (call (call_seen made.now)) (length out.old))) }
     ensures kept { log.new ≡ recorder_after log.old (call (call_seen made.now)) (length out.old) }
@@ -101,7 +101,7 @@ pub extern "C" fn pj_log_opened(
     ensures written { out.new
         ≡ over (recorded_by log.old (call (opens place random)) (length out.old)).bytes out.old }
 {
-    record(log, &Call::Opens(byte_of(place), random), out)
+    record(log, &RecordedCall::Opens(byte_of(place), random), out)
 }
 
 /// Writes the line of a receive at this place, which took these bytes, 2,046 at most. Errors, in this order: 2, 3.
@@ -119,7 +119,7 @@ pub extern "C" fn pj_log_received(
     ensures written { out.new
         ≡ over (recorded_by log.old (call (receives place bytes.now)) (length out.old)).bytes out.old }
 {
-    record(log, &Call::Receives(byte_of(place), bytes), out)
+    record(log, &RecordedCall::Receives(byte_of(place), bytes), out)
 }
 
 /// Writes the line of the passing of `seconds` seconds. Errors, in this order: 2, 3.
@@ -131,7 +131,7 @@ pub extern "C" fn pj_log_passed(log: &mut Recorder, seconds: u32, out: &mut [u8]
     ensures written { out.new
         ≡ over (recorded_by log.old (call (passes seconds)) (length out.old)).bytes out.old }
 {
-    record(log, &Call::Passes(seconds), out)
+    record(log, &RecordedCall::Passes(seconds), out)
 }
 
 /// Writes the line of a closing at this place. Errors, in this order: 2, 3.
@@ -144,19 +144,19 @@ pub extern "C" fn pj_log_closed(log: &mut Recorder, place: usize, out: &mut [u8]
     ensures written { out.new
         ≡ over (recorded_by log.old (call (closes place)) (length out.old)).bytes out.old }
 {
-    record(log, &Call::Closes(byte_of(place)), out)
+    record(log, &RecordedCall::Closes(byte_of(place)), out)
 }
 
 /// Writes the line of a fault mark that was set or cleared. Errors, in this order: 2, 3.
 #[unsafe(no_mangle)]
 pub extern "C" fn pj_log_fault(log: &mut Recorder, mark: bool, out: &mut [u8]) -> Written
     ensures says { result
-        ≡ writing_of (told_written (recorded_by log.old (call (marks mark)) (length out.old))) }
-    ensures kept { log.new ≡ recorder_after log.old (call (marks mark)) (length out.old) }
+        ≡ writing_of (told_written (recorded_by log.old (call (faults mark)) (length out.old))) }
+    ensures kept { log.new ≡ recorder_after log.old (call (faults mark)) (length out.old) }
     ensures written { out.new
-        ≡ over (recorded_by log.old (call (marks mark)) (length out.old)).bytes out.old }
+        ≡ over (recorded_by log.old (call (faults mark)) (length out.old)).bytes out.old }
 {
-    record(log, &Call::Fault(mark), out)
+    record(log, &RecordedCall::Fault(mark), out)
 }
 
 /// Writes the line of six error digits that were set, each 0 to 2. Errors, in this order: 2, 3.
@@ -169,7 +169,7 @@ pub extern "C" fn pj_log_errors(log: &mut Recorder, digits: &[u8], out: &mut [u8
     ensures written { out.new
         ≡ over (recorded_by log.old (call (reports digits.now)) (length out.old)).bytes out.old }
 {
-    record(log, &Call::Errors(six_of(digits)), out)
+    record(log, &RecordedCall::Errors(six_of(digits)), out)
 }
 
 /// Writes the line of a lamp, numbered from 0, that was enabled or disabled. Errors, in this order: 2, 3.
@@ -187,7 +187,7 @@ pub extern "C" fn pj_log_mark(
     ensures written { out.new
         ≡ over (recorded_by log.old (call (enables lamp enabled)) (length out.old)).bytes out.old }
 {
-    record(log, &Call::Mark(byte_of(lamp), enabled), out)
+    record(log, &RecordedCall::Mark(byte_of(lamp), enabled), out)
 }
 
 /// Writes a stated line: the count of lines, the sum, and what the record shows. Errors, in this order: 1, 2, 3.

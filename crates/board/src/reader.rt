@@ -22,12 +22,12 @@ pub extern "C" fn pj_read_greeting(line: &[u8]) -> FlatGreeting
 /// Reads the reply to a command, with its CR. Errors, in this order: 3 for what is no command, 10, 11, 12.
 #[tactic(auto, using(controller::proofs::ReadShort::reading_short))]
 #[unsafe(no_mangle)]
-pub extern "C" fn pj_read_reply(k: Coded, line: &[u8]) -> FlatReading
-    ensures reading { result ≡ read_by (coded_command k) line.now }
-    ensures of_a_command { (c : Command) → coded_command k ≡ Some c
+pub extern "C" fn pj_read_reply(coded: Coded, line: &[u8]) -> FlatReading
+    ensures reading { result ≡ read_by (coded_command coded) line.now }
+    ensures of_a_command { (c : Command) → coded_command coded ≡ Some c
         → result ≡ flat_reading (ours.read_reply c line.now) }
 {
-    match k.command() {
+    match coded.command() {
         Some(command) => FlatReading::of(&reading::read_reply(command, line)),
         None => FlatReading::meaningless(3),
     }

@@ -37,7 +37,7 @@ pub struct Opening {
 /// What receiving returns by value.
 #[repr(C)]
 #[derive(Clone, Copy)]
-pub struct Received {
+pub struct ReceivedByValue {
     /// 0, or the number of the refusal: 1, 2, 3 or 4 (RULES, The numbers a call gives).
     pub number: u32,
     /// Bytes taken: up to and including the first CR, or all; 0 with a refusal.
@@ -51,7 +51,7 @@ pub struct Received {
 /// What opening returns by value.
 #[repr(C)]
 #[derive(Clone, Copy)]
-pub struct Opened {
+pub struct OpenedByValue {
     /// 0, or the number of the refusal: 1, 2 or 6 (RULES, The numbers a call gives).
     pub number: u32,
     /// Bytes of the greeting; 0 with a refusal.

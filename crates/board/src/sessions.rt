@@ -3,7 +3,7 @@
 ghost use Rattle.std.specs.Prelude.{◌≡◌, ◌<◌, ◌&&◌};
 ghost use Rattle.text.specs.Outcomes.{outcome_number};
 ghost use Rattle.record.specs.Limits.{places_count};
-ghost use Rattle.record.specs.Places.{connection_at, is_shut};
+ghost use Rattle.record.specs.Places.{connection_at, is_closed};
 ghost use Rattle.record.specs.Refusals.{refusal_number};
 ghost use Rattle.device.specs.Outcomes.{receiving_told};
 ghost use Rattle.ours.specs.Board.{ours};
@@ -16,7 +16,7 @@ use crate::projector;
 use crate::results::Receiving;
 use device::calls;
 use device::calls::{REPLY_ROOM, Received};
-use record::connection::SHUT;
+use record::connection::PHASE_CLOSED;
 use record::legality::Legal;
 use record::refusal::Refusal;
 use record::types::{Device, PLACES};
@@ -37,7 +37,7 @@ fn is_live(device: &Device, place: usize) -> bool
     requires { place < places_count }
     ensures { result ≡ is_live (connection_at device.now place) }
 {
-    device.connections[place].phase != SHUT
+    device.connections[place].phase != PHASE_CLOSED
 }
 
 // Whether the connection at a place that there is was opened with that number, and is not closed since.
@@ -117,7 +117,7 @@ pub extern "C" fn pj_close_session_in_place(device: &mut Device, place: usize, r
 // The bit of a place that is closed now, if it was live.
 fn bit_of(was: bool, device: &Device, place: usize, bit: u32) -> u32
     requires { place < places_count }
-    ensures { result ≡ bit_where (was && is_shut (connection_at device.now place)) bit }
+    ensures { result ≡ bit_where (was && is_closed (connection_at device.now place)) bit }
 {
     if was && !is_live(device, place) {
         bit

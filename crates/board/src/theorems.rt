@@ -5,7 +5,7 @@ ghost use Rattle.std.specs.Prelude.{Option, Some, None, Result, ◌<◌, ◌==�
 ghost use Rattle.text.specs.Rows.{first_of};
 ghost use Rattle.record.specs.Legal.{is_legal};
 ghost use Rattle.record.specs.Limits.{places_count};
-ghost use Rattle.record.specs.Places.{connection_at, is_shut};
+ghost use Rattle.record.specs.Places.{connection_at, is_closed};
 ghost use Rattle.record.specs.declared.types.Device.{Device};
 ghost use Rattle.device.specs.Calls.{reply_room};
 ghost use Rattle.ours.specs.Board.{ours};
@@ -18,7 +18,7 @@ ghost use Rattle.text.specs.Outcomes.{nothing_written, told_written};
 ghost use Rattle.controller.specs.Writing.{command_room};
 ghost use Rattle.controller.specs.Writing.{unwritten_number};
 ghost use Rattle.controller.specs.declared.writing.Unwritten.{Unwritten};
-ghost use Rattle.controller.specs.Reading.{Outcome, not_a_line, reading_outcome_number, read_reply};
+ghost use Rattle.controller.specs.Reading.{ReadingOutcome, not_a_line, reading_outcome_number, read_reply};
 ghost use Rattle.codes.specs.ByCode.{written_by, read_by};
 ghost use Rattle.codes.specs.Readings.{flat_greeting, no_reading};
 ghost use Rattle.pjlink.specs.Greetings.{greeting_number, read_greeting};
@@ -27,14 +27,14 @@ ghost use Rattle.day.specs.declared.plan.PlanError.{PlanError};
 ghost use Rattle.board.specs.Lists.{Lists};
 ghost use Rattle.board.specs.Days.{flat_verdict, flat_plan, ChecksInto, PlansInto};
 ghost use Rattle.board.specs.Lamps.{ComparesInto, not_compared};
-ghost use Rattle.board.specs.declared.lamps.Report.{Report};
+ghost use Rattle.board.specs.declared.lamps.Comparison.{Comparison};
 ghost use Rattle.board.specs.Results.{writing_of, panel_changed_of, panel_sent_of};
 ghost use Rattle.board.specs.declared.results.PanelChanged.{PanelChanged};
 ghost use Rattle.board.specs.declared.results.PanelSent.{PanelSent};
 ghost use Rattle.panel.specs.PanelCalls.{panel_made, no_panel, added_to, command_at, stepped_at, lost_at};
 ghost use Rattle.panel.specs.declared.types.Panel.{Panel};
 ghost use Rattle.panel.specs.Refusals.{panel_refusal_number};
-ghost use Rattle.panel.specs.declared.refusal.Refusal.{Refusal as PanelRefusal};
+ghost use Rattle.panel.specs.declared.refusal.PanelRefusal.{PanelRefusal};
 ghost use Rattle.record.specs.declared.types.Setting.{Setting};
 ghost use Rattle.record.specs.Refusals.{refusal_number};
 ghost use Rattle.record.specs.declared.refusal.Refusal.{Refusal};
@@ -56,7 +56,7 @@ ghost use Rattle.codes.specs.declared.readings.FlatGreeting.{FlatGreeting};
 ghost use Rattle.board.specs.declared.days.FlatVerdict.{FlatVerdict};
 ghost use Rattle.board.specs.declared.days.FlatPlan.{FlatPlan};
 ghost use Rattle.record.specs.Wanted.{Wanted};
-ghost use Rattle.record.specs.OutOfRange.{setting_place};
+ghost use Rattle.record.specs.OutOfRange.{setting_position};
 ghost use Rattle.record.specs.SetUp.{first_out_of_range, set_up};
 ghost use Rattle.record.specs.SetUpErrors.{set_up_error_number, setting_told};
 ghost use Rattle.record.specs.Given.{set_up_given};
@@ -78,7 +78,7 @@ pub fn the_header_names_the_numbers()
     ensures set_up_errors { (e : SetUpError) → set_up_error_number e ≡ (set_up_error_constant e).number }
     ensures load_errors { (e : LoadError) → load_error_number e ≡ (load_error_constant e).number }
     ensures unwritten { (r : Unwritten) → unwritten_number r ≡ (unwritten_constant r).number }
-    ensures readings { (o : Outcome) → reading_outcome_number o ≡ (outcome_constant o).number }
+    ensures readings { (o : ReadingOutcome) → reading_outcome_number o ≡ (outcome_constant o).number }
     ensures no_greeting { greeting_number None ≡ (outcome_constant not_a_line).number }
     ensures settings { (m : Option Setting) → setting_number m ≡ (setting_constant m).number }
     ensures rules { (v : Result (Unit {0}) CheckError) → (flat_verdict v).rule ≡ (rule_constant v).number }
@@ -120,13 +120,13 @@ pub fn the_setting_told_goes_with_the_number()
     ensures first_out { (w : Wanted) → (set_up_given (set_up w)).number ≡ 3
         → setting_number (setting_told (set_up w)) ≡ setting_number (first_out_of_range w) }
     ensures short_password { (w : Wanted) → (set_up_given (set_up w)).number ≡ 8
-        → setting_number (setting_told (set_up w)) ≡ setting_place Password }
+        → setting_number (setting_told (set_up w)) ≡ setting_position Password }
 {}
 
 /// A later table of one place more than the earlier one is not compared, and nothing is written (RULES, Service).
 #[tactic(auto, using(crate::proofs::OneOfLists::one_place_short))]
 pub fn a_place_more_is_not_compared()
-    ensures { (out : List ℤ) (r : Report) (m : List ℤ) → ComparesInto (1 ∷ []) (1 ∷ 2 ∷ []) out r m
+    ensures { (out : List ℤ) (r : Comparison) (m : List ℤ) → ComparesInto (1 ∷ []) (1 ∷ 2 ∷ []) out r m
         → (r ≡ not_compared) × (m ≡ out) }
 {}
 
@@ -145,7 +145,7 @@ pub fn one_result()
         → ChecksInto l a r → ChecksInto l a s → r ≡ s }
     ensures plan { (l : Lists) (out : List ℕ) (r s : FlatPlan) (m n : List ℕ)
         → PlansInto l out r m → PlansInto l out s n → (r ≡ s) × (m ≡ n) }
-    ensures comparison { (es ls : List ℕ) (out : List ℤ) (r s : Report) (m n : List ℤ)
+    ensures comparison { (es ls : List ℕ) (out : List ℤ) (r s : Comparison) (m n : List ℤ)
         → ComparesInto es ls out r m → ComparesInto es ls out s n → (r ≡ s) × (m ≡ n) }
     ensures panel_made { (r s : PanelChanged)
         → r ≡ panel_changed_of (panel_made no_panel) → s ≡ panel_changed_of (panel_made no_panel) → r ≡ s }
@@ -191,8 +191,8 @@ pub fn an_older_session_is_over()
     ensures opened { (d : Device) (s r : ℕ) (out : List ℕ) → (ours.opening d s out).number ≡ 0
         → is_session (ours.opening d s out).device (ours.place_opened d s out) r ≡ (s == r) }
     ensures lasts { (d : Device) (p r : ℕ) (c : Call) → is_session d p r ≡ true
-        → (is_shut (connection_at (after ours d c) p) ≡ true) ⊎ (is_session (after ours d c) p r ≡ true) }
-    ensures closed { (d : Device) (p r : ℕ) → is_shut (connection_at d p) ≡ true → is_session d p r ≡ false }
+        → (is_closed (connection_at (after ours d c) p) ≡ true) ⊎ (is_session (after ours d c) p r ≡ true) }
+    ensures closed { (d : Device) (p r : ℕ) → is_closed (connection_at d p) ≡ true → is_session d p r ≡ false }
     ensures over { (d : Device) (p r : ℕ) (calls : List Call) → is_session d p r ≡ false → are_none_of r calls ≡ true
         → is_session (run ours d calls) p r ≡ false }
     ensures older_bytes { (d : Device) (p r : ℕ) (calls : List Call) (bytes out : List ℕ)

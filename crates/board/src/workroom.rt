@@ -73,15 +73,15 @@ pub extern "C" fn pj_panel_add_in_place(panel: &mut Panel, password: &[u8]) -> u
 pub extern "C" fn pj_panel_command_in_place(
     panel: &mut Panel,
     projector: usize,
-    k: Coded,
+    coded: Coded,
     out: &mut [u8],
 ) -> Written
-    ensures says { result ≡ panel_sending_of (ours_panel.command panel.old projector k (length out.old)) }
-    ensures panel { panel.new ≡ (ours_panel.command panel.old projector k (length out.old)).panel }
-    ensures written { out.new ≡ over (ours_panel.command panel.old projector k (length out.old)).line
+    ensures says { result ≡ panel_sending_of (ours_panel.command panel.old projector coded (length out.old)) }
+    ensures panel { panel.new ≡ (ours_panel.command panel.old projector coded (length out.old)).panel }
+    ensures written { out.new ≡ over (ours_panel.command panel.old projector coded (length out.old)).line
         out.old }
 {
-    Written::from(panel.send(projector, k, out))
+    Written::from(panel.send(projector, coded, out))
 }
 
 /// Steps the panel on a line from a projector, with its CR. Errors, in this order: 1, 3.
@@ -135,10 +135,10 @@ pub extern "C" fn pj_panel_none() -> PanelChanged
 
 /// Adds a projector to the panel, by value. Errors, in this order: 1, 3.
 #[unsafe(no_mangle)]
-pub extern "C" fn pj_panel_add(p: Panel, password: &[u8]) -> PanelChanged
-    ensures { result ≡ panel_changed_of (ours_panel.add p password.now) }
+pub extern "C" fn pj_panel_add(copy: Panel, password: &[u8]) -> PanelChanged
+    ensures { result ≡ panel_changed_of (ours_panel.add copy password.now) }
 {
-    let mut panel = p;
+    let mut panel = copy;
     let number = pj_panel_add_in_place(&mut panel, password);
     PanelChanged { number, panel }
 }
@@ -146,17 +146,17 @@ pub extern "C" fn pj_panel_add(p: Panel, password: &[u8]) -> PanelChanged
 /// Writes the line of a command to a projector to the start of `out`, by value. Errors, in this order: 1, 2, 3, 9.
 #[unsafe(no_mangle)]
 pub extern "C" fn pj_panel_command(
-    p: Panel,
+    copy: Panel,
     projector: usize,
-    k: Coded,
+    coded: Coded,
     out: &mut [u8],
 ) -> PanelSent
-    ensures says { result ≡ panel_sent_of (ours_panel.command p projector k (length out.old)) }
-    ensures written { out.new ≡ over (ours_panel.command p projector k (length out.old)).line
+    ensures says { result ≡ panel_sent_of (ours_panel.command copy projector coded (length out.old)) }
+    ensures written { out.new ≡ over (ours_panel.command copy projector coded (length out.old)).line
         out.old }
 {
-    let mut panel = p;
-    let Written { number, length } = pj_panel_command_in_place(&mut panel, projector, k, out);
+    let mut panel = copy;
+    let Written { number, length } = pj_panel_command_in_place(&mut panel, projector, coded, out);
     PanelSent {
         number,
         length,
@@ -166,20 +166,20 @@ pub extern "C" fn pj_panel_command(
 
 /// Steps the panel on a line from a projector, with its CR, by value. Errors, in this order: 1, 3.
 #[unsafe(no_mangle)]
-pub extern "C" fn pj_panel_line(p: Panel, projector: usize, line: &[u8]) -> PanelChanged
-    ensures { result ≡ panel_changed_of (ours_panel.hear p projector line.now) }
+pub extern "C" fn pj_panel_line(copy: Panel, projector: usize, line: &[u8]) -> PanelChanged
+    ensures { result ≡ panel_changed_of (ours_panel.hear copy projector line.now) }
 {
-    let mut panel = p;
+    let mut panel = copy;
     let number = pj_panel_line_in_place(&mut panel, projector, line);
     PanelChanged { number, panel }
 }
 
 /// Records that the connection to a projector is gone, by value. Errors, in this order: 1, 3.
 #[unsafe(no_mangle)]
-pub extern "C" fn pj_panel_lost(p: Panel, projector: usize) -> PanelChanged
-    ensures { result ≡ panel_changed_of (ours_panel.lose p projector) }
+pub extern "C" fn pj_panel_lost(copy: Panel, projector: usize) -> PanelChanged
+    ensures { result ≡ panel_changed_of (ours_panel.lose copy projector) }
 {
-    let mut panel = p;
+    let mut panel = copy;
     let number = pj_panel_lost_in_place(&mut panel, projector);
     PanelChanged { number, panel }
 }

@@ -54,21 +54,21 @@ fn none_written(room: usize) -> Written
 /// Errors, in this order: 2; 3 for what is no command, and if `secured` for what is no password.
 #[unsafe(no_mangle)]
 pub extern "C" fn pj_write(
-    k: Coded,
+    coded: Coded,
     secured: bool,
     random: u32,
     password: &[u8],
     out: &mut [u8],
 ) -> Written
-    ensures says { result ≡ writing_of (told_written (written_by (coded_command k) secured random password.now
+    ensures says { result ≡ writing_of (told_written (written_by (coded_command coded) secured random password.now
         (length out.old))) }
-    ensures written { out.new ≡ over (written_by (coded_command k) secured random password.now
+    ensures written { out.new ≡ over (written_by (coded_command coded) secured random password.now
         (length out.old)).bytes out.old }
-    ensures of_a_command { (c : Command) → coded_command k ≡ Some c
+    ensures of_a_command { (c : Command) → coded_command coded ≡ Some c
         → (result ≡ writing_of (wrote_told (ours.write c secured random password.now out.old)))
         × (out.new ≡ (ours.write c secured random password.now out.old).memory) }
 {
-    match k.command() {
+    match coded.command() {
         Some(command) => Written::from(writing::write_command(
             command, secured, random, password, out,
         )),

@@ -12,7 +12,7 @@ use Rattle.floorlog.specs.Kept.{kept_lines}
 use Rattle.floorlog.specs.Kinds.{is_history, is_history_from}
 use Rattle.floorlog.specs.Observing.{BreaksOff}
 use Rattle.floorlog.specs.declared.kinds.ByKind.{ByKind}
-use Rattle.floorlog.specs.declared.kinds.Kind.TheVariants.{Unbegun}
+use Rattle.floorlog.specs.declared.kinds.LogKind.TheVariants.{Unbegun}
 use Rattle.floorlog.specs.Unplayed.{none_unplayed}
 use Rattle.recorded.specs.Following.{chain_begun}
 use Rattle.watch.specs.Telling.{floor_unplayed}

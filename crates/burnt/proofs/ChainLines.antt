@@ -18,7 +18,7 @@ use Rattle.recorded.specs.Following.{belonging, FirstStray, stray_from, stray_te
 use Rattle.recorded.proofs.Followed.{line_said, belonging_more, belonging_stray, stray_more, stray_here}
 use Rattle.watch.specs.CallSteps.{said_seconds, seconds_of_said, entry_step, entry_steps}
 use Rattle.watch.specs.Watching.{Step, Watching, is_burning_in, is_long}
-use Rattle.watch.specs.Telling.{telling_if, after_log}
+use Rattle.watch.specs.Telling.{lit_stretch_if, after_log}
 use Rattle.watch.specs.States.{IsLeft, IsLineMade, IsLineStray}
 use Rattle.report.specs.Reports.{report_told, told_text, ended_until}
 use Rattle.report.specs.declared.Report.{Report}
@@ -39,12 +39,12 @@ module _ (starts : List ℕ) (n : ℕ) (stray : Option FirstStray) (r : Report) 
   report_at_end st o from to false = r
 
   text_is : (s : Watching) (b : Bool)
-      → tellings_text r (telling_if b s) ≡ text_at_end s.device.settings s.device.own s.from s.time b
+      → tellings_text r (lit_stretch_if b s) ≡ text_at_end s.device.settings s.device.own s.from s.time b
   unfolding tellings_text
   text_is s true = refl
   text_is s false = refl
 
-  report_is : (s : Watching) (b : Bool) → report_after r (telling_if b s)
+  report_is : (s : Watching) (b : Bool) → report_after r (lit_stretch_if b s)
       ≡ report_at_end s.device.settings s.device.own s.from s.time b
   unfolding report_after
   report_is s true = refl
@@ -99,9 +99,9 @@ module _ (starts : List ℕ) (n : ℕ) (log : Recorder) (r : Report) (s : Watchi
       pub counted : n + length (m.entry ∷ es) ≡ n + 1 + length es
       counted = omega arith
 
-      pub made_told : {next : Report} → next ≡ report_after r (telling_if ended after)
+      pub made_told : {next : Report} → next ≡ report_after r (lit_stretch_if ended after)
           → chain_told_from starts None n log r s (l ∷ ls)
-          ≡ tellings_text r (telling_if ended after) ++ chain_told_from starts None (n + 1) later next after ls
+          ≡ tellings_text r (lit_stretch_if ended after) ++ chain_told_from starts None (n + 1) later next after ls
       made_told {next} told =
           let end = chain_ended starts (n + 1 + length es) (stray_from (n + 1) later after.device ls) in
           (λ i. told_from (chain_ended starts (n + length (entries i)) (stray i)) r s
@@ -110,14 +110,15 @@ module _ (starts : List ℕ) (n : ℕ) (log : Recorder) (r : Report) (s : Watchi
           (chain_ended starts (counted i) (stray_from (n + 1) later after.device ls)) r s
           (entry_step s.device m.entry ∷ steps))
           ∙ step_told m.watched steps r told end
-          ∙ (λ i. tellings_text r (telling_if ended after) ++ told_from end next after (entry_steps (sym device i) es))
+          ∙ (λ i. tellings_text r (lit_stretch_if ended after)
+          ++ told_from end next after (entry_steps (sym device i) es))
 
       -- only some of what ended with it could be told
-      pub made_cut : {old new : Option (List ℕ)} → WritesFront old new (tellings_text r (telling_if ended after))
+      pub made_cut : {old new : Option (List ℕ)} → WritesFront old new (tellings_text r (lit_stretch_if ended after))
           → WritesFront old new (chain_told_from starts None n log r s (l ∷ ls))
       made_cut {old} {new} f = subst (WritesFront old new) (sym (made_told refl)) (front_more old new _ _ f)
 
-      pub made_reported : {next last : Report} → next ≡ report_after r (telling_if ended after)
+      pub made_reported : {next last : Report} → next ≡ report_after r (lit_stretch_if ended after)
           → last ≡ report_after next (told_within after (entry_steps after.device es))
           → last ≡ report_after r (told_within s (entry_steps s.device (belonging log s.device (l ∷ ls))))
       made_reported {next} told h =

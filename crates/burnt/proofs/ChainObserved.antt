@@ -17,7 +17,7 @@ use Rattle.recorded.specs.declared.stray.StrayLine.{StrayLine}
 use Rattle.recorded.proofs.Followed.{belonging_stray, stray_here}
 use Rattle.watch.specs.CallSteps.{said_seconds, entry_steps}
 use Rattle.watch.specs.Watching.{Watching}
-use Rattle.watch.specs.Telling.{telling_if, after_log}
+use Rattle.watch.specs.Telling.{lit_stretch_if, after_log}
 use Rattle.watch.specs.States.{IsLeft, IsLineMade, IsLineStray, state_of}
 use Rattle.watch.proofs.TellingsSpelt.{after_none}
 use Rattle.burnt.specs.Told.{tellings_text, report_after, told_from, told_within}
@@ -98,7 +98,7 @@ module _ (t : ChainTeller) (l : LogLine) where
 
   pub belongs_cut : stray_now t ≡ None → {after : Watching} {later : Recorder} {ended : Bool}
       → IsLineMade (state_of t.watch) t.log l after later ended
-      → {old new : Option (List ℕ)} → WritesFront old new (tellings_text t.report (telling_if ended after))
+      → {old new : Option (List ℕ)} → WritesFront old new (tellings_text t.report (lit_stretch_if ended after))
       → (ls : List LogLine) → WritesFront old new (teller_writes t (l ∷ ls))
   belongs_cut none m {old} {new} f ls =
       subst (λ (o : Option FirstStray). WritesFront old new
@@ -129,13 +129,13 @@ module _ (t : ChainTeller) (l : LogLine) where
       belongs_overflow ls (inl h) = inl (omega (arith, h, lines))
       belongs_overflow ls (inr h) = inr (omega (arith, h, time ls))
 
-      module _ (reported : u.report ≡ report_after t.report (telling_if ended (state_of u.watch))) where
+      module _ (reported : u.report ≡ report_after t.report (lit_stretch_if ended (state_of u.watch))) where
         belongs_then : (ls : List LogLine) → teller_writes t (l ∷ ls)
-            ≡ tellings_text t.report (telling_if ended (state_of u.watch)) ++ teller_writes u ls
+            ≡ tellings_text t.report (lit_stretch_if ended (state_of u.watch)) ++ teller_writes u ls
         belongs_then ls =
             (λ i. chain_told_from t.starts (none_before i) t.lines t.log t.report (state_of t.watch) (l ∷ ls))
             ∙ made_told t.starts t.lines t.log t.report (state_of t.watch) l ls m reported
-            ∙ sym (λ i. tellings_text t.report (telling_if ended (state_of u.watch))
+            ∙ sym (λ i. tellings_text t.report (lit_stretch_if ended (state_of u.watch))
             ++ chain_told_from (starts i) (none i) (lines i) u.log u.report (state_of u.watch) ls)
 
         belongs_left : (ls : List LogLine) (last : ChainTeller) → IsChainLeft u ls last → IsChainLeft t (l ∷ ls) last
@@ -158,7 +158,7 @@ module _ (t : ChainTeller) (l : LogLine) where
         }
 
         pub belongs : {old new : Option (List ℕ)}
-            → Appends old new (tellings_text t.report (telling_if ended (state_of u.watch)))
+            → Appends old new (tellings_text t.report (lit_stretch_if ended (state_of u.watch)))
             → Observes teller_writes IsChainLeft ChainOverflows t u l old new
         belongs written = record {
           text = _;

@@ -12,13 +12,13 @@ use Rattle.textio.specs.Lines.{LogLine, texts_of, lines_of, lines_in, IsTooLong}
 use Rattle.textio.proofs.LinesCounted.{lines_fit, too_long_bytes}
 use Rattle.textio.proofs.Fronts.{front_more}
 use Rattle.floorlog.specs.Kept.{kept, kept_lines}
-use Rattle.watch.specs.Marking.{FloorEvent, floor_event, floor_step, floor_steps, done_by, seconds_by}
+use Rattle.watch.specs.Marking.{WatchedLogEvent, floor_event, floor_step, floor_steps, done_by, seconds_by}
 use Rattle.watch.specs.Marking.{watched_answer}
 use Rattle.floorlog.specs.Unplayed.{none_unplayed, why_misread, line_noted, said_line, unplayed_by}
 use Rattle.floorlog.specs.declared.unplayed.Unplayed.{Unplayed}
 use Rattle.floorlog.proofs.UnplayedBy.{unplayed_none, unplayed_more, said_kept}
 use Rattle.watch.specs.Watching.{Step, Watching, watching_from}
-use Rattle.watch.specs.Telling.{floor_events, floor_unplayed, telling_if, told_at_end, after_log}
+use Rattle.watch.specs.Telling.{floor_events, floor_unplayed, lit_stretch_if, told_at_end, after_log}
 use Rattle.watch.specs.States.{IsWatched, state_of}
 use Rattle.watch.proofs.LinesKept.{floor_events_kept, floor_event_of_front}
 use Rattle.watch.proofs.TellingsSpelt.{after_none, seconds_most_lem}
@@ -29,7 +29,7 @@ use Rattle.burnt.specs.declared.telling.Teller.{Teller}
 use Rattle.burnt.proofs.TellingsTold.{report_within_none, told_none}
 use Rattle.burnt.proofs.LinesTold.{step_left, step_told, step_reported, text_so_far}
 
-module _ (s : Watching) (e : FloorEvent) (es : List FloorEvent) where
+module _ (s : Watching) (e : WatchedLogEvent) (es : List WatchedLogEvent) where
   -- the seconds of a line cannot be counted
   pub line_uncounted : 2 ^ 64 ≤ s.time + seconds_by e → 2 ^ 64 ≤ s.time + sum_by seconds_by (e ∷ es)
   line_uncounted h = omega (arith, h, sum_by-cons seconds_by e es)
@@ -53,14 +53,15 @@ module _ (s : Watching) (e : FloorEvent) (es : List FloorEvent) where
 
     module _ (r : Report) where
       pub line_told : (end : Report → Watching → List ℕ) {then : Report}
-          → then ≡ report_after r (telling_if ended after)
+          → then ≡ report_after r (lit_stretch_if ended after)
           → told_from end r s (floor_steps s.device (e ∷ es))
-          ≡ tellings_text r (telling_if ended after) ++ told_from end then after (floor_steps after.device es)
+          ≡ tellings_text r (lit_stretch_if ended after) ++ told_from end then after (floor_steps after.device es)
       line_told end {then} told =
           step_told w steps r told end
-          ∙ ap (λ (l : List Step). tellings_text r (telling_if ended after) ++ told_from end then after l) (sym same)
+          ∙ ap (λ (l : List Step). tellings_text r (lit_stretch_if ended after)
+          ++ told_from end then after l) (sym same)
 
-      pub line_reported : {then last : Report} → then ≡ report_after r (telling_if ended after)
+      pub line_reported : {then last : Report} → then ≡ report_after r (lit_stretch_if ended after)
           → last ≡ report_after then (told_within after (floor_steps after.device es))
           → last ≡ report_after r (told_within s (floor_steps s.device (e ∷ es)))
       line_reported {then} told h =
@@ -69,7 +70,7 @@ module _ (s : Watching) (e : FloorEvent) (es : List FloorEvent) where
 
       -- only some of what ended with it could be told
       pub line_cut : (end : Report → Watching → List ℕ) {old new : Option (List ℕ)}
-          → WritesFront old new (tellings_text r (telling_if ended after))
+          → WritesFront old new (tellings_text r (lit_stretch_if ended after))
           → WritesFront old new (told_from end r s (floor_steps s.device (e ∷ es)))
       line_cut end {old} {new} f =
           subst (WritesFront old new) (sym (line_told end refl)) (front_more old new _ _ f)
@@ -201,8 +202,8 @@ pub line_more : (t : Teller) (line : LogLine) (ls : List LogLine) {unplayed : Un
     → IsWatched (state_of t.watch) (floor_step t.watch.tested.device (floor_event line.text)) after ended
     → unplayed ≡ line_noted t.unplayed (t.lines + 1) (why_misread line.text)
     (watched_answer t.watch.tested.device (floor_event line.text))
-    → then ≡ report_after t.report (telling_if ended after)
-    → teller_told t (line ∷ ls) ≡ tellings_text t.report (telling_if ended after)
+    → then ≡ report_after t.report (lit_stretch_if ended after)
+    → teller_told t (line ∷ ls) ≡ tellings_text t.report (lit_stretch_if ended after)
     ++ told_from (totals_text t.starts (unplayed_by watched_answer done_by unplayed lines after.device
     (map (said_line floor_event) (texts_of ls)))) then after
     (floor_steps after.device (map floor_event (texts_of ls)))

@@ -26,7 +26,7 @@ use Rattle.recorded.proofs.FollowedSays.{Says, followed_says}
 use Rattle.recorded.proofs.HostsEnd.{host_log_ends}
 use Rattle.watch.specs.CallSteps.{entry_steps}
 use Rattle.watch.specs.Watching.{watching_from, burnt_by}
-use Rattle.watch.specs.Telling.{tellings, after_log}
+use Rattle.watch.specs.Telling.{lit_stretches, after_log}
 use Rattle.stretches.specs.LogTold.{StepsTold}
 use Rattle.stretches.proofs.CallsTell.{is_legal-begun_by}
 use Rattle.stretches.proofs.WholeLogTold.{entries_watched}
@@ -129,7 +129,7 @@ module _ (b : Beginning) (w : Wanted) (h : IsAccepted ours b w) (sum : ℕ) (way
       let count : min end.device.settings.lamp_count 8 ≡ length w.lamps
       = ap (λ (n : ℕ). min n 8) t.count ∙ omega (arith, eight) in
       record {
-        told = tellings (watching_from d) es;
+        told = lit_stretches (watching_from d) es;
         seconds = end.time;
         lines = 0 + length s.es;
         starts = d.own.lamps;
@@ -137,8 +137,8 @@ module _ (b : Beginning) (w : Wanted) (h : IsAccepted ours b w) (sum : ℕ) (way
         lasts = end.device.own.lamps;
         written = told_is d sum way log f all
             ∙ (λ i. begun_text way
-            ++ (tellings_text way (tellings (watching_from d) es)
-            ++ ended_until (report_after way (tellings (watching_from d) es)) end.time (count i)
+            ++ (tellings_text way (lit_stretches (watching_from d) es)
+            ++ ended_until (report_after way (lit_stretches (watching_from d) es)) end.time (count i)
             d.own.lamps (burnt_by end) end.device.own.lamps (0 + length s.es)
             (option_map stray_text (chain_stray d sum log))));
         stretches = t.stretches;

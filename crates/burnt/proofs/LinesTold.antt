@@ -11,8 +11,8 @@ use Rattle.textio.specs.Fronts.{WritesFront}
 use Rattle.textio.specs.Lines.{LogLine}
 use Rattle.floorlog.specs.Observing.{BreaksOff}
 use Rattle.textio.proofs.Fronts.{front_then, front_more}
-use Rattle.watch.specs.Watching.{Step, Watching, dark_with, is_long}
-use Rattle.watch.specs.Telling.{told_on, telling_if, after_log}
+use Rattle.watch.specs.Watching.{Step, Watching, is_dark_with, is_long}
+use Rattle.watch.specs.Telling.{told_on, lit_stretch_if, after_log}
 use Rattle.watch.specs.States.{IsWatched}
 use Rattle.watch.proofs.TellingsSpelt.{after_more}
 use Rattle.report.specs.declared.Report.{Report}
@@ -24,18 +24,18 @@ module _ {s : Watching} {e : Step} {after : Watching} {ended : Bool} (w : IsWatc
   pub step_left : after_log after es ≡ after_log s (e ∷ es)
   step_left = ap (λ (x : Watching). after_log x es) w.state ∙ sym (after_more s e es)
 
-  told_is : telling_if ended after ≡ told_on s e
+  told_is : lit_stretch_if ended after ≡ told_on s e
   told_is =
-      ap (λ (b : Bool). telling_if b after) w.told
-      ∙ ap (λ (x : Watching). telling_if (dark_with s x.device && is_long x) x) w.state
+      ap (λ (b : Bool). lit_stretch_if b after) w.told
+      ∙ ap (λ (x : Watching). lit_stretch_if (is_dark_with s x.device && is_long x) x) w.state
 
-  module _ (r : Report) {then : Report} (told : then ≡ report_after r (telling_if ended after)) where
+  module _ (r : Report) {then : Report} (told : then ≡ report_after r (lit_stretch_if ended after)) where
     pub step_told : (end : Report → Watching → List ℕ)
-        → told_from end r s (e ∷ es) ≡ tellings_text r (telling_if ended after) ++ told_from end then after es
+        → told_from end r s (e ∷ es) ≡ tellings_text r (lit_stretch_if ended after) ++ told_from end then after es
     step_told end =
         told_more end r s e es
         ∙ (λ i. let ts = sym told_is i in tellings_text r ts ++ told_from end (report_after r ts) (sym w.state i) es)
-        ∙ ap (λ (q : Report). tellings_text r (telling_if ended after) ++ told_from end q after es) (sym told)
+        ∙ ap (λ (q : Report). tellings_text r (lit_stretch_if ended after) ++ told_from end q after es) (sym told)
 
     pub step_reported : {last : Report} → last ≡ report_after then (told_within after es)
         → last ≡ report_after r (told_within s (e ∷ es))

@@ -3,13 +3,13 @@
 use Rattle.std.proofs.Common.{ℕ, ◌≡◌, refl, sym, ap, ◌∙◌, List, [], ◌∷◌, ◌++◌, append_assoc}
 use Rattle.clock.specs.Second.{marks_in}
 use Rattle.watch.specs.Watching.{Step, Watching, watched_on}
-use Rattle.watch.specs.Telling.{Telling, told_on, told_at_end, tellings, after_log}
+use Rattle.watch.specs.Telling.{LitStretch, told_on, told_at_end, lit_stretches, after_log}
 use Rattle.watch.proofs.TellingsSpelt.{tellings_none, tellings_more, after_none, after_more}
 use Rattle.report.specs.Reports.{report_told, told_text}
 use Rattle.report.specs.declared.Report.{Report}
 use Rattle.burnt.specs.Told.{tellings_text, report_after, told_from, told_within}
 
-text_append : (r : Report) (ts us : List Telling)
+text_append : (r : Report) (ts us : List LitStretch)
     → tellings_text r (ts ++ us) ≡ tellings_text r ts ++ tellings_text (report_after r ts) us
 unfolding tellings_text report_after
 text_append r [] us = refl
@@ -19,7 +19,7 @@ text_append r (t ∷ ts) us =
     let then = report_told r lit t.from t.to in
     ap (λ (l : List ℕ). first ++ l) (text_append then ts us) ∙ sym (append_assoc first (tellings_text then ts) _)
 
-report_append : (r : Report) (ts us : List Telling)
+report_append : (r : Report) (ts us : List LitStretch)
     → report_after r (ts ++ us) ≡ report_after (report_after r ts) us
 unfolding report_after
 report_append r [] us = refl
@@ -35,7 +35,7 @@ module _ (end : Report → Watching → List ℕ) (r : Report) (s : Watching) wh
       ≡ tellings_text r (told_on s e) ++ told_from end (report_after r (told_on s e)) (watched_on s e) es
   told_more e es =
       let now = told_on s e in
-      let later = tellings (watched_on s e) es in
+      let later = lit_stretches (watched_on s e) es in
       (λ i. let ts = tellings_more s e es i in
       tellings_text r ts ++ end (report_after r ts) (after_more s e es i))
       ∙ (λ i. text_append r now later i

@@ -15,11 +15,11 @@ use Rattle.std.specs.Prelude.{Option, Some, None, option_map}
 use Rattle.record.specs.Wanted.{Wanted}
 use Rattle.ours.specs.Board.{ours}
 use Rattle.demands.specs.CountsSeconds.{Beginning, IsAccepted, start_marks, begun_by, history_of}
-use Rattle.demands.specs.History.{Event, burning_seconds, lamp_with}
+use Rattle.demands.specs.History.{HistoryEvent, burning_seconds, lamp_with}
 use Rattle.recorded.specs.Chain.{unended}
 use Rattle.recorded.specs.Following.{chain_begun, FirstStray, stray_text}
 use Rattle.recorded.specs.Hosts.{HostStep, host_log, step_calls, AreKept, AreTypedSteps}
-use Rattle.watch.specs.Telling.{Telling}
+use Rattle.watch.specs.Telling.{LitStretch}
 use Rattle.stretches.specs.LogTold.{stretches_in}
 use Rattle.stretches.specs.Stretches.{StretchesTell}
 use Rattle.report.specs.Reports.{begun_text, ended_until}
@@ -27,9 +27,9 @@ use Rattle.report.specs.declared.Report.{Report}
 use Rattle.burnt.specs.Told.{tellings_text, report_after}
 use Rattle.burnt.specs.ChainTold.{chain_told, chain_stray}
 
-pub record HistoryTold (b : Beginning) (w : Wanted) (hs : List Event) (way : Report) (stray : Option FirstStray)
+pub record HistoryTold (b : Beginning) (w : Wanted) (hs : List HistoryEvent) (way : Report) (stray : Option FirstStray)
     (text : List ℕ) : Type 0 where
-  pub told : List Telling
+  pub told : List LitStretch
   pub seconds : ℕ
   pub lines : ℕ
   pub starts : List ℕ

@@ -18,26 +18,26 @@ use Rattle.textio.specs.Lines.{IsTooLong}
 use Rattle.floorlog.specs.Unplayed.{unplayed_text}
 use Rattle.floorlog.specs.declared.unplayed.Unplayed.{Unplayed}
 use Rattle.watch.specs.Watching.{Step, Watching, watching_from, watched_on, burnt_by}
-use Rattle.watch.specs.Telling.{log_steps, Telling, told_on, tellings, after_log, floor_unplayed, IsUncounted}
+use Rattle.watch.specs.Telling.{log_steps, LitStretch, told_on, lit_stretches, after_log, floor_unplayed, IsUncounted}
 use Rattle.report.specs.Reports.{begun_text, report_told, told_text, ended_text}
 use Rattle.report.specs.declared.Report.{Report}
 
-unfoldable pub tellings_text : Report → List Telling → List ℕ
+unfoldable pub tellings_text : Report → List LitStretch → List ℕ
 tellings_text r [] = []
 tellings_text r (t ∷ ts) =
     let lit = marks_in t.device.settings t.device.own in
     told_text r lit t.from t.to ++ tellings_text (report_told r lit t.from t.to) ts
 
-unfoldable pub report_after : Report → List Telling → Report
+unfoldable pub report_after : Report → List LitStretch → Report
 report_after r [] = r
 report_after r (t ∷ ts) = report_after (report_told r (marks_in t.device.settings t.device.own) t.from t.to) ts
 
-unfoldable pub told_within : Watching → List Step → List Telling
+unfoldable pub told_within : Watching → List Step → List LitStretch
 told_within s [] = []
 told_within s (e ∷ es) = told_on s e ++ told_within (watched_on s e) es
 
 abbrev pub told_from : (Report → Watching → List ℕ) → Report → Watching → List Step → List ℕ
-told_from end r s es = let ts = tellings s es in tellings_text r ts ++ end (report_after r ts) (after_log s es)
+told_from end r s es = let ts = lit_stretches s es in tellings_text r ts ++ end (report_after r ts) (after_log s es)
 
 -- ---- of a log of the first kind
 

@@ -13,18 +13,18 @@ use history::read::Bytes;
 use history::recorder::Recorder;
 use record::types::Device;
 use recorded::stray::{StrayLine, StrayText};
-use report::lamps::LAMPS;
 use report::{Report, Until};
 use std::io;
 use textio::lines::Failure;
 use textio::writer::ByteSink;
 use watch::Watch;
+use words::lamp::LAMPS_MOST;
 
 // What stands last: the seconds of each lamp, and what is said of a line that does not belong.
 fn tell_end<W: ByteSink>(
     report: Report,
     watch: &Watch,
-    starts: [u32; LAMPS],
+    starts: [u32; LAMPS_MOST],
     lines: u64,
     stray: Option<StrayLine>,
     to: &mut W,
@@ -49,7 +49,7 @@ fn tell_end<W: ByteSink>(
 pub struct ChainTeller {
     watch: Watch,
     report: Report,
-    starts: [u32; LAMPS],
+    starts: [u32; LAMPS_MOST],
     log: Recorder,
     lines: u64,
     stray: Option<StrayLine>,

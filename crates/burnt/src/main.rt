@@ -14,7 +14,7 @@ ghost use Rattle.burnt.specs.Asked.{query_of, report_for};
 ghost use Rattle.burnt.specs.LogTold.{told, stray_in, unplayed_in, IsTooMuch};
 ghost use Rattle.command.specs.Asked.{asked_seen};
 
-use command::asked::{Command, Shape};
+use command::asked::{Arguments, Shape};
 use formfile::Begun;
 use program::about::About;
 use program::outside::System;
@@ -25,7 +25,7 @@ use report::Report;
 use report::page::{Projector, Query, Sheet};
 use std::process::ExitCode;
 use textio::lines::Failure;
-use textio::reader::{ByteSource, Reader};
+use textio::reader::{BufferedReader, ByteSource};
 use textio::writer::ByteSink;
 
 const USAGE: &str = "usage: burnt [--page | --csv] [OPTION..] [FORM] [LOG..]\n";
@@ -59,7 +59,7 @@ history.
 ";
 
 // What is asked of a page or a table of a log that begins with that device.
-fn query_of(command: &Command<'_>, begun: &Device) -> Query
+fn query_of(command: &Arguments<'_>, begun: &Device) -> Query
     ensures { result ≡ query_of (asked_seen command.now) begun.now }
 {
     Query {
@@ -75,7 +75,7 @@ fn query_of(command: &Command<'_>, begun: &Device) -> Query
 }
 
 // How such a log is told.
-fn report_for(command: &Command<'_>, begun: &Device) -> Report
+fn report_for(command: &Arguments<'_>, begun: &Device) -> Report
     ensures { result ≡ report_for (asked_seen command.now) begun.now }
 {
     match command.shape {
@@ -99,8 +99,8 @@ impl Telling for Burnt {
     fn tell<R: ByteSource, W: ByteSink>(
         &self,
         begun: &Begun,
-        command: &Command<'_>,
-        from: &mut Reader<R>,
+        command: &Arguments<'_>,
+        from: &mut BufferedReader<R>,
         to: &mut W,
     ) -> Result<Ending, Failure> {
         telling::tell_log(

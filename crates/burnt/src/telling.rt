@@ -11,7 +11,7 @@ ghost use Rattle.floorlog.specs.Kinds.{is_history_from};
 ghost use Rattle.recorded.specs.Following.{stray_seen};
 ghost use Rattle.floorlog.specs.Unplayed.{none_unplayed, said_line, unplayed_by};
 ghost use Rattle.watch.specs.Marking.{floor_event, floor_steps, seconds_by, done_by, watched_answer};
-ghost use Rattle.watch.specs.Telling.{telling_if, after_log};
+ghost use Rattle.watch.specs.Telling.{lit_stretch_if, after_log};
 ghost use Rattle.watch.specs.Watching.{watching_from, burnt_by};
 ghost use Rattle.watch.specs.States.{state_of};
 ghost use Rattle.burnt.specs.Told.{tellings_text, report_after, totals_text, told_from, told_within};
@@ -26,14 +26,15 @@ use floorlog::unplayed::{Unplayed, UnplayedText};
 use program::telling::Ending;
 use record::types::Device;
 use report::Report;
-use report::lamps::{LAMPS, Totals};
+use report::lamps::Totals;
 use report::page::Stretch;
 use std::io;
 use text::{flag, rooms};
 use textio::lines::Failure;
-use textio::reader::{ByteSource, Reader};
+use textio::reader::{BufferedReader, ByteSource};
 use textio::writer::ByteSink;
 use watch::Watch;
+use words::lamp::LAMPS_MOST;
 
 /// The stretches that ended, if any did.
 #[tactic(auto, unfolding(crate::specs::Told::tellings_text, crate::specs::Told::report_after))]
@@ -43,9 +44,9 @@ pub fn tell_ended<W: ByteSink>(
     watch: &Watch,
     to: &mut W,
 ) -> io::Result<()>
-    ensures report { OnOk result (report.new ≡ report_after report.old (telling_if ended (state_of watch.now))) }
+    ensures report { OnOk result (report.new ≡ report_after report.old (lit_stretch_if ended (state_of watch.now))) }
     ensures text { WritesText W.fails_with (W.contents to.old) (W.contents to.new) result
-        (tellings_text report.old (telling_if ended (state_of watch.now))) }
+        (tellings_text report.old (lit_stretch_if ended (state_of watch.now))) }
 {
     if !ended {
         return Ok(());
@@ -61,7 +62,7 @@ pub fn tell_ended<W: ByteSink>(
 }
 
 /// The seconds of each lamp, in all, of a log that began with these.
-pub fn totals_of(watch: &Watch, starts: [u32; LAMPS]) -> Totals
+pub fn totals_of(watch: &Watch, starts: [u32; LAMPS_MOST]) -> Totals
     ensures count { result.count ≡ min watch.now.tested.device.settings.lamp_count 8 }
     ensures starts { result.starts ≡ starts }
     ensures burnt { result.burnt ≡ burnt_by (state_of watch.now) }
@@ -69,7 +70,7 @@ pub fn totals_of(watch: &Watch, starts: [u32; LAMPS]) -> Totals
 {
     let device = watch.device();
     Totals {
-        count: device.settings.lamp_count.min(LAMPS),
+        count: device.settings.lamp_count.min(LAMPS_MOST),
         starts,
         burnt: watch.burnt(),
         lasts: device.own.lamps,
@@ -80,7 +81,7 @@ pub fn totals_of(watch: &Watch, starts: [u32; LAMPS]) -> Totals
 fn tell_totals<W: ByteSink>(
     report: Report,
     watch: &Watch,
-    starts: [u32; LAMPS],
+    starts: [u32; LAMPS_MOST],
     unplayed: &Unplayed,
     to: &mut W,
 ) -> io::Result<()>
@@ -103,7 +104,7 @@ fn tell_totals<W: ByteSink>(
 pub struct Teller {
     watch: Watch,
     report: Report,
-    starts: [u32; LAMPS],
+    starts: [u32; LAMPS_MOST],
     lines: u64,
     unplayed: Unplayed,
     ghost counted: { unplayed.misread + unplayed.refused ≤ lines },
@@ -203,7 +204,7 @@ pub fn tell_log<R: ByteSource, W: ByteSink>(
     begun: Device,
     sum: u32,
     report: Report,
-    from: &mut Reader<R>,
+    from: &mut BufferedReader<R>,
     to: &mut W,
 ) -> Result<Ending, Failure>
     ensures whole { OnOk result (IfSome (left_in R.remaining from.old) (λ log. Appends (W.contents to.old)

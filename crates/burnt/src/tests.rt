@@ -7,15 +7,15 @@ use recorded::chain::Why;
 use report::Report;
 use setup::wanted::{Class, Wanted};
 use textio::lines::Failure;
-use textio::reader::Reader;
-use textio::trial::{Pieces, Taken};
+use textio::reader::BufferedReader;
+use textio::trial::{Pieces, TrialSink};
 
 const LOG: &[u8] = b"O 00000000\nR %1POWR 1\nT 2400\nR %1POWR 0\nT 60";
 
 const TOLD: &[u8] = b"lamp 1 from 0 to 2400\nlamp 1 start 0 burnt 2400 now 2400\n";
 
-fn source(most: usize, until: usize) -> Reader<Pieces> {
-    Reader::new(Pieces {
+fn source(most: usize, until: usize) -> BufferedReader<Pieces> {
+    BufferedReader::new(Pieces {
         log: LOG,
         most,
         until,
@@ -25,7 +25,7 @@ fn source(most: usize, until: usize) -> Reader<Pieces> {
 #[test]
 fn a_log_in_odd_pieces(rt: HostRuntime) {
     for most in 1..12 {
-        let mut to = Taken::new(most, 64);
+        let mut to = TrialSink::new(most, 64);
         let told = tell_log(sample(), 0, Report::Lines, &mut source(most, 1000), &mut to);
         assert!(rt; told.is_ok());
         assert!(rt; to.text() == TOLD);
@@ -34,7 +34,7 @@ fn a_log_in_odd_pieces(rt: HostRuntime) {
 
 #[test]
 fn a_read_that_fails_after_a_stretch(rt: HostRuntime) {
-    let mut to = Taken::new(6, 64);
+    let mut to = TrialSink::new(6, 64);
     let told = tell_log(sample(), 0, Report::Lines, &mut source(5, 42), &mut to);
     assert!(rt; matches!(told, Err(Failure::Read(_))));
     assert!(rt; to.text() == b"lamp 1 from 0 to 2400\n".as_slice());
@@ -44,7 +44,7 @@ fn a_read_that_fails_after_a_stretch(rt: HostRuntime) {
 
 #[test]
 fn a_write_that_fails_in_mid_line(rt: HostRuntime) {
-    let mut to = Taken::new(2, 15);
+    let mut to = TrialSink::new(2, 15);
     let told = tell_log(sample(), 0, Report::Lines, &mut source(7, 1000), &mut to);
     assert!(rt; matches!(told, Err(Failure::Write(_))));
     // and nothing is written after it
@@ -81,8 +81,8 @@ fn secured() -> Device {
 
 const SUM: u32 = 169552957; // 0a1b2c3d
 
-fn recorded(log: &'static [u8], most: usize) -> Reader<Pieces> {
-    Reader::new(Pieces {
+fn recorded(log: &'static [u8], most: usize) -> BufferedReader<Pieces> {
+    BufferedReader::new(Pieces {
         log,
         most,
         until: 4096,
@@ -114,7 +114,7 @@ fn four_places_and_a_password(rt: HostRuntime) {
         R 0 5d8409bc1c3fa39749434aa3a5c38682%1POWR 1\n\
         T 1000\n";
     for most in 1..9 {
-        let mut to = Taken::new(most, 64);
+        let mut to = TrialSink::new(most, 64);
         let told = tell_log(
             secured(),
             SUM,
@@ -132,7 +132,7 @@ fn four_places_and_a_password(rt: HostRuntime) {
 // `T 12` was `T 1200`, and nothing burnt.
 #[test]
 fn a_log_that_was_cut(rt: HostRuntime) {
-    let mut to = Taken::new(7, 64);
+    let mut to = TrialSink::new(7, 64);
     let log = b"LOG 2 1 0a1b2c3d\nT 5\nT 12";
     let told = tell_log(
         secured(),
@@ -159,7 +159,7 @@ fn a_log_that_was_cut(rt: HostRuntime) {
 // It is not told at all.
 #[test]
 fn a_log_of_another_form(rt: HostRuntime) {
-    let mut to = Taken::new(7, 64);
+    let mut to = TrialSink::new(7, 64);
     let log = b"LOG 2 1 0a1b2c3e\nO 0 498e4a67\nT 5\n";
     let told = tell_log(
         secured(),

@@ -6,7 +6,7 @@ use Rattle.record.specs.Limits.{age_end}
 use Rattle.record.specs.Updates.{with_age}
 use Rattle.record.specs.Legal.{is_timed}
 use Rattle.record.specs.Record.{closed}
-use Rattle.record.specs.declared.types.Line.{Line}
+use Rattle.record.specs.declared.types.CollectedLine.{CollectedLine}
 use Rattle.record.specs.declared.types.Connection.{Connection}
 use Rattle.record.proofs.Spelt.{closed_spelt}
 use Rattle.clock.specs.Second.{times, connection_second}
@@ -57,6 +57,6 @@ module _ (P : Connection → Type 0) (none : P closed)
   connection_then n c p = times_keeps P connection_second connection_second_lem n c p
 
 -- its line is kept, or is the closed connection's
-pub line_then : (P : Line → Type 0) → P closed.line → (n : ℕ) (c : Connection) → P c.line
+pub line_then : (P : CollectedLine → Type 0) → P closed.line → (n : ℕ) (c : Connection) → P c.line
     → P (times connection_second n c).line
 line_then P none n c p = connection_then (λ (k : Connection). P k.line) none (λ k age q. q) n c p

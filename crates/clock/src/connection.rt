@@ -6,22 +6,22 @@ use record::connection::AGE_END;
 use record::types::Connection;
 
 /// The connection n seconds later: awaiting or failed it ages, and closes at 30 seconds (RULES, Connection).
-pub fn age(c: &mut Connection, n: u32)
-    ensures { c.new ≡ times connection_second n c.old }
+pub fn age(connection: &mut Connection, seconds: u32)
+    ensures { connection.new ≡ times connection_second seconds connection.old }
 {
-    if !c.phase().is_timed() {
+    if !connection.phase().is_timed() {
         return;
     }
-    if n == 0 {
+    if seconds == 0 {
         return;
     }
-    if AGE_END <= n {
-        *c = Connection::CLOSED;
+    if AGE_END <= seconds {
+        *connection = Connection::CLOSED;
         return;
     }
-    if AGE_END - n <= c.age {
-        *c = Connection::CLOSED;
+    if AGE_END - seconds <= connection.age {
+        *connection = Connection::CLOSED;
         return;
     }
-    c.age += n;
+    connection.age += seconds;
 }

@@ -6,10 +6,10 @@ use crate::connection;
 use record::types::{Connection, PLACES};
 
 /// The connections n seconds later.
-pub fn age(connections: &mut [Connection; PLACES], n: u32)
-    ensures { connections.new ≡ map (times connection_second n) connections.old }
+pub fn age(connections: &mut [Connection; PLACES], seconds: u32)
+    ensures { connections.new ≡ map (times connection_second seconds) connections.old }
 {
     for place in 0..PLACES {
-        connection::age(&mut connections[place], n);
+        connection::age(&mut connections[place], seconds);
     }
 }

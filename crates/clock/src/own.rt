@@ -5,9 +5,10 @@ ghost use Rattle.clock.specs.Second.{one_more, changed_where, own_second, times}
 ghost use Rattle.clock.specs.After.{power_after};
 
 use record::own::LAMP_LIMIT;
-use record::types::{LAMPS_MOST, Own, Settings};
+use record::types::{Own, Settings};
 use record::views::Power;
 use text::flag;
+use words::lamp::LAMPS_MOST;
 
 fn power_after(power: Power, n: u32) -> Power
     ensures { result ≡ power_after n power }
@@ -58,15 +59,15 @@ fn burn(lamps: &mut [u32; LAMPS_MOST], enabled: &[u8; LAMPS_MOST], count: usize,
 
 /// The projector's own part n seconds later: its power, and the seconds of the lamps that burn (RULES, Time).
 #[tactic(auto, using(crate::proofs::InOneGo::own_passes))]
-pub fn pass(s: &Settings, o: &mut Own, n: u32)
-    ensures { o.new ≡ times (own_second s.now) n o.old }
+pub fn pass(settings: &Settings, own: &mut Own, seconds: u32)
+    ensures { own.new ≡ times (own_second settings.now) seconds own.old }
 {
-    if n == 0 {
+    if seconds == 0 {
         return;
     }
-    let power = o.power();
+    let power = own.power();
     if power.is_burning() {
-        burn(&mut o.lamps, &o.enabled, s.lamp_count, n);
+        burn(&mut own.lamps, &own.enabled, settings.lamp_count, seconds);
     }
-    o.set_power(power_after(power, n));
+    own.set_power(power_after(power, seconds));
 }

@@ -28,7 +28,7 @@ pub fn one_result()
 
 /// The fault mark changes nothing that time does: to set it and let n seconds pass is to let them pass and set it.
 #[tactic(auto, using(crate::proofs::FaultMark::fault_and_time))]
-pub fn the_fault_mark_leaves_time()
+pub fn the_fault_flag_leaves_time()
     ensures { (d : Device) (n : ℕ) (m : Bool)
         → time_passed (left_by d (fault_set d m)) n ≡ fault_set (left_by d (time_passed d n)) m }
 {}

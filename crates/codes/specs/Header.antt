@@ -9,8 +9,8 @@
 -- Assumes nothing.
 use Rattle.std.specs.Prelude.{ℕ, List, codes, Option, Some, None}
 use Rattle.words.specs.declared.class.ClassNumber.TheVariants.{One, Two}
-use Rattle.words.specs.declared.power.Power.{Power}
-use Rattle.words.specs.declared.power.Power.TheVariants.{Off, On, Cooling, WarmUp}
+use Rattle.words.specs.declared.power.PowerStatus.{PowerStatus}
+use Rattle.words.specs.declared.power.PowerStatus.TheVariants.{Off, On, Cooling, WarmUp}
 use Rattle.pjlink.specs.Said.{Said, okay, refused, power_is, chosen_is, mutes_are, errors_are, lamps_are, inputs_are}
 use Rattle.pjlink.specs.Said.{text_is, class_is, freeze_is, nothing}
 use Rattle.pjlink.specs.declared.body.Body.{Body}
@@ -22,7 +22,7 @@ use Rattle.pjlink.specs.declared.command.Command.TheVariants.{PowerSet, InputSet
 use Rattle.pjlink.specs.declared.command.Command.TheVariants.{VolumeStep, NameQuery, Query}
 use Rattle.pjlink.specs.declared.greeting.Greeting.{Greeting}
 use Rattle.pjlink.specs.declared.greeting.Greeting.TheVariants.{Open, Secured, Refused}
-use Rattle.controller.specs.Reading.{Outcome, means_it, erra_said}
+use Rattle.controller.specs.Reading.{ReadingOutcome, means_it, erra_said}
 
 infix 5 ◌equals◌
 pub record Constant : Type 0 where
@@ -81,7 +81,7 @@ said_constant (class_is k) = codes "PJ_READ_CLASS" equals 10
 said_constant (freeze_is on) = codes "PJ_READ_FREEZE" equals 12
 said_constant nothing = no_meaning_constant
 
-abbrev pub reading_constant : Outcome → Said → Constant
+abbrev pub reading_constant : ReadingOutcome → Said → Constant
 reading_constant means_it m = said_constant m
 reading_constant erra_said m = codes "PJ_READ_ERRA" equals 11
 reading_constant o m = no_meaning_constant
@@ -92,7 +92,7 @@ greeting_constant (Some Open) = codes "PJ_GREETING_OPEN" equals 1
 greeting_constant (Some (Secured random)) = codes "PJ_GREETING_SECURED" equals 2
 greeting_constant (Some Refused) = codes "PJ_GREETING_ERRA" equals 3
 
-abbrev pub power_constant : Power → Constant
+abbrev pub power_constant : PowerStatus → Constant
 power_constant Off = codes "PJ_POWER_OFF" equals 0
 power_constant On = codes "PJ_POWER_ON" equals 1
 power_constant Cooling = codes "PJ_POWER_COOLING" equals 2

@@ -11,11 +11,11 @@ use Rattle.words.specs.Inputs.{input_text}
 use Rattle.words.specs.declared.input.Input.{Input}
 use Rattle.pjlink.specs.Said.{Said, okay, refused, power_is, chosen_is, mutes_are, errors_are, lamps_are, inputs_are}
 use Rattle.pjlink.specs.Said.{text_is, class_is, freeze_is, nothing, parameter_most}
-use Rattle.words.specs.declared.power.Power.{Power}
-use Rattle.words.specs.declared.power.Power.TheVariants.{Off, On, Cooling, WarmUp}
+use Rattle.words.specs.declared.power.PowerStatus.{PowerStatus}
+use Rattle.words.specs.declared.power.PowerStatus.TheVariants.{Off, On, Cooling, WarmUp}
 use Rattle.words.specs.declared.lamp.LampHours.{LampHours}
 use Rattle.pjlink.specs.Greetings.{greeting_number}
-use Rattle.controller.specs.Reading.{ReadAs, Outcome, means_it, erra_said, disallowed, reading_outcome_number}
+use Rattle.controller.specs.Reading.{ReadAs, ReadingOutcome, means_it, erra_said, disallowed, reading_outcome_number}
 use Rattle.pjlink.specs.declared.greeting.Greeting.{Greeting}
 use Rattle.pjlink.specs.declared.greeting.Greeting.TheVariants.{Open, Secured, Refused}
 use Rattle.codes.specs.Commands.{bit, source_number}
@@ -74,15 +74,15 @@ with_text kind s = flat_of 0 kind 0 0 (length s) no_hours none_lit no_characters
 abbrev pub hours_of : LampHours → ℕ
 hours_of l = l.hours
 
-abbrev pub lit_of : LampHours → Bool
-lit_of l = l.lit
+abbrev pub is_lit_lamp : LampHours → Bool
+is_lit_lamp l = l.lit
 
 -- the lamps in cleared rooms
 abbrev pub flat_lamps : List LampHours → FlatLamps
 flat_lamps ls = record {
   count = length ls;
   hours = filled_room 0 8 (map hours_of ls);
-  lit = filled_room false 8 (map lit_of ls);
+  lit = filled_room false 8 (map is_lit_lamp ls);
 }
 
 abbrev pub with_lamps : List LampHours → FlatReading
@@ -95,7 +95,7 @@ characters is = each_in_turn input_text is
 abbrev pub with_inputs : List Input → FlatReading
 with_inputs is = flat_of 0 8 0 0 (length is) no_hours none_lit (filled_room 0 64 (characters is)) no_bytes
 
-abbrev pub power_at_face : Power → ℕ
+abbrev pub power_at_face : PowerStatus → ℕ
 power_at_face Off = 0
 power_at_face On = 1
 power_at_face Cooling = 2
@@ -115,7 +115,7 @@ said_flat (class_is k) = plain_reading 10 (class_as_number k) 0
 said_flat (freeze_is on) = plain_reading 12 (bit on) 0
 said_flat nothing = no_reading (reading_outcome_number disallowed)
 
-abbrev pub flat_as : Outcome → Said → FlatReading
+abbrev pub flat_as : ReadingOutcome → Said → FlatReading
 flat_as means_it m = said_flat m
 flat_as erra_said m = plain_reading 11 0 0
 flat_as o m = no_reading (reading_outcome_number o)

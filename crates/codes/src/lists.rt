@@ -5,11 +5,10 @@ ghost use Rattle.pjlink.specs.Carried.{lamps_carried, inputs_carried};
 ghost use Rattle.codes.specs.Readings.{with_text, flat_lamps, with_lamps, with_inputs};
 
 use crate::readings::{CHARACTERS, FlatReading};
-use pjlink::answer::LAMPS_MOST;
 use text::rooms;
 use words::input;
 use words::input::Input;
-use words::lamp::LampHours;
+use words::lamp::{LAMPS_MOST, LampHours};
 
 /// Lamps, by their hours and by whether they are lit, each in a cleared room.
 #[derive(Clone, Copy)]
@@ -44,13 +43,13 @@ impl FlatLamps {
 
 impl FlatReading {
     /// Of a kind that says a text.
-    pub(crate) fn with_text(kind: u8, s: &[u8]) -> FlatReading
-        requires { length s.now ≤ parameter_most }
-        ensures { result ≡ with_text kind s.now }
+    pub(crate) fn with_text(kind: u8, bytes: &[u8]) -> FlatReading
+        requires { length bytes.now ≤ parameter_most }
+        ensures { result ≡ with_text kind bytes.now }
     {
         let mut flat = FlatReading::plain(kind, 0, 0);
-        flat.count = s.len();
-        flat.text = rooms::kept(s, 0);
+        flat.count = bytes.len();
+        flat.text = rooms::kept(bytes, 0);
         flat
     }
 

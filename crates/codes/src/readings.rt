@@ -9,11 +9,12 @@ ghost use Rattle.codes.specs.Readings.{flat_greeting, no_reading, plain_reading,
 ghost use Rattle.codes.specs.Readings.{flat_reading};
 
 use controller::reading::{Misread, Reading};
-use pjlink::answer::{Answer, INPUTS_MOST, LAMPS_MOST};
+use pjlink::answer::Answer;
 use pjlink::greeting::Greeting;
 use text::numbered::Numbered;
-use words::input::Source;
-use words::power::Power;
+use words::input::{INPUTS_MOST, Source};
+use words::lamp::LAMPS_MOST;
+use words::power::PowerStatus;
 
 /// The characters of a reading's inputs.
 pub const CHARACTERS: usize = 2 * INPUTS_MOST;
@@ -58,22 +59,22 @@ pub struct FlatReading {
 }
 
 /// The number of a power, 0 to 3, as a reply has it.
-pub fn power_number(p: Power) -> u8
-    ensures { result ≡ power_at_face p }
+pub fn power_number(power: PowerStatus) -> u8
+    ensures { result ≡ power_at_face power }
 {
-    match p {
-        Power::Off => 0,
-        Power::On => 1,
-        Power::Cooling => 2,
-        Power::WarmUp => 3,
+    match power {
+        PowerStatus::Off => 0,
+        PowerStatus::On => 1,
+        PowerStatus::Cooling => 2,
+        PowerStatus::WarmUp => 3,
     }
 }
 
 /// The number of a type of inputs, 1 to 6.
-pub fn source_number(s: Source) -> u8
-    ensures { result ≡ source_number s }
+pub fn source_number(source: Source) -> u8
+    ensures { result ≡ source_number source }
 {
-    match s {
+    match source {
         Source::Rgb => 1,
         Source::Video => 2,
         Source::Digital => 3,

@@ -7,11 +7,11 @@ ghost use Rattle.pjlink.specs.declared.greeting.Greeting.{Greeting};
 ghost use Rattle.pjlink.specs.Commands.{is_command, half_code};
 ghost use Rattle.pjlink.specs.Said.{Said};
 ghost use Rattle.words.specs.declared.input.Source.{Source};
-ghost use Rattle.words.specs.declared.power.Power.{Power};
+ghost use Rattle.words.specs.declared.power.PowerStatus.{PowerStatus};
 ghost use Rattle.words.specs.Inputs.{number_digit};
 ghost use Rattle.words.specs.Powers.{power_code, switch_code};
 ghost use Rattle.words.specs.Sources.{type_of};
-ghost use Rattle.controller.specs.Reading.{Outcome};
+ghost use Rattle.controller.specs.Reading.{ReadingOutcome};
 ghost use Rattle.codes.specs.Commands.{coded_command, code_of, used_of, bit, half_number, source_number};
 ghost use Rattle.codes.specs.Readings.{greeting_kind, flat_as, power_at_face};
 ghost use Rattle.codes.specs.Header.{command_constant, reading_constant, greeting_constant, power_constant};
@@ -34,7 +34,7 @@ pub fn a_command_has_one_code()
 /// of inputs has the number that the table of types gives it.
 #[tactic(auto, using(crate::proofs::CommandsCoded::face_follows))]
 pub fn a_value_is_its_digit()
-    ensures power { (p : Power) → power_code p ≡ number_digit (power_at_face p) }
+    ensures power { (p : PowerStatus) → power_code p ≡ number_digit (power_at_face p) }
     ensures switch { (on : Bool) → switch_code on ≡ number_digit (bit on) }
     ensures half { (h : Half) → half_code h ≡ number_digit (half_number h) }
     ensures type_by_the_table { (s : Source) → source_number s ≡ type_of s }
@@ -44,7 +44,7 @@ pub fn a_value_is_its_digit()
 /// the header have.
 pub fn the_header_names_the_codes()
     ensures codes { (c : Command) → (code_of c).code ≡ (command_constant c).number }
-    ensures readings { (o : Outcome) (m : Said) → (flat_as o m).kind ≡ (reading_constant o m).number }
+    ensures readings { (o : ReadingOutcome) (m : Said) → (flat_as o m).kind ≡ (reading_constant o m).number }
     ensures greetings { (g : Option Greeting) → greeting_kind g ≡ (greeting_constant g).number }
-    ensures powers { (p : Power) → power_at_face p ≡ (power_constant p).number }
+    ensures powers { (p : PowerStatus) → power_at_face p ≡ (power_constant p).number }
 {}

@@ -1,7 +1,8 @@
 -- The words of a command line (RULES, The programs).
 --   use_of p name      what a name with `-` asks for, of a program that knows `--page` or does not
 --   is_dashed w        the word begins with `-`, and is not that alone
---   Reading            the words read so far: which word comes next, what they asked for, and those that are files
+--   ArgumentParser            the words read so far: which word comes next, what they asked for, and those that are
+--                             files
 --   Stopped            why a command line asks for no log
 --   after_word p r w   what the words r and w behind them ask for
 --   read_on p r ws     and the words ws behind them;    begun   before any
@@ -32,8 +33,8 @@ use Rattle.calendar.specs.Moments.{moment_in}
 use Rattle.command.specs.declared.asked.Stop.{Stop}
 use Rattle.command.specs.declared.asked.Stop.TheVariants.{Help, Version, Unknown, Alone, Twice, NoForm, NoMoment}
 use Rattle.command.specs.declared.asked.Stop.TheVariants.{NoHours, Apart, NoMemory}
-use Rattle.command.specs.declared.asked.Reading.{Reading as ReadingCase}
-use Rattle.command.specs.declared.asked.Command.{Command}
+use Rattle.command.specs.declared.asked.ArgumentParser.{ArgumentParser as ReadingCase}
+use Rattle.command.specs.declared.asked.Arguments.{Arguments}
 
 abbrev pub use_of : Bool → List ℕ → Use
 use_of has_page w =
@@ -57,7 +58,7 @@ is_dashed w = nat_le 2 (length w) && w at 0 is "-"
 abbrev pub is_equals : ℕ → Bool
 is_equals b = b is "="
 
-pub record Reading : Type 0 where
+pub record ArgumentParser : Type 0 where
   pub next : Next
   pub shape : Shape
   pub began : Option Moment
@@ -79,7 +80,7 @@ pub data Stopped : Type 0 where
   no_hours : List ℕ → Stopped
   apart : List ℕ → Stopped
 
-abbrev pub begun : Reading
+abbrev pub begun : ArgumentParser
 begun = record {
   next = Any;
   shape = Lines;
@@ -92,60 +93,60 @@ begun = record {
   has_dash = false;
 }
 
-abbrev pub with_moment : Reading → List ℕ → Option Moment → Result Reading Stopped
+abbrev pub with_moment : ArgumentParser → List ℕ → Option Moment → Result ArgumentParser Stopped
 with_moment r w None = Err (no_moment w)
 with_moment r w (Some m) = Ok (record r { next = Any; began = Some m })
 
-abbrev pub with_began : Reading → List ℕ → Result Reading Stopped
+abbrev pub with_began : ArgumentParser → List ℕ → Result ArgumentParser Stopped
 with_began r w = if is_some r.began then Err (twice (codes "--began")) else with_moment r w (moment_in w)
 
 -- a number of hours has one to five digits
-abbrev pub with_long_hours : Reading → List ℕ → Option ℕ → Result Reading Stopped
+abbrev pub with_long_hours : ArgumentParser → List ℕ → Option ℕ → Result ArgumentParser Stopped
 with_long_hours r w None = Err (no_hours w)
 with_long_hours r w (Some n) = Ok (record r { next = Any; long = Some n })
 
-abbrev pub with_long : Reading → List ℕ → Result Reading Stopped
+abbrev pub with_long : ArgumentParser → List ℕ → Result ArgumentParser Stopped
 with_long r w = if is_some r.long then Err (twice (codes "--long")) else with_long_hours r w (read_number w)
 
-abbrev pub with_life_hours : Reading → List ℕ → Option ℕ → Result Reading Stopped
+abbrev pub with_life_hours : ArgumentParser → List ℕ → Option ℕ → Result ArgumentParser Stopped
 with_life_hours r w None = Err (no_hours w)
 with_life_hours r w (Some n) = Ok (record r { next = Any; life = Some n })
 
-abbrev pub with_life : Reading → List ℕ → Result Reading Stopped
+abbrev pub with_life : ArgumentParser → List ℕ → Result ArgumentParser Stopped
 with_life r w = if is_some r.life then Err (twice (codes "--life")) else with_life_hours r w (read_number w)
 
 -- one output has one shape
-abbrev pub page_from : Shape → Reading → List ℕ → Result Reading Stopped
+abbrev pub page_from : Shape → ArgumentParser → List ℕ → Result ArgumentParser Stopped
 page_from Csv r w = Err (apart w)
 page_from Lines r w = Ok (record r { shape = Page })
 page_from Page r w = Ok (record r { shape = Page })
 
-abbrev pub with_page : Reading → List ℕ → Result Reading Stopped
+abbrev pub with_page : ArgumentParser → List ℕ → Result ArgumentParser Stopped
 with_page r w = page_from r.shape r w
 
-abbrev pub csv_from : Shape → Reading → List ℕ → Result Reading Stopped
+abbrev pub csv_from : Shape → ArgumentParser → List ℕ → Result ArgumentParser Stopped
 csv_from Page r w = Err (apart w)
 csv_from Lines r w = Ok (record r { shape = Csv })
 csv_from Csv r w = Ok (record r { shape = Csv })
 
-abbrev pub with_csv : Reading → List ℕ → Result Reading Stopped
+abbrev pub with_csv : ArgumentParser → List ℕ → Result ArgumentParser Stopped
 with_csv r w = csv_from r.shape r w
 
-abbrev pub with_form : Reading → List ℕ → Result Reading Stopped
+abbrev pub with_form : ArgumentParser → List ℕ → Result ArgumentParser Stopped
 with_form r name =
     if is_some r.form then Err (twice (codes "--form")) else Ok (record r { next = Any; form = Some name })
 
-abbrev pub with_output : Reading → List ℕ → Result Reading Stopped
+abbrev pub with_output : ArgumentParser → List ℕ → Result ArgumentParser Stopped
 with_output r name =
     if is_some r.output then Err (twice (codes "--output")) else Ok (record r { next = Any; output = Some name })
 
-abbrev pub with_free : Reading → List ℕ → Result Reading Stopped
+abbrev pub with_free : ArgumentParser → List ℕ → Result ArgumentParser Stopped
 with_free r w =
     let is_dash = bytes_eq w dash in
     if is_dash && r.has_dash then Err (twice w)
     else Ok (record r { free = r.free ++ (w ∷ []); has_dash = r.has_dash || is_dash })
 
-abbrev pub by_use : Use → Bool → Reading → List ℕ → List ℕ → Result Reading Stopped
+abbrev pub by_use : Use → Bool → ArgumentParser → List ℕ → List ℕ → Result ArgumentParser Stopped
 by_use use_case.Help true r w value = Err help
 by_use use_case.Help false r w value = Err (unknown w)
 by_use use_case.Version true r w value = Err version
@@ -166,12 +167,12 @@ by_use use_case.Output true r w value = Ok (record r { next = OutputName })
 by_use use_case.Output false r w value = with_output r value
 by_use use_case.Unknown whole r w value = Err (unknown w)
 
-abbrev pub by_option : Bool → Reading → List ℕ → Result Reading Stopped
+abbrev pub by_option : Bool → ArgumentParser → List ℕ → Result ArgumentParser Stopped
 by_option has_page r w =
     let name = before_first is_equals w in
     by_use (use_of has_page name) (length name == length w) r w (after_first is_equals w)
 
-abbrev pub by_next : Next → Bool → Reading → List ℕ → Result Reading Stopped
+abbrev pub by_next : Next → Bool → ArgumentParser → List ℕ → Result ArgumentParser Stopped
 by_next FormName has_page r w = with_form r w
 by_next OutputName has_page r w = with_output r w
 by_next MomentNext has_page r w = with_began r w
@@ -183,14 +184,14 @@ by_next Any has_page r w =
     else if is_dashed w then by_option has_page r w
     else with_free r w
 
-unfoldable pub after_word : Bool → Reading → List ℕ → Result Reading Stopped
+unfoldable pub after_word : Bool → ArgumentParser → List ℕ → Result ArgumentParser Stopped
 after_word has_page r w = by_next r.next has_page r w
 
 abbrev pub and_then : {A B : Type 0} → Result A Stopped → (A → Result B Stopped) → Result B Stopped
 and_then (Ok a) f = f a
 and_then (Err why) f = Err why
 
-unfoldable pub read_on : Bool → Reading → List (List ℕ) → Result Reading Stopped
+unfoldable pub read_on : Bool → ArgumentParser → List (List ℕ) → Result ArgumentParser Stopped
 read_on has_page r [] = Ok r
 read_on has_page r (w ∷ ws) = and_then (after_word has_page r w) (λ s. read_on has_page s ws)
 
@@ -203,7 +204,7 @@ pub record AskedFor : Type 0 where
   pub output : Option (List ℕ)
   pub logs : List (List ℕ)
 
-abbrev pub asked_for_by : Reading → Option (List ℕ) → List (List ℕ) → AskedFor
+abbrev pub asked_for_by : ArgumentParser → Option (List ℕ) → List (List ℕ) → AskedFor
 asked_for_by r form logs = record {
   shape = r.shape;
   began = r.began;
@@ -214,15 +215,15 @@ asked_for_by r form logs = record {
   logs = logs;
 }
 
-abbrev pub by_first : Reading → List (List ℕ) → Result AskedFor Stopped
+abbrev pub by_first : ArgumentParser → List (List ℕ) → Result AskedFor Stopped
 by_first r [] = Ok (asked_for_by r None [])
 by_first r (w ∷ ws) = if bytes_eq w dash then Err (no_form w) else Ok (asked_for_by r (Some w) ws)
 
-abbrev pub by_files : Option (List ℕ) → Reading → Result AskedFor Stopped
+abbrev pub by_files : Option (List ℕ) → ArgumentParser → Result AskedFor Stopped
 by_files (Some name) r = Ok (asked_for_by r (Some name) r.free)
 by_files None r = by_first r r.free
 
-abbrev pub by_end : Next → Reading → Result AskedFor Stopped
+abbrev pub by_end : Next → ArgumentParser → Result AskedFor Stopped
 by_end FormName r = Err (alone (codes "--form"))
 by_end OutputName r = Err (alone (codes "--output"))
 by_end MomentNext r = Err (no_moment (codes "--began"))
@@ -231,7 +232,7 @@ by_end LifeNext r = Err (no_hours (codes "--life"))
 by_end Any r = by_files r.form r
 by_end Free r = by_files r.form r
 
-unfoldable pub ended : Reading → Result AskedFor Stopped
+unfoldable pub ended : ArgumentParser → Result AskedFor Stopped
 ended r = by_end r.next r
 
 unfoldable pub asked_by : Bool → List (List ℕ) → Result AskedFor Stopped
@@ -240,7 +241,7 @@ asked_by has_page ws = and_then (read_on has_page begun ws) ended
 abbrev pub text_seen : Option (Bor (List ℕ)) → Option (List ℕ)
 text_seen t = option_map (λ b. b.now) t
 
-abbrev pub seen_in : ReadingCase → Reading
+abbrev pub seen_in : ReadingCase → ArgumentParser
 seen_in r = record {
   next = r.next;
   shape = r.shape;
@@ -265,11 +266,11 @@ StopsBy (NoHours w) r = r ≡ Err (no_hours w.now)
 StopsBy (Apart w) r = r ≡ Err (apart w.now)
 StopsBy NoMemory r = ⊤
 
-abbrev pub GoesOn : Result ReadingCase Stop → Result Reading Stopped → Type 0
+abbrev pub GoesOn : Result ReadingCase Stop → Result ArgumentParser Stopped → Type 0
 GoesOn (Ok r) s = s ≡ Ok (seen_in r)
 GoesOn (Err why) s = StopsBy why s
 
-abbrev pub asked_seen : Command → AskedFor
+abbrev pub asked_seen : Arguments → AskedFor
 asked_seen c = record {
   shape = c.shape;
   began = c.began;
@@ -280,6 +281,6 @@ asked_seen c = record {
   logs = map (λ (b : Bor (List ℕ)). b.now) c.logs.items;
 }
 
-abbrev pub Asks : Result Command Stop → Result AskedFor Stopped → Type 0
+abbrev pub Asks : Result Arguments Stop → Result AskedFor Stopped → Type 0
 Asks (Ok c) s = s ≡ Ok (asked_seen c)
 Asks (Err why) s = StopsBy why s

@@ -83,7 +83,7 @@ pub enum Shape {
 
 /// What a command line asks for.
 #[derive(Drop)]
-pub struct Command<'a> {
+pub struct Arguments<'a> {
     /// What is written.
     pub shape: Shape,
     /// When the log began, if that is given.
@@ -102,7 +102,7 @@ pub struct Command<'a> {
 
 // The words read so far.
 #[derive(Drop)]
-struct Reading<'a> {
+struct ArgumentParser<'a> {
     next: Next,
     shape: Shape,
     began: Option<Moment>,
@@ -166,15 +166,15 @@ fn cut(word: &str) -> (&str, &str)
     word.split_once('=').unwrap_or((word, ""))
 }
 
-impl<'a> Reading<'a> {
+impl<'a> ArgumentParser<'a> {
     ghost use Rattle.command.specs.Asked.{seen_in, GoesOn, with_began, with_form, with_output, with_free};
     ghost use Rattle.command.specs.Asked.{with_long, with_life, with_page, with_csv, by_option, after_word};
     ghost use Rattle.command.specs.Asked.{begun, ended, read_on};
 
-    fn new(alloc: Global) -> Reading<'a>
+    fn new(alloc: Global) -> ArgumentParser<'a>
         ensures { seen_in result ≡ begun }
     {
-        Reading {
+        ArgumentParser {
             next: Next::Any,
             shape: Shape::Lines,
             began: None,
@@ -187,7 +187,7 @@ impl<'a> Reading<'a> {
         }
     }
 
-    fn with_began(mut self, word: &'a str) -> Result<Reading<'a>, Stop<'a>>
+    fn with_began(mut self, word: &'a str) -> Result<ArgumentParser<'a>, Stop<'a>>
         ensures { GoesOn result (with_began (seen_in self.entry) word.now) }
     {
         if self.began.is_some() {
@@ -201,7 +201,7 @@ impl<'a> Reading<'a> {
         Ok(self)
     }
 
-    fn with_long(mut self, word: &'a str) -> Result<Reading<'a>, Stop<'a>>
+    fn with_long(mut self, word: &'a str) -> Result<ArgumentParser<'a>, Stop<'a>>
         ensures { GoesOn result (with_long (seen_in self.entry) word.now) }
     {
         if self.long.is_some() {
@@ -215,7 +215,7 @@ impl<'a> Reading<'a> {
         Ok(self)
     }
 
-    fn with_life(mut self, word: &'a str) -> Result<Reading<'a>, Stop<'a>>
+    fn with_life(mut self, word: &'a str) -> Result<ArgumentParser<'a>, Stop<'a>>
         ensures { GoesOn result (with_life (seen_in self.entry) word.now) }
     {
         if self.life.is_some() {
@@ -229,7 +229,7 @@ impl<'a> Reading<'a> {
         Ok(self)
     }
 
-    fn with_page(mut self, word: &'a str) -> Result<Reading<'a>, Stop<'a>>
+    fn with_page(mut self, word: &'a str) -> Result<ArgumentParser<'a>, Stop<'a>>
         ensures { GoesOn result (with_page (seen_in self.entry) word.now) }
     {
         match self.shape {
@@ -241,7 +241,7 @@ impl<'a> Reading<'a> {
         }
     }
 
-    fn with_csv(mut self, word: &'a str) -> Result<Reading<'a>, Stop<'a>>
+    fn with_csv(mut self, word: &'a str) -> Result<ArgumentParser<'a>, Stop<'a>>
         ensures { GoesOn result (with_csv (seen_in self.entry) word.now) }
     {
         match self.shape {
@@ -253,7 +253,7 @@ impl<'a> Reading<'a> {
         }
     }
 
-    fn with_form(mut self, name: &'a str) -> Result<Reading<'a>, Stop<'a>>
+    fn with_form(mut self, name: &'a str) -> Result<ArgumentParser<'a>, Stop<'a>>
         ensures { GoesOn result (with_form (seen_in self.entry) name.now) }
     {
         if self.form.is_some() {
@@ -264,7 +264,7 @@ impl<'a> Reading<'a> {
         Ok(self)
     }
 
-    fn with_output(mut self, name: &'a str) -> Result<Reading<'a>, Stop<'a>>
+    fn with_output(mut self, name: &'a str) -> Result<ArgumentParser<'a>, Stop<'a>>
         ensures { GoesOn result (with_output (seen_in self.entry) name.now) }
     {
         if self.output.is_some() {
@@ -275,7 +275,7 @@ impl<'a> Reading<'a> {
         Ok(self)
     }
 
-    fn with_free(mut self, word: &'a str) -> Result<Reading<'a>, Stop<'a>>
+    fn with_free(mut self, word: &'a str) -> Result<ArgumentParser<'a>, Stop<'a>>
         ensures { GoesOn result (with_free (seen_in self.entry) word.now) }
     {
         let is_dash = word == "-";
@@ -287,7 +287,7 @@ impl<'a> Reading<'a> {
         Ok(self)
     }
 
-    fn by_option(mut self, has_page: bool, word: &'a str) -> Result<Reading<'a>, Stop<'a>>
+    fn by_option(mut self, has_page: bool, word: &'a str) -> Result<ArgumentParser<'a>, Stop<'a>>
         ensures { GoesOn result (by_option has_page (seen_in self.entry) word.now) }
     {
         let (name, value) = cut(word);
@@ -327,7 +327,7 @@ impl<'a> Reading<'a> {
     }
 
     #[tactic(auto, unfolding(crate::specs::Asked::after_word))]
-    fn after_word(mut self, has_page: bool, word: &'a str) -> Result<Reading<'a>, Stop<'a>>
+    fn after_word(mut self, has_page: bool, word: &'a str) -> Result<ArgumentParser<'a>, Stop<'a>>
         ensures { GoesOn result (after_word has_page (seen_in self.entry) word.now) }
     {
         match self.next {
@@ -352,7 +352,7 @@ impl<'a> Reading<'a> {
 
     // What they ask for where they end.
     #[tactic(auto, unfolding(crate::specs::Asked::ended))]
-    fn end(self) -> Result<Command<'a>, Stop<'a>>
+    fn end(self) -> Result<Arguments<'a>, Stop<'a>>
         ensures { Asks result (ended (seen_in self.entry)) }
     {
         match self.next {
@@ -379,7 +379,7 @@ impl<'a> Reading<'a> {
                 }
             }
         };
-        Ok(Command {
+        Ok(Arguments {
             shape,
             began,
             long,
@@ -398,10 +398,10 @@ pub fn command_of<'a, S: AsStr>(
     alloc: Global,
     words: &'a [S],
     has_page: bool,
-) -> Result<Command<'a>, Stop<'a>>
+) -> Result<Arguments<'a>, Stop<'a>>
     ensures { Asks result (asked_by has_page (map S.text words.now)) }
 {
-    let mut reading = Reading::new(alloc);
+    let mut reading = ArgumentParser::new(alloc);
     let mut left = words;
     while let [word, later @ ..] = left {
         reading = reading.after_word(has_page, word.as_str())?;

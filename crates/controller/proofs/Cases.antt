@@ -2,7 +2,7 @@
 -- Assumes nothing.
 use Rattle.std.proofs.Common.{arith, ℕ, ◌≤◌, ◌<◌, ◌≡◌, ap, ◌∙◌, Bool, true, false, not, List, ◌++◌, le-ltb}
 use Rattle.std.proofs.lemmas.Bool.{not-true, not-false}
-use Rattle.text.specs.Scans.{same_by, itself}
+use Rattle.text.specs.Scans.{is_same_by, itself}
 use Rattle.text.proofs.Choices.{if_yes, if_no, if_by}
 use Rattle.digest.specs.Hex.{leading_digest}
 use Rattle.words.specs.Texts.{is_password}
@@ -49,8 +49,9 @@ module _ (c : Command) (secured : Bool) (random : ℕ) (password : List ℕ) (ro
 -- reading a reply: the ERRA line, the form, the body, the parameter
 module _ (c : Command) (l : List ℕ) where
   pub reply_by : (P : ReadAs → Type 0)
-      → (same_by itself l erra_line ≡ true → P (outcome_alone erra_said))
-      → (same_by itself l erra_line ≡ false → is_reply_form (command_class c) l ≡ false → P (outcome_alone not_a_line))
+      → (is_same_by itself l erra_line ≡ true → P (outcome_alone erra_said))
+      → (is_same_by itself l erra_line ≡ false → is_reply_form (command_class c) l ≡ false
+      → P (outcome_alone not_a_line))
       → (is_reply_form (command_class c) l ≡ true → is_body (command_class c) (head_body l) (body_of c) ≡ false
       → P (outcome_alone other_command))
       → (is_reply_form (command_class c) l ≡ true → is_body (command_class c) (head_body l) (body_of c) ≡ true
@@ -59,18 +60,18 @@ module _ (c : Command) (l : List ℕ) where
   unfolding read_reply
   reply_by P erra unformed other said =
       let named = is_body (command_class c) (head_body l) (body_of c) in
-      if_by P (same_by itself l erra_line) erra (λ line.
+      if_by P (is_same_by itself l erra_line) erra (λ line.
       if_by P (not (is_reply_form (command_class c) l))
       (λ f. unformed line (not-true (is_reply_form (command_class c) l) f))
       (λ f.
       let formed = not-false (is_reply_form (command_class c) l) f in
       if_by P (not named) (λ b. other formed (not-true named b)) (λ b. said formed (not-false named b))))
 
-  pub reply_erra : same_by itself l erra_line ≡ true → read_reply c l ≡ outcome_alone erra_said
+  pub reply_erra : is_same_by itself l erra_line ≡ true → read_reply c l ≡ outcome_alone erra_said
   unfolding read_reply
   reply_erra e = if_yes _ _ e
 
-  module _ (line : same_by itself l erra_line ≡ false) where
+  module _ (line : is_same_by itself l erra_line ≡ false) where
     pub reply_unformed : is_reply_form (command_class c) l ≡ false → read_reply c l ≡ outcome_alone not_a_line
     unfolding read_reply
     reply_unformed f = if_no _ _ line ∙ if_yes _ _ (ap not f)

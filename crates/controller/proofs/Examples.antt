@@ -5,7 +5,7 @@ use Rattle.pjlink.specs.Computing.{computing as pjlink}
 use Rattle.pjlink.specs.declared.body.Body.TheVariants.{Powr, Name}
 use Rattle.pjlink.specs.declared.command.Command.TheVariants.{PowerSet, Query}
 use Rattle.pjlink.specs.Said.{okay, power_is}
-use Rattle.words.specs.declared.power.Power.TheVariants.{WarmUp}
+use Rattle.words.specs.declared.power.PowerStatus.TheVariants.{WarmUp}
 use Rattle.digest.specs.Computing.{computing as digest}
 use Rattle.text.specs.Outcomes.{nothing_written}
 use Rattle.controller.specs.Writing.{written_command}

@@ -1,7 +1,7 @@
 -- What the reader takes from the reply to a command is what it says (RULES, Controller).
 -- Assumes nothing.
 use Rattle.std.proofs.Common.{ℕ, ◌≤◌, ◌≡◌, refl, ap, ◌∙◌, true, List, length}
-use Rattle.words.specs.Bytes.{no_cr}
+use Rattle.words.specs.Bytes.{is_cr_free}
 use Rattle.pjlink.specs.Forms.{reply_line}
 use Rattle.pjlink.specs.Commands.{body_text, body_of, command_class, class_digit}
 use Rattle.pjlink.specs.declared.command.Command.{Command}
@@ -14,7 +14,7 @@ use Rattle.pjlink.specs.Reading.{read_parameter}
 use Rattle.pjlink.specs.CanSay.{CanSay}
 use Rattle.pjlink.proofs.Nothing.{cannot_say_nothing}
 use Rattle.pjlink.proofs.ReadsBack.{reads_back as parameter-reads-back}
-use Rattle.controller.specs.Reading.{ReadAs, Outcome, means_it, meaning, saying, read_reply}
+use Rattle.controller.specs.Reading.{ReadAs, ReadingOutcome, means_it, meaning, saying, read_reply}
 use Rattle.controller.proofs.Cases.{reply_said}
 
 -- every answer that a command can have means something
@@ -24,7 +24,7 @@ can_mean {m = m} can = refl
 
 -- the reply to a command, by what it says
 module _ (c : Command) {m : Said} (can : CanSay c m) (short : length (said_bytes m) ≤ 128)
-    (plain : no_cr (said_bytes m) ≡ true) where
+    (plain : is_cr_free (said_bytes m) ≡ true) where
   shows : ReplyShows (class_digit (command_class c)) (body_text (body_of c)) (said_bytes m)
   shows = reply_shows (body_letters (body_of c)) (class_digit (command_class c)) (said_bytes m) short plain
 
@@ -35,4 +35,4 @@ module _ (c : Command) {m : Said} (can : CanSay c m) (short : length (said_bytes
       (ap (λ (s : List ℕ). is_body (command_class c) s (body_of c)) shows.body ∙ (body_named_lem (body_of c)).own)
       ∙ ap (λ (p : List ℕ). saying (read_parameter c p)) shows.parameter
       ∙ ap saying (parameter-reads-back can)
-      ∙ ap {B = ReadAs} (λ (o : Outcome). record { outcome = o; said = m }) (can_mean can)
+      ∙ ap {B = ReadAs} (λ (o : ReadingOutcome). record { outcome = o; said = m }) (can_mean can)

@@ -3,7 +3,7 @@
 -- that of the first test it fails.
 -- Assumes nothing.
 use Rattle.std.proofs.Common.{arith, ℕ, ◌≡◌, sym, ap, ◌∙◌, Bool, not, List, ◌↔◌, if◌then◌else◌}
-use Rattle.text.specs.Scans.{same_by, itself}
+use Rattle.text.specs.Scans.{is_same_by, itself}
 use Rattle.text.proofs.Choices.{if_yes, if_no}
 use Rattle.text.proofs.Sameness.{same_is}
 use Rattle.pjlink.specs.Forms.{erra_line, is_reply_form, head_body, reply_parameter}
@@ -18,7 +18,7 @@ use Rattle.pjlink.specs.Writings.{Says, IsAllowed, says}
 use Rattle.pjlink.proofs.ReadSound.{CanRead, read_sound}
 use Rattle.pjlink.proofs.ReadWritings.{written_is_read, not_allowed_says_nothing}
 use Rattle.controller.specs.Reading.{meaning, saying, read_reply, LineSays}
-use Rattle.controller.specs.Reading.{Outcome, means_it, erra_said, not_a_line, other_command, disallowed}
+use Rattle.controller.specs.Reading.{ReadingOutcome, means_it, erra_said, not_a_line, other_command, disallowed}
 use Rattle.controller.proofs.Cases.{reply_by, reply_said}
 use Rattle.controller.proofs.ReadsBack.{can_mean}
 use Rattle.controller.proofs.Refusals.{erra_read}
@@ -51,9 +51,9 @@ module _ (c : Command) where
   erra_exactly l = grind (arith, erra_was_written, erra_read)
 
   -- the first test that a line fails
-  abbrev first_outcome : List ℕ → Bool → Outcome
+  abbrev first_outcome : List ℕ → Bool → ReadingOutcome
   first_outcome l allowed =
-      if same_by itself l erra_line then erra_said
+      if is_same_by itself l erra_line then erra_said
       else if not (is_reply_form (command_class c) l) then not_a_line
       else if not (is_body (command_class c) (head_body l) (body_of c)) then other_command
       else if not allowed then disallowed

@@ -56,19 +56,19 @@ impl Error for Misread {}
 
 /// Reads what a line, with its CR, says to the command. Tests, in this order: the ERRA line; the form, else `NotALine`;
 /// the body, else `OtherCommand`; the parameter, else `NotAllowed` (RULES, Controller).
-pub fn read_reply(c: Command, line: &[u8]) -> Result<Reading<'_>, Misread>
-    ensures { read_as result ≡ read_reply c line.now }
+pub fn read_reply(command: Command, line: &[u8]) -> Result<Reading<'_>, Misread>
+    ensures { read_as result ≡ read_reply command line.now }
 {
-    if text::same(line, &greeting::ERRA) {
+    if text::is_same(line, &greeting::ERRA) {
         return Ok(Reading::Erra);
     }
-    let Some(line) = form::reply(c.class(), line) else {
+    let Some(line) = form::reply(command.class(), line) else {
         return Err(Misread::NotALine);
     };
-    if !c.body().is_named(c.class(), line.letters) {
+    if !command.body().is_named(command.class(), line.letters) {
         return Err(Misread::OtherCommand);
     }
-    let Some(said) = reply::read_parameter(c, line.parameter) else {
+    let Some(said) = reply::read_parameter(command, line.parameter) else {
         return Err(Misread::NotAllowed);
     };
     Ok(Reading::Means(said))

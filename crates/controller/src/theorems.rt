@@ -5,7 +5,7 @@ ghost use Rattle.pjlink.specs.declared.body.Body.TheVariants.{Powr, Name};
 ghost use Rattle.pjlink.specs.declared.command.Command.{Command};
 ghost use Rattle.pjlink.specs.declared.command.Command.TheVariants.{PowerSet, Query};
 ghost use Rattle.pjlink.specs.Said.{okay, power_is};
-ghost use Rattle.words.specs.declared.power.Power.TheVariants.{WarmUp};
+ghost use Rattle.words.specs.declared.power.PowerStatus.TheVariants.{WarmUp};
 ghost use Rattle.controller.specs.Writing.{written_command};
 ghost use Rattle.text.specs.Words.{over};
 ghost use Rattle.text.specs.Outcomes.{WrittenTold, told_written, nothing_written};

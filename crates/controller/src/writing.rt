@@ -11,7 +11,7 @@ use reasons::numbers;
 use std::error::Error;
 use std::fmt;
 use text::numbered::Numbered;
-use words::codec::Line;
+use words::codec::LineBytes;
 use words::{codec, texts};
 
 /// Room for the longest line of a command, led by a digest, in bytes.
@@ -56,10 +56,10 @@ fn is_writable(c: Command, secured: bool, password: &[u8]) -> bool
 }
 
 // What leads the line: where it is asked for, the digest.
-fn led_by(secured: bool, random: u32, password: &[u8]) -> Line
+fn led_by(secured: bool, random: u32, password: &[u8]) -> LineBytes
     ensures { result.items ≡ led_by secured random password.now }
 {
-    let mut line = Line::new();
+    let mut line = LineBytes::new();
     if secured {
         codec::put_all(&digest::leading_digest(random, password), &mut line);
     }
@@ -68,14 +68,20 @@ fn led_by(secured: bool, random: u32, password: &[u8]) -> Line
 
 /// Writes the line of a command that can be written to the start of `out`, which has room for any, led by the digest of
 /// `random` and `password` if `secured`. Returns its length in bytes.
-pub fn put_command(c: Command, secured: bool, random: u32, password: &[u8], out: &mut [u8]) -> usize
-    requires writable { is_writable c secured password.now ≡ true }
+pub fn put_command(
+    command: Command,
+    secured: bool,
+    random: u32,
+    password: &[u8],
+    out: &mut [u8],
+) -> usize
+    requires writable { is_writable command secured password.now ≡ true }
     requires room { command_room ≤ length out.old }
-    ensures length { result ≡ length (led_by secured random password.now ++ command_line c) }
-    ensures written { out.new ≡ over (led_by secured random password.now ++ command_line c) out.old }
+    ensures length { result ≡ length (led_by secured random password.now ++ command_line command) }
+    ensures written { out.new ≡ over (led_by secured random password.now ++ command_line command) out.old }
 {
     let mut line = led_by(secured, random, password);
-    c.put(&mut line);
+    command.put(&mut line);
     text::put(out, 0, line.as_slice());
     line.len()
 }
@@ -84,22 +90,23 @@ pub fn put_command(c: Command, secured: bool, random: u32, password: &[u8], out:
 /// its length in bytes. Errors, in this order: `NoRoom`, `OutOfRange`.
 #[tactic(auto, using(crate::proofs::Cases::written_line), unfolding(crate::specs::Writing::written_command))]
 pub fn write_command(
-    c: Command,
+    command: Command,
     secured: bool,
     random: u32,
     password: &[u8],
     out: &mut [u8],
 ) -> Result<usize, Unwritten>
-    ensures told { written_told unwritten_number result ≡ told_written (written_command c secured random password.now
+    ensures told { written_told unwritten_number result
+        ≡ told_written (written_command command secured random password.now
         (length out.old)) }
-    ensures written { out.new ≡ over (written_command c secured random password.now
+    ensures written { out.new ≡ over (written_command command secured random password.now
         (length out.old)).bytes out.old }
 {
     if out.len() < COMMAND_ROOM {
         return Err(Unwritten::NoRoom);
     }
-    if !is_writable(c, secured, password) {
+    if !is_writable(command, secured, password) {
         return Err(Unwritten::OutOfRange);
     }
-    Ok(put_command(c, secured, random, password, out))
+    Ok(put_command(command, secured, random, password, out))
 }

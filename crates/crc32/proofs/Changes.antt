@@ -6,7 +6,7 @@ use Rattle.std.proofs.Common.{ℕ, suc, ◌+◌, ◌*◌, ◌^◌, ◌<◌, ◌�
 use Rattle.std.proofs.Common.{List, [], ◌∷◌, ◌++◌, length, slice_index_or}
 use Rattle.std.proofs.lemmas.Nat.{xor_of_32, xor_comm}
 use lib.Bits.{xor_assoc, xor_shifted}
-use Rattle.crc32.specs.Crc.{ones, after_byte, bits_shifted, remainder_on, crc32_on, crc32_of}
+use Rattle.crc32.specs.Crc.{all_ones, after_byte, bits_shifted, remainder_on, crc32_on, crc32_of}
 use Rattle.crc32.proofs.Shifts.{bits_over, bits_shifted-add, bits_within, bits_same, xor_same}
 use Rattle.crc32.proofs.GoesOn.{remainder_on-append}
 
@@ -112,21 +112,22 @@ pub change_shows : (u s t v : List ℕ) → AreBytes u → AreBytes s → AreByt
     → length s ≤ 4 → crc32_of (u ++ (s ++ v)) ≡ crc32_of (u ++ (t ++ v)) → s ≡ t
 unfolding crc32_of
 change_shows u s t v hu hs ht hv long few e =
-    let r : ℕ = remainder_on ones u in
-    let h : r < 2 ^ 32 = remainder_within ones u (omega arith) hu in
-    let split : (m : List ℕ) → remainder_on ones (u ++ (m ++ v)) ≡ remainder_on (remainder_on r m) v
-    = λ (m : List ℕ). remainder_on-append ones u (m ++ v) ∙ remainder_on-append r m v in
+    let r : ℕ = remainder_on all_ones u in
+    let h : r < 2 ^ 32 = remainder_within all_ones u (omega arith) hu in
+    let split : (m : List ℕ) → remainder_on all_ones (u ++ (m ++ v)) ≡ remainder_on (remainder_on r m) v
+    = λ (m : List ℕ). remainder_on-append all_ones u (m ++ v) ∙ remainder_on-append r m v in
     part_same r s t h hs ht long few
     (remainder_same (remainder_on r s) (remainder_on r t) v (remainder_within r s h hs) (remainder_within r t h ht) hv
-    (sym (split s) ∙ xor_same ones _ _ e ∙ split t))
+    (sym (split s) ∙ xor_same all_ones _ _ e ∙ split t))
 
 -- ---- a sum has 32 bits
 
 pub crc32_on_within : (c : ℕ) (s : List ℕ) → c < 2 ^ 32 → AreBytes s → crc32_on c s < 2 ^ 32
 unfolding crc32_on
 crc32_on_within c s h bytes =
-    xor_of_32 ones _ (omega arith) (remainder_within (bit_xor ones c) s (xor_of_32 ones c (omega arith) h) bytes)
+    xor_of_32 all_ones _ (omega arith) (remainder_within (bit_xor all_ones c) s (xor_of_32 all_ones c (omega arith) h)
+    bytes)
 
 pub crc32_of_within : (s : List ℕ) → AreBytes s → crc32_of s < 2 ^ 32
 unfolding crc32_of
-crc32_of_within s bytes = xor_of_32 ones _ (omega arith) (remainder_within ones s (omega arith) bytes)
+crc32_of_within s bytes = xor_of_32 all_ones _ (omega arith) (remainder_within all_ones s (omega arith) bytes)

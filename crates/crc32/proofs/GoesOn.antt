@@ -3,7 +3,7 @@
 use Rattle.std.proofs.Common.{ℕ, ◌+◌, ◌<◌, ◌≡◌, length, take, take-suc, add-one, slice_index_or, List, [], ◌∷◌, ◌++◌}
 use Rattle.std.proofs.Common.{refl, sym, ap, ◌∙◌, bit_xor}
 use lib.Bits.{xor_assoc, xor_self, xor_zero_l}
-use Rattle.crc32.specs.Crc.{ones, after_byte, remainder_on, crc32_on, crc32_of}
+use Rattle.crc32.specs.Crc.{all_ones, after_byte, remainder_on, crc32_on, crc32_of}
 
 pub remainder_on-append : (r : ℕ) (s t : List ℕ) → remainder_on r (s ++ t) ≡ remainder_on (remainder_on r s) t
 unfolding remainder_on
@@ -23,18 +23,18 @@ unfolding remainder_on
 remainder_on-nil r = refl
 
 -- what is complemented twice
-twice : (x : ℕ) → bit_xor ones (bit_xor ones x) ≡ x
-twice x = sym (xor_assoc ones ones x) ∙ ap (λ (n : ℕ). bit_xor n x) (xor_self ones) ∙ xor_zero_l x
+twice : (x : ℕ) → bit_xor all_ones (bit_xor all_ones x) ≡ x
+twice x = sym (xor_assoc all_ones all_ones x) ∙ ap (λ (n : ℕ). bit_xor n x) (xor_self all_ones) ∙ xor_zero_l x
 
-on_complement : (r : ℕ) (t : List ℕ) → crc32_on (bit_xor ones r) t ≡ bit_xor ones (remainder_on r t)
+on_complement : (r : ℕ) (t : List ℕ) → crc32_on (bit_xor all_ones r) t ≡ bit_xor all_ones (remainder_on r t)
 unfolding crc32_on
-on_complement r t = ap (λ (x : ℕ). bit_xor ones (remainder_on x t)) (twice r)
+on_complement r t = ap (λ (x : ℕ). bit_xor all_ones (remainder_on x t)) (twice r)
 
 pub crc32_on-append : (c : ℕ) (s t : List ℕ) → crc32_on c (s ++ t) ≡ crc32_on (crc32_on c s) t
 unfolding crc32_on
 crc32_on-append c s t =
-    ap (bit_xor ones) (remainder_on-append (bit_xor ones c) s t)
-    ∙ sym (on_complement (remainder_on (bit_xor ones c) s) t)
+    ap (bit_xor all_ones) (remainder_on-append (bit_xor all_ones c) s t)
+    ∙ sym (on_complement (remainder_on (bit_xor all_ones c) s) t)
 
 pub crc32_on-zero : (s : List ℕ) → crc32_on 0 s ≡ crc32_of s
 unfolding crc32_on crc32_of

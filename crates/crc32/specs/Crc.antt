@@ -1,7 +1,7 @@
 -- CRC-32 as zlib, gzip and PNG have it (RFC 1952, 8; ISO 3309 and ITU-T V.42, 8.1.1.6.2): the remainder of a text by a
 -- polynomial, in 32 bits, of which the lowest stands for the highest power. All bits are ones before the text, and the
 -- remainder is complemented after it.
---   ones                all 32 bits
+--   all_ones                all 32 bits
 --   polynomial          x^32+x^26+x^23+x^22+x^16+x^12+x^11+x^10+x^8+x^7+x^5+x^4+x^2+x+1, x^32 left out
 --   bit_shifted r       the remainder r, one bit further
 --   bits_shifted n r    n bits further
@@ -12,8 +12,8 @@
 -- Assumes nothing.
 use Rattle.std.specs.Prelude.{ℕ, zero, suc, ◌/◌, ◌%◌, List, [], ◌∷◌, bit_xor, if◌then◌else◌, ◌==◌}
 
-abbrev pub ones : ℕ
-ones = 0xffffffff
+abbrev pub all_ones : ℕ
+all_ones = 0xffffffff
 
 abbrev pub polynomial : ℕ
 polynomial = 0xedb88320
@@ -33,7 +33,7 @@ remainder_on r [] = r
 remainder_on r (b ∷ s) = remainder_on (after_byte r b) s
 
 unfoldable pub crc32_on : ℕ → List ℕ → ℕ
-crc32_on c s = bit_xor ones (remainder_on (bit_xor ones c) s)
+crc32_on c s = bit_xor all_ones (remainder_on (bit_xor all_ones c) s)
 
 unfoldable pub crc32_of : List ℕ → ℕ
-crc32_of s = bit_xor ones (remainder_on ones s)
+crc32_of s = bit_xor all_ones (remainder_on all_ones s)

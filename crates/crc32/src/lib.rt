@@ -8,15 +8,15 @@ ghost use Rattle.std.specs.Prelude.{◌≡◌};
 ghost use Rattle.crc32.specs.Crc.{crc32_of, crc32_on};
 
 // All 32 bits.
-const ONES: u32 = 0xffffffff;
+const ALL_ONES: u32 = 0xffffffff;
 
-/// Returns the CRC-32 of a text followed by `s`, where `sum` is the CRC-32 of the text; 0 is that of no bytes.
+/// Returns the CRC-32 of a text followed by `bytes`, where `sum` is the CRC-32 of the text; 0 is that of no bytes.
 #[tactic(auto, unfolding(crate::specs::Crc::crc32_on), using(crate::proofs::GoesOn::remainder_steps))]
-pub fn crc32_on(sum: u32, s: &[u8]) -> u32
-    ensures { result ≡ crc32_on sum s.now }
+pub fn crc32_on(sum: u32, bytes: &[u8]) -> u32
+    ensures { result ≡ crc32_on sum bytes.now }
 {
-    let mut r = ONES ^ sum;
-    let (sixteens, few) = s.as_chunks::<16>();
+    let mut r = ALL_ONES ^ sum;
+    let (sixteens, few) = bytes.as_chunks::<16>();
     for sixteen in sixteens {
         r = table::after_sixteen(r, sixteen);
     }
@@ -27,13 +27,13 @@ pub fn crc32_on(sum: u32, s: &[u8]) -> u32
     for &b in rest {
         r = table::after_byte(r, b);
     }
-    ONES ^ r
+    ALL_ONES ^ r
 }
 
-/// Returns the CRC-32 of `s`.
+/// Returns the CRC-32 of `bytes`.
 #[tactic(auto, unfolding(crate::specs::Crc::crc32_on, crate::specs::Crc::crc32_of))]
-pub fn crc32(s: &[u8]) -> u32
-    ensures { result ≡ crc32_of s.now }
+pub fn crc32(bytes: &[u8]) -> u32
+    ensures { result ≡ crc32_of bytes.now }
 {
-    crc32_on(0, s)
+    crc32_on(0, bytes)
 }

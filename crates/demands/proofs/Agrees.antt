@@ -22,7 +22,7 @@ use Rattle.record.specs.declared.types.Settings.{Settings}
 use Rattle.record.specs.declared.types.Own.{Own}
 use Rattle.record.specs.Places.{connection_at}
 use Rattle.record.specs.Updates.{with_own, with_marks}
-use Rattle.record.specs.declared.types.Line.{Line}
+use Rattle.record.specs.declared.types.CollectedLine.{CollectedLine}
 use Rattle.record.specs.declared.types.Connection.{Connection}
 use Rattle.record.specs.declared.types.Device.{Device}
 use Rattle.record.proofs.ConnectionTold.{closed_holds_none}
@@ -39,9 +39,10 @@ use Rattle.clock.proofs.PowerByTime.{power_in_a_second, left_in_a_second}
 use Rattle.clock.proofs.Untouched.{own_else_stays}
 use Rattle.stream.specs.Collecting.{line_text}
 use Rattle.stream.proofs.LastBytes.{Ends, ends_unheld}
-use Rattle.demands.specs.History.{Streams, a_second, Stage, steady, towards, next_stage, stage_is_burning, burnt_in}
+use Rattle.demands.specs.History.{Streams, a_second, Stage, steady, towards, next_stage, is_burning_stage, burnt_in}
 use Rattle.demands.specs.History.{lamp_with}
-use Rattle.demands.specs.History.{Event, switched, mark_switched, marks_next, marks_after, stage_from, burning_from}
+use Rattle.demands.specs.History.{HistoryEvent, switched, mark_switched, marks_next, marks_after, stage_from}
+use Rattle.demands.specs.History.{burning_from}
 use Rattle.clock.proofs.TimeAdds.{no_seconds, seconds_add}
 use Rattle.clock.proofs.TimeLegal.{time_legal}
 
@@ -77,7 +78,7 @@ pub record Agrees (w : Wanted) (g : Stage) (ms : List Bool) (n : ℕ → ℕ) (s
       slice_index_or (marks_seen d.own) place false ≡ slice_index_or ms place false
   pub last : (q : ℕ) → Ends (stream q) (line_text (connection_at d q).line)
 
-pub lit_shown : (g : Stage) → is_lit (power_of g) ≡ stage_is_burning g
+pub lit_shown : (g : Stage) → is_lit (power_of g) ≡ is_burning_stage g
 lit_shown g = grind arith
 
 -- ---- one second
@@ -91,7 +92,7 @@ power_second_lem w s o g p l = grind (arith, seen_again, power_second-seen_in, p
 
 lamp_second : (g : Stage) (mark : Bool) (n x : ℕ)
     → lamp_after 1 (is_lit (power_of g) && mark) (lamp_with n x)
-    ≡ lamp_with (n + (if stage_is_burning g && mark then 1 else 0)) x
+    ≡ lamp_with (n + (if is_burning_stage g && mark then 1 else 0)) x
 lamp_second g mark n x = grind arith
 
 module _ {w : Wanted} {g : Stage} {ms : List Bool} {n : ℕ → ℕ} {stream : Streams} {d : Device}
@@ -117,7 +118,7 @@ module _ {w : Wanted} {g : Stage} {ms : List Bool} {n : ℕ → ℕ} {stream : S
         ∙ a.marks place inside;
     last = λ q.
         subst (λ (c : Connection). Ends (stream q) (line_text c.line)) (sym (place_passes 1 d q))
-        (line_then (λ (l : Line). Ends (stream q) (line_text l))
+        (line_then (λ (l : CollectedLine). Ends (stream q) (line_text l))
         (ends_unheld (stream q) closed.line closed_holds_none) 1 (connection_at d q) (a.last q));
   }
 
@@ -149,24 +150,24 @@ module _ {w : Wanted} {g : Stage} {ms : List Bool} {n : ℕ → ℕ} {stream : S
         raised_many,
       )
 
-pub stage_from-append : (w : Wanted) (g : Stage) (es fs : List Event)
+pub stage_from-append : (w : Wanted) (g : Stage) (es fs : List HistoryEvent)
     → stage_from w g (es ++ fs) ≡ stage_from w (stage_from w g es) fs
 stage_from-append w g [] fs = refl
 stage_from-append w g (e ∷ es) fs = stage_from-append w (next_stage w g e) es fs
 
-pub marks_after-append : (ms : List Bool) (es fs : List Event) →
+pub marks_after-append : (ms : List Bool) (es fs : List HistoryEvent) →
     marks_after ms (es ++ fs) ≡ marks_after (marks_after ms es) fs
 marks_after-append ms [] fs = refl
 marks_after-append ms (e ∷ es) fs = marks_after-append (marks_next ms e) es fs
 
-pub burning_from-append : (w : Wanted) (g : Stage) (ms : List Bool) (k : ℕ) (es fs : List Event)
+pub burning_from-append : (w : Wanted) (g : Stage) (ms : List Bool) (k : ℕ) (es fs : List HistoryEvent)
     → burning_from w g ms k (es ++ fs)
     ≡ burning_from w g ms k es + burning_from w (stage_from w g es) (marks_after ms es) k fs
 burning_from-append w g ms k [] fs = rw zero-add
 burning_from-append w g ms k (e ∷ es) fs =
     grind (arith, burning_from-append w (next_stage w g e) (marks_next ms e) k es fs)
 
-abbrev pub Then : Wanted → Stage → List Bool → (ℕ → ℕ) → List Event → Streams → Device → Type 0
+abbrev pub Then : Wanted → Stage → List Bool → (ℕ → ℕ) → List HistoryEvent → Streams → Device → Type 0
 Then w g ms n es stream d =
     Agrees w (stage_from w g es) (marks_after ms es) (λ k. n k + burning_from w g ms k es) stream d
 

@@ -22,7 +22,7 @@ use Rattle.stored.proofs.Fields.{bytes_all}
 use Rattle.stored.proofs.OneForm.{stored_again, forms_apart}
 use Rattle.ours.specs.Board.{ours, bytes_written}
 use Rattle.demands.specs.Calls.{Call, run}
-use Rattle.demands.specs.History.{Event, Stage, steady, next_stage, marks_next, no_streams, history, marks_after}
+use Rattle.demands.specs.History.{HistoryEvent, Stage, steady, next_stage, marks_next, no_streams, history, marks_after}
 use Rattle.demands.specs.History.{burning_from, burning_seconds, stage_after, lamp_with}
 use Rattle.demands.specs.CountsSeconds.{Beginning, loads, IsClass1, start_marks, IsAccepted, run_of, history_of}
 use Rattle.demands.specs.BoardSwap.{LoadsAs, BoardSwap}
@@ -36,7 +36,7 @@ lamp_goes_on m n start = omega arith
 
 -- of the settings, a history's clock knows W and C alone
 module _ (v w : Wanted) (warm : v.warm ≡ w.warm) (cool : v.cool ≡ w.cool) where
-  burning_alike : (g : Stage) (ms : List Bool) (k : ℕ) (es : List Event) → burning_from v g ms k es
+  burning_alike : (g : Stage) (ms : List Bool) (k : ℕ) (es : List HistoryEvent) → burning_from v g ms k es
       ≡ burning_from w g ms k es
   burning_alike g ms k [] = refl
   burning_alike g ms k (e ∷ es) = grind (arith, burning_alike (next_stage w g e) (marks_next ms e) k es)
@@ -60,7 +60,7 @@ module _ (b : Beginning) (w : Wanted) (cs es : List Call) (m : List ℕ) (place 
   kept = stored_of old
 
   -- what was known on the old board
-  abbrev es_old : List Event
+  abbrev es_old : List HistoryEvent
   es_old = history_of ours b w cs
 
   known : Agrees w (stage_after w es_old) (marks_after (start_marks b w) es_old)

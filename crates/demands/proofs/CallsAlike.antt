@@ -7,10 +7,10 @@ use Rattle.std.proofs.Common.{arith, ℕ, ◌≡◌, refl, sym, ◌∙◌, true,
 use Rattle.std.proofs.lemmas.Bool.{eqb-false}
 use Rattle.text.specs.Words.{over}
 use Rattle.record.specs.Legal.{is_legal}
-use Rattle.record.specs.Places.{connection_at, lowest_shut}
+use Rattle.record.specs.Places.{connection_at, lowest_closed}
 use Rattle.record.specs.declared.types.Device.{Device}
 use Rattle.record.proofs.LegalTold.{legal_places}
-use Rattle.record.proofs.LowestShut.{lowest_shut_same}
+use Rattle.record.proofs.LowestClosed.{lowest_closed_same}
 use Rattle.device.proofs.Cases.{takes}
 use Rattle.ours.specs.Board.{ours}
 use Rattle.demands.specs.Calls.{Call, after, Gave, gave_by}
@@ -47,8 +47,8 @@ module _ (d e : Device) (legal-d : is_legal d ≡ true) (legal-e : is_legal e �
     takes_same q other bs = grind (arith, there_same)
 
     -- which place is the lowest closed one depends on the phases alone
-    lowest_same : phase_at ours p d ≡ phase_at ours p e → lowest_shut d.connections ≡ lowest_shut e.connections
-    lowest_same phase = grind (arith, lowest_shut_same, legal_places, there_same)
+    lowest_same : phase_at ours p d ≡ phase_at ours p e → lowest_closed d.connections ≡ lowest_closed e.connections
+    lowest_same phase = grind (arith, lowest_closed_same, legal_places, there_same)
 
     abbrev IsElsewhere : Call → Type 0
     IsElsewhere c =

@@ -17,7 +17,7 @@ use Rattle.record.specs.Limits.{places_count}
 use Rattle.record.specs.Legal.{is_legal}
 use Rattle.record.specs.Record.{closed}
 use Rattle.record.specs.Updates.{with_fault, with_errors, with_marks}
-use Rattle.record.specs.Places.{connection_at, with_place, is_shut, lowest_shut}
+use Rattle.record.specs.Places.{connection_at, with_place, is_closed, lowest_closed}
 use Rattle.record.specs.declared.types.Own.{Own}
 use Rattle.record.specs.declared.types.Connection.{Connection}
 use Rattle.record.specs.declared.types.Device.{Device}
@@ -30,7 +30,7 @@ use Rattle.clock.proofs.InOneGo.{parts_pass, place_passes}
 use Rattle.device.specs.Calls.{greeting, new_connection}
 use Rattle.device.proofs.Cases.{takes, received_by, opened_placed_by, closed_by_lem}
 use Rattle.ours.specs.Board.{ours, lent_by, closed_as}
-use Rattle.demands.specs.Calls.{Call, opens, closes, receives, passes, marks, reports, enables, after, number_of, Gave}
+use Rattle.demands.specs.Calls.{Call, opens, closes, receives, passes, faults, reports, enables, after, number_of, Gave}
 use Rattle.demands.specs.Calls.{gave_lent, gave_number, gave_by}
 use Rattle.demands.specs.KeepsRunning.{rows_of}
 use Rattle.demands.proofs.KeepsRunning.{number_is_first}
@@ -46,9 +46,9 @@ unserved n c = record { number = n; taken = 0; place = 0; length = 0; memory = l
 -- ---- served
 
 abbrev IsThere : Device → Call → Type 0
-IsThere d (opens random m) = lowest_shut d.connections < places_count
-IsThere d (closes p) = (p < places_count) × (is_shut (connection_at d p) ≡ false)
-IsThere d (receives p bs m) = (p < places_count) × (is_shut (connection_at d p) ≡ false)
+IsThere d (opens random m) = lowest_closed d.connections < places_count
+IsThere d (closes p) = (p < places_count) × (is_closed (connection_at d p) ≡ false)
+IsThere d (receives p bs m) = (p < places_count) × (is_closed (connection_at d p) ≡ false)
 IsThere d (enables lamp mark) = lamp < d.settings.lamp_count
 IsThere d c = Unit {0}
 
@@ -66,7 +66,7 @@ count_taken d (receives p bs m) = (takes d p bs).taken
 count_taken d c = 0
 
 abbrev place_told : Device → Call → ℕ
-place_told d (opens random m) = lowest_shut d.connections
+place_told d (opens random m) = lowest_closed d.connections
 place_told d c = 0
 
 abbrev pub gives : Device → Call → Gave
@@ -81,13 +81,13 @@ gives d c = record {
 abbrev pub own_then : Device → Call → Own
 own_then d (receives p bs m) = (takes d p bs).ended.own
 own_then d (passes n) = times (own_second d.settings) n d.own
-own_then d (marks fault) = with_fault d.own (flag_of fault)
+own_then d (faults fault) = with_fault d.own (flag_of fault)
 own_then d (reports errors) = with_errors d.own errors
 own_then d (enables lamp mark) = with_marks d.own (set d.own.enabled lamp (flag_of mark))
 own_then d c = d.own
 
 abbrev connections_then : Device → Call → List Connection
-connections_then d (opens random m) = set d.connections (lowest_shut d.connections) (new_connection d.settings random)
+connections_then d (opens random m) = set d.connections (lowest_closed d.connections) (new_connection d.settings random)
 connections_then d (closes p) = set d.connections p closed
 connections_then d (receives p bs m) = set d.connections p (takes d p bs).ended.connection
 connections_then d (passes n) = map (times connection_second n) d.connections
@@ -112,7 +112,7 @@ call_by d (receives p bs m) P refused serves =
 call_by d (passes n) P refused serves =
     passed_by (λ r. P (gave_number r) r.device) d n (λ illegal. refused 1 (λ z. omega arith))
     (λ legal. subst (P (gives d (passes n))) (sym (parts_pass n d)) (serves (record { legal = legal; there = tt })))
-call_by d (marks fault) P refused serves =
+call_by d (faults fault) P refused serves =
     fault_set_by d (λ r. P (gave_number r) r.device) fault (refused 1 (λ z. omega arith))
     (λ legal. serves (record { legal = legal; there = tt }))
 call_by d (reports errors) P refused serves =
@@ -140,7 +140,7 @@ calls_by d e c P rows refused serves =
 
 abbrev pub connection_left : Device → Call → ℕ → Connection
 connection_left d (opens random m) q =
-    if lowest_shut d.connections == q then new_connection d.settings random else connection_at d q
+    if lowest_closed d.connections == q then new_connection d.settings random else connection_at d q
 connection_left d (closes p) q = if p == q then closed else connection_at d q
 connection_left d (receives p bs m) q = if p == q then (takes d p bs).ended.connection else connection_at d q
 connection_left d (passes n) q = times connection_second n (connection_at d q)

@@ -4,17 +4,17 @@
 -- Assumes nothing.
 use Rattle.std.proofs.Common.{ℕ, ◌≡◌, refl, sym, ◌∙◌, ne_eqb, ap, subst, List, inl, inr, arith, ◌==◌, eqb-true}
 use Rattle.text.proofs.Choices.{if_no, if_by, if_all}
-use Rattle.record.specs.Places.{connection_at, is_shut, lowest_shut}
+use Rattle.record.specs.Places.{connection_at, is_closed, lowest_closed}
 use Rattle.record.specs.declared.types.Device.{Device}
 use Rattle.ours.specs.Board.{ours}
 use Rattle.demands.specs.Calls.{Call, opens, closes, receives, passes, after, Gave}
 use Rattle.demands.specs.SpeaksPjlink.{Elsewhere}
 use Rattle.demands.proofs.CallsDo.{call_by, connection_at-served, IsServed, connection_left}
 use Rattle.std.proofs.lemmas.Bool.{eqb-false}
-use Rattle.record.specs.Limits.{shut}
+use Rattle.record.specs.Limits.{phase_closed}
 use Rattle.record.specs.declared.types.Settings.{Settings}
 use Rattle.record.specs.declared.types.Own.{Own}
-use Rattle.record.specs.declared.types.Line.{Line}
+use Rattle.record.specs.declared.types.CollectedLine.{CollectedLine}
 use Rattle.record.specs.declared.types.Connection.{Connection}
 use Rattle.record.proofs.Spelt.{closed_spelt}
 use Rattle.record.proofs.LegalTold.{legal_places}
@@ -22,7 +22,7 @@ use Rattle.clock.specs.Second.{times, connection_second}
 use Rattle.clock.proofs.ConnectionsAge.{connection_then}
 use Rattle.device.specs.Receiving.{line_ended, keeping_line, taken_in}
 use Rattle.device.proofs.LineCases.{ended_by, keeping_none, keeping_line_lem, taken_by}
-use Rattle.record.proofs.LowestShut.{lowest_is_shut}
+use Rattle.record.proofs.LowestClosed.{lowest_is_closed}
 use Rattle.demands.specs.Beside.{ClosedOr}
 
 module _ (d : Device) (q : ℕ) where
@@ -43,11 +43,11 @@ module _ (d : Device) (q : ℕ) where
   others_untouched c other = call_by d c Kept (λ n some. refl) (λ h. refl)
 
 module _ (c : Connection) where
-  keeping_keeps : (l : Line) → (keeping_line c l).random ≡ c.random
+  keeping_keeps : (l : CollectedLine) → (keeping_line c l).random ≡ c.random
   keeping_keeps l = grind (arith, keeping_none, eqb-true, keeping_line_lem, eqb-false)
 
   module _ (s : Settings) (o : Own) where
-    line_keeps : (l : Line) → (line_ended s o c l).connection.random ≡ c.random
+    line_keeps : (l : CollectedLine) → (line_ended s o c l).connection.random ≡ c.random
     line_keeps l =
         ended_by s o c l (λ e. e.connection.random ≡ c.random) (λ p m. refl) (λ p m. refl) (λ p m. refl)
         (λ p m. refl) (λ p q. refl)
@@ -61,7 +61,7 @@ module _ (c : Connection) where
       connection_then (ClosedOr c.random) (inl (ap (λ (k : Connection). k.phase) closed_spelt)) (λ k age p. p) n c
       (inr refl)
 
-module _ (d : Device) (p : ℕ) (live : (connection_at d p).phase ≡ shut → ⊥) where
+module _ (d : Device) (p : ℕ) (live : (connection_at d p).phase ≡ phase_closed → ⊥) where
   abbrev KeptIn : Connection → Type 0
   KeptIn = ClosedOr (connection_at d p).random
 
@@ -71,11 +71,12 @@ module _ (d : Device) (p : ℕ) (live : (connection_at d p).phase ≡ shut → �
   kept_then : (c : Call) → IsServed d c → KeptIn (connection_left d c p)
   -- what opening takes is a closed place, so another one
   kept_then (opens random m) h =
-      if_by KeptIn (lowest_shut d.connections == p)
+      if_by KeptIn (lowest_closed d.connections == p)
       (λ e.
-      let closed_there = lowest_is_shut d.connections (omega (arith, legal_places d h.legal, h.there)) in
-      absurd (live (eqb-true (connection_at d p).phase shut
-      (ap (λ (q : ℕ). is_shut (connection_at d q)) (sym (eqb-true (lowest_shut d.connections) p e)) ∙ closed_there))))
+      let closed_there = lowest_is_closed d.connections (omega (arith, legal_places d h.legal, h.there)) in
+      absurd (live (eqb-true (connection_at d p).phase phase_closed
+      (ap (λ (q : ℕ). is_closed (connection_at d q)) (sym (eqb-true (lowest_closed d.connections) p e))
+      ∙ closed_there))))
       (λ e. kept)
   kept_then (closes q) h = if_all KeptIn (q == p) (inl (ap (λ (k : Connection). k.phase) closed_spelt)) kept
   kept_then (receives q bs m) h = grind (arith, bytes_keep, eqb-true, kept)

@@ -25,19 +25,19 @@ use Rattle.pjlink.specs.Requests.{Request, request_of}
 use Rattle.pjlink.specs.Said.{Said, said_bytes, bytes_most, refused}
 use Rattle.pjlink.specs.CanSay.{CanSay, done, refuses, tells, IsOfKind}
 use Rattle.pjlink.proofs.SaidPlain.{said_long, text_said}
-use Rattle.record.specs.Limits.{awaiting, opened}
+use Rattle.record.specs.Limits.{phase_awaiting, phase_open}
 use Rattle.record.specs.Record.{blank_name}
 use Rattle.record.specs.Legal.{is_settings, is_own, is_legal}
 use Rattle.record.specs.Places.{connection_at}
 use Rattle.record.specs.declared.types.Settings.{Settings}
 use Rattle.record.specs.declared.types.Own.{Own}
-use Rattle.record.specs.declared.types.Line.{Line}
+use Rattle.record.specs.declared.types.CollectedLine.{CollectedLine}
 use Rattle.record.specs.declared.types.Connection.{Connection}
 use Rattle.record.specs.declared.types.Device.{Device}
 use Rattle.record.proofs.Rules.{text_most}
 use Rattle.record.proofs.LegalTold.{legal_settings, legal_own}
 use Rattle.meaning.specs.Rules.{is_undefined, is_out_of_parameter}
-use Rattle.meaning.specs.SetUpInputs.{place_of, no_input, inputs_of, is_listed}
+use Rattle.meaning.specs.SetUpInputs.{listed_index, no_input, inputs_of, is_listed}
 use Rattle.meaning.specs.Meaning.{name_bytes, request_answer, answer_for, after_request}
 use Rattle.meaning.proofs.CanBeSaid.{meant_can_be_said, length-inputs_of}
 use Rattle.meaning.proofs.Cases.{Passes, meant_by, err1, err2, done_by}
@@ -51,13 +51,13 @@ use Rattle.demands.specs.ClassOne.{ClassOneAlone}
 use Rattle.record.proofs.FactsTold.{settings_is, fills_told}
 use Rattle.text.specs.Words.{◌is◌}
 use Rattle.text.proofs.Choices.{if_yes, if_no, if_all, if_by}
-use Rattle.words.specs.Bytes.{◌at◌, no_cr, command_most}
+use Rattle.words.specs.Bytes.{◌at◌, is_cr_free, command_most}
 use Rattle.words.specs.Inputs.{is_input_text, input_named, input_text}
 use Rattle.words.specs.declared.input.Input.{Input}
 use Rattle.pjlink.specs.Forms.{head_body, command_parameter, is_command_form, class_of_byte, reply_line}
 use Rattle.words.proofs.InputsReadBack.{named_text}
 use Rattle.words.proofs.SourcesFollowed.{named_stands}
-use Rattle.pjlink.specs.declared.body.Row.{Row}
+use Rattle.pjlink.specs.declared.body.BodyRow.{BodyRow}
 use Rattle.pjlink.specs.RowsOfClass.{is_input_of_class, is_foreign, known_in_class}
 use Rattle.pjlink.specs.declared.request.Unasked.TheVariants.{Unlisted}
 use Rattle.pjlink.proofs.RowsOfClass.{asked_by_class, class_byte_1}
@@ -133,7 +133,7 @@ module _ (s : Settings) (o : Own) (settings : is_settings s ≡ true) (own : is_
       (λ form. omega (arith, meant_short (line_asks l), length-append p (code "\r" ∷ []))) (λ none. omega arith)
 
   module _ (c : Connection) where
-    ended_short : (l : Line) → length (line_ended s o c l).reply ≤ longest_of_class_1
+    ended_short : (l : CollectedLine) → length (line_ended s o c l).reply ≤ longest_of_class_1
     ended_short l =
         ended_by s o c l (λ e. length e.reply ≤ longest_of_class_1) (λ p m. omega arith) (λ p m. answered_short _)
         (λ p m. answered_short _) (λ p m. omega arith) (λ p q. omega arith)
@@ -156,7 +156,7 @@ module _ (s : Settings) (settings : is_settings s ≡ true) (i : Input) where
   listed_in_class : is_listed s i ≡ true → is_input_of_class s.class_number i ≡ true
   listed_in_class listed =
       let told = (settings_is s).0 settings in
-      let k = place_of s i in
+      let k = listed_index s i in
       let below = ltb-true k s.input_count listed in
       let room : 2 * k + 1 < length s.inputs = omega (arith, told.inputs.long, told.inputs.inside) in
       let x = s.inputs at (2 * k) in
@@ -191,7 +191,7 @@ module _ (s : Settings) (o : Own) where
     within_same (Ok c) = if_by (Same (Ok c)) (is_foreign 1 c) (foreign_same c) (λ e. (refl, refl))
     within_same (Err e) = (refl, refl)
 
-    module _ (more : List Row) (others : AreOfOthers more) (l : List ℕ) where
+    module _ (more : List BodyRow) (others : AreOfOthers more) (l : List ℕ) where
       asks_beside : l at 1 ≡ code "1" → Same (line_asks l) (asked_beside more l)
       asks_beside byte =
           let q = asked_beside more l in
@@ -217,26 +217,28 @@ module _ (s : Settings) (o : Own) where
 -- ---- on the board
 
 module _ (d : Device) (one : d.settings.class_number ≡ 1) (l : List ℕ) where
-  answer_as_beside : (more : List Row) → AreOfOthers more → is_legal d ≡ true → answer_to d l ≡ answer_beside more d l
+  answer_as_beside : (more : List BodyRow) → AreOfOthers more → is_legal d ≡ true → answer_to d l
+      ≡ answer_beside more d l
   answer_as_beside more others legal = grind (arith, line_as_beside, legal_settings)
 
   class_2_no_form : (l at 1 is "2") ≡ true → answer_beside [] d l ≡ line_swallowed d.own
   class_2_no_form two = grind (arith, if_all, class_byte_1, eqb-true)
 
 module _ {R : Type 0} (B : Board R) (k : MeetsDemands B) where
-  module _ (d : R) (p : ℕ) (l m : List ℕ) (one : OfClass1 B d) (plain : no_cr l ≡ true) (enough : reply_room ≤ length m)
+  module _ (d : R) (p : ℕ) (l m : List ℕ) (one : OfClass1 B d) (plain : is_cr_free l ≡ true)
+      (enough : reply_room ≤ length m)
     where
-      module _ (more : List Row) (others : AreOfOthers more) where
-        answers : BetweenLines opened (B.shows d) p
+      module _ (more : List BodyRow) (others : AreOfOthers more) where
+        answers : BetweenLines phase_open (B.shows d) p
             → let bs = l ++ codes "\r" in AnsweredAs B d p bs (answer_beside more (B.shows d) l) (B.receive d p bs m)
         answers between = grind (arith, answer_as_beside, k.speaks_pjlink.answers)
 
-        answers_led : BetweenLines awaiting (B.shows d) p → length l ≤ command_most
+        answers_led : BetweenLines phase_awaiting (B.shows d) p → length l ≤ command_most
             → let bs = digest_for (B.shows d) p ++ l ++ codes "\r" in
             AnsweredAs B d p bs (answer_beside more (B.shows d) l) (B.receive d p bs m)
         answers_led between short = grind (arith, answer_as_beside, k.speaks_pjlink.answers_led)
 
-      drops_class_2 : BetweenLines opened (B.shows d) p → (l at 1 is "2") ≡ true
+      drops_class_2 : BetweenLines phase_open (B.shows d) p → (l at 1 is "2") ≡ true
           → let bs = l ++ codes "\r" in AnsweredAs B d p bs (line_swallowed (B.shows d).own) (B.receive d p bs m)
       drops_class_2 between two =
           let bs = l ++ codes "\r" in

@@ -7,11 +7,12 @@ use Rattle.std.proofs.Common.{ℕ, zero, suc, ◌+◌, ◌-◌, ◌≤◌, ◌<�
 use Rattle.std.proofs.Common.{[], ◌∷◌, arith, length, slice_index_or, set, length-set, ⊎_elim, add-zero, zero-add, take}
 use Rattle.std.proofs.Common.{length-take, ext_get_or, if◌then◌else◌}
 use Rattle.record.specs.Views.{marks_seen}
-use Rattle.record.specs.Limits.{lamp_limit, opened, is_lit}
+use Rattle.record.specs.Limits.{lamp_limit, phase_open, is_lit}
 use Rattle.record.specs.Wanted.{Wanted}
 use Rattle.ours.specs.Board.{ours, reply}
 use Rattle.demands.specs.Calls.{Call}
-use Rattle.demands.specs.History.{Event, switched, a_second, mark_switched, Stage, steady, next_stage, stage_is_burning}
+use Rattle.demands.specs.History.{HistoryEvent, switched, a_second, mark_switched, Stage, steady, next_stage}
+use Rattle.demands.specs.History.{is_burning_stage}
 use Rattle.demands.specs.History.{burnt_in, burning_from, burning_seconds, Streams, marks_after, stage_after}
 use Rattle.demands.specs.CountsSeconds.{Beginning, start_marks, IsAccepted, run_of, history_of, count_set}
 use Rattle.demands.specs.CountsSeconds.{burnt_by_marks}
@@ -82,12 +83,12 @@ second_counted false ms = sum_none (length ms)
 
 -- ---- any history
 
-pub burnt_adds_up : (w : Wanted) (g : Stage) (ms : List Bool) (es : List Event)
+pub burnt_adds_up : (w : Wanted) (g : Stage) (ms : List Bool) (es : List HistoryEvent)
     → sum_of (length ms) (λ k. burning_from w g ms k es) ≡ burnt_by_marks w g ms es
 burnt_adds_up w g ms [] = sum_none (length ms)
 burnt_adds_up w g ms (a_second ∷ es) =
     sum_of-add (length ms) (λ k. burnt_in g ms k a_second) (λ k. burning_from w (next_stage w g a_second) ms k es)
-    ∙ (λ i. second_counted (stage_is_burning g) ms i + burnt_adds_up w (next_stage w g a_second) ms es i)
+    ∙ (λ i. second_counted (is_burning_stage g) ms i + burnt_adds_up w (next_stage w g a_second) ms es i)
 burnt_adds_up w g ms (switched wanted ∷ es) =
     sum_of-add (length ms) (λ k. 0) (λ k. burning_from w (next_stage w g (switched wanted)) ms k es)
     ∙ (λ i. sum_none (length ms) i + burnt_adds_up w (next_stage w g (switched wanted)) ms es i)
@@ -120,13 +121,13 @@ each_at f k [] i d h = absurd (omega arith)
 each_at f k (x ∷ l) zero d h = ap (λ (j : ℕ). f j x) (sym (add-zero k))
 each_at f k (x ∷ l) (suc i) d h = grind (arith, each_at f (suc k) l i d (omega arith))
 
-module _ (w : Wanted) (ms : List Bool) (es : List Event) {stream : Streams} {d : Device}
+module _ (w : Wanted) (ms : List Bool) (es : List HistoryEvent) {stream : Streams} {d : Device}
     (a : Agrees w (stage_after w es) (marks_after ms es) (λ k. burning_seconds w ms k es) stream d) {p : ℕ}
-    (between : BetweenLines opened d p) where
+    (between : BetweenLines phase_open d p) where
   count : d.settings.lamp_count ≡ length w.lamps
   count = ap (λ (s : Settings). s.lamp_count) a.settings
 
-  lit : is_lit d.own.power ≡ stage_is_burning (stage_after w es)
+  lit : is_lit d.own.power ≡ is_burning_stage (stage_after w es)
   lit = ap is_lit a.power ∙ lit_shown (stage_after w es)
 
   abbrev none : LampHours

@@ -13,7 +13,7 @@ use Rattle.pjlink.specs.declared.body.Body.TheVariants.{Powr}
 use Rattle.pjlink.specs.Bodies.{is_body}
 use Rattle.stream.proofs.LastBytes.{Ends, ends_unheld}
 use Rattle.device.proofs.PowerLines.{is_power_okay, power_line, power_line_read, power_line_not_other, okay_reply}
-use Rattle.demands.specs.History.{Event, switched, power_set, a_second, mark_switched, Stage, steady}
+use Rattle.demands.specs.History.{HistoryEvent, switched, power_set, a_second, mark_switched, Stage, steady}
 use Rattle.demands.specs.History.{towards, next_stage, Streams, going_on_at, streams_after, seen, no_streams, history}
 use Rattle.demands.specs.History.{stage_from, marks_after, burning_from, burning_seconds, stage_after}
 use Rattle.pjlink.specs.declared.command.Command.TheVariants.{PowerSet}
@@ -40,7 +40,7 @@ use Rattle.device.proofs.Histories.{closing_tells}
 use Rattle.device.proofs.Untouched.{opening_keeps_settings, opening_keeps_own, closing_keeps_settings}
 use Rattle.device.proofs.Untouched.{closing_keeps_own}
 use Rattle.ours.specs.Board.{ours, lent_by, reply}
-use Rattle.demands.specs.Calls.{Call, opens, closes, receives, passes, marks, reports, enables, after, run}
+use Rattle.demands.specs.Calls.{Call, opens, closes, receives, passes, faults, reports, enables, after, run}
 use Rattle.demands.proofs.Agrees.{power_of, left_of, Shows, Agrees, agrees_at, remarked, recounted, Then, agrees_none}
 use Rattle.demands.proofs.Agrees.{agrees_switched, agrees_seconds, agrees_marked, stage_from-append, marks_after-append}
 use Rattle.demands.proofs.Agrees.{burning_from-append}
@@ -78,7 +78,7 @@ unfolding power_set
 none_seen stream reply e = rw e
 
 -- whatever it is, it is one set or none
-pub one_or_none : (P : List Event → Type 0) (stream reply : List ℕ) → P []
+pub one_or_none : (P : List HistoryEvent → Type 0) (stream reply : List ℕ) → P []
     → ((wanted : Bool) → P (switched wanted ∷ []))
     → P (power_set stream reply)
 unfolding power_set
@@ -173,7 +173,7 @@ module _ {w : Wanted} {g : Stage} {ms : List Bool} {n : ℕ → ℕ} {stream : S
   pub noted : (c : Call) → IsNoted c
   noted (opens random m) = grind (arith, reconnected, opening_keeps_settings, opening_keeps_own, opening_tells)
   noted (closes p) = grind (arith, reconnected, closing_keeps_settings, closing_keeps_own, closing_tells)
-  noted (marks fault) =
+  noted (faults fault) =
       fault_set_by d QuietBy fault kept (λ legal. quiet _ refl refl refl refl refl a.last)
   noted (reports errors) =
       errors_set_by d QuietBy errors kept kept (λ legal right. quiet _ refl refl refl refl refl a.last)
@@ -290,7 +290,7 @@ module _ (b : Beginning) (w : Wanted) (cs : List Call) (h : IsAccepted ours b w)
   abbrev ms : List Bool
   ms = start_marks b w
 
-  abbrev known : List Event
+  abbrev known : List HistoryEvent
   known = history_of ours b w cs
 
   pub history_told : (now : Streams)

@@ -10,14 +10,14 @@ use Rattle.std.proofs.Common.{sym, subst, append_assoc, length, take, length-app
 use Rattle.std.proofs.lemmas.Bool.{not-true, eqb-false}
 use Prim.Native.Char.{code}
 use Rattle.text.proofs.Choices.{if_no, both_left, both_right, if_by}
-use Rattle.words.specs.Bytes.{not_cr}
-use Rattle.demands.specs.Interleaved.{line_ends, to_first_cr, Heard, heard_nothing, heard_then, heard_of}
+use Rattle.words.specs.Bytes.{is_not_cr}
+use Rattle.demands.specs.Interleaved.{line_ends, to_first_cr, HeardAt, heard_nothing, heard_then, heard_of}
 use Rattle.demands.specs.Interleaved.{answered_first, alone_at, heard_in, heard, ByBytes, ByBytesOnly, alone_of}
 use Rattle.demands.specs.Interleaved.{SeenAlone, Interleaved}
 use Rattle.std.proofs.Math.Seq.{take-length}
 use mathlib.Core.List.{foldl}
 use Rattle.words.proofs.Characters.{no_cr_of}
-use Rattle.record.specs.Limits.{shut, failed, places_count}
+use Rattle.record.specs.Limits.{phase_closed, phase_failed, places_count}
 use Rattle.record.specs.declared.types.Settings.{Settings}
 use Rattle.record.specs.declared.types.Own.{Own}
 use Rattle.record.specs.declared.types.Connection.{Connection}
@@ -27,7 +27,7 @@ use Rattle.device.specs.Receiving.{line_ended}
 use Rattle.device.proofs.ReceivingAsMachine.{State, state_of, collects, ends, takes_in, takes_in-state_of, as_call}
 use Rattle.demands.proofs.Sessions.{cr_seen}
 use Rattle.record.specs.Legal.{is_legal}
-use Rattle.record.specs.Places.{connection_at, is_shut}
+use Rattle.record.specs.Places.{connection_at, is_closed}
 use Rattle.record.specs.declared.types.Device.{Device}
 use Rattle.record.proofs.LegalTold.{legal_places, connection_of_legal}
 use Rattle.record.proofs.ConnectionsTold.{placed_here}
@@ -42,25 +42,25 @@ use Rattle.demands.proofs.CallsDo.{settings_stay}
 abbrev pub cr : List ℕ
 cr = code "\r" ∷ []
 
-pub first_plain : (b : ℕ) (bs : List ℕ) → list_all not_cr (b ∷ bs) ≡ true → (b == code "\r") ≡ false
-first_plain b bs p = not-true (b == code "\r") (both_left (not_cr b) (list_all not_cr bs) p)
+pub first_plain : (b : ℕ) (bs : List ℕ) → list_all is_not_cr (b ∷ bs) ≡ true → (b == code "\r") ≡ false
+first_plain b bs p = not-true (b == code "\r") (both_left (is_not_cr b) (list_all is_not_cr bs) p)
 
-pub rest_plain : (b : ℕ) (bs : List ℕ) → list_all not_cr (b ∷ bs) ≡ true → list_all not_cr bs ≡ true
-rest_plain b bs p = both_right (not_cr b) (list_all not_cr bs) p
+pub rest_plain : (b : ℕ) (bs : List ℕ) → list_all is_not_cr (b ∷ bs) ≡ true → list_all is_not_cr bs ≡ true
+rest_plain b bs p = both_right (is_not_cr b) (list_all is_not_cr bs) p
 
-pub no_end : (xs : List ℕ) → list_all not_cr xs ≡ true → line_ends xs ≡ 0
+pub no_end : (xs : List ℕ) → list_all is_not_cr xs ≡ true → line_ends xs ≡ 0
 no_end [] p = refl
 no_end (x ∷ xs) p = if_no _ _ (first_plain x xs p) ∙ no_end xs (rest_plain x xs p)
 
-pub one_end : (xs : List ℕ) → list_all not_cr xs ≡ true → line_ends (xs ++ cr) ≡ 1
+pub one_end : (xs : List ℕ) → list_all is_not_cr xs ≡ true → line_ends (xs ++ cr) ≡ 1
 one_end [] p = refl
 one_end (x ∷ xs) p = if_no _ _ (first_plain x xs p) ∙ one_end xs (rest_plain x xs p)
 
-pub all_taken : (xs : List ℕ) → list_all not_cr xs ≡ true → to_first_cr xs ≡ xs
+pub all_taken : (xs : List ℕ) → list_all is_not_cr xs ≡ true → to_first_cr xs ≡ xs
 all_taken [] p = refl
 all_taken (x ∷ xs) p = if_no _ _ (first_plain x xs p) ∙ ap (λ (l : List ℕ). x ∷ l) (all_taken xs (rest_plain x xs p))
 
-pub line_taken : (xs more : List ℕ) → list_all not_cr xs ≡ true → to_first_cr (xs ++ (code "\r" ∷ more)) ≡ xs ++ cr
+pub line_taken : (xs more : List ℕ) → list_all is_not_cr xs ≡ true → to_first_cr (xs ++ (code "\r" ∷ more)) ≡ xs ++ cr
 line_taken [] more p = refl
 line_taken (x ∷ xs) more p = grind (arith, line_taken xs more (rest_plain x xs p))
 
@@ -76,7 +76,7 @@ own_stays o c (x ∷ xs) = own_stays o (collects (state_of o c) x).connection xs
 -- ---- what is heard
 
 module _ (s : Settings) where
-  pub record Hears (c : Connection) (h : Heard) (k : Connection) : Type 0 where
+  pub record Hears (c : Connection) (h : HeardAt) (k : Connection) : Type 0 where
     pub goes_on : (owns : List Own) (rest : List ℕ)
         → alone_at s c (h.owns ++ owns) (h.taken ++ rest) ≡ answered_first h.replied (alone_at s k owns rest)
     pub lines : length h.owns ≡ line_ends h.taken
@@ -84,7 +84,7 @@ module _ (s : Settings) where
   pub hears_nothing : (c : Connection) → Hears c heard_nothing c
   hears_nothing c = record { goes_on = λ owns rest. refl; lines = refl }
 
-  alone_at-append : (o : Own) (c : Connection) (owns : List Own) (xs rest : List ℕ) → list_all not_cr xs ≡ true
+  alone_at-append : (o : Own) (c : Connection) (owns : List Own) (xs rest : List ℕ) → list_all is_not_cr xs ≡ true
       → alone_at s c owns (xs ++ rest) ≡ alone_at s (foldl collects (state_of o c) xs).connection owns rest
   unfolding alone_at
   alone_at-append o c owns [] rest p = refl
@@ -92,7 +92,7 @@ module _ (s : Settings) where
       let k = (collects (state_of o c) x).connection in
       if_no _ _ (first_plain x xs p) ∙ alone_at-append o k owns xs rest (rest_plain x xs p)
 
-  module _ (o : Own) (c : Connection) (xs : List ℕ) (none : list_all not_cr xs ≡ true) where
+  module _ (o : Own) (c : Connection) (xs : List ℕ) (none : list_all is_not_cr xs ≡ true) where
     abbrev gathered : State
     gathered = foldl collects (state_of o c) xs
 
@@ -145,26 +145,27 @@ module _ (s : Settings) where
           taken = line ∙ sym (line_taken xs more none);
         })
 
-    pub taking_heard : c.phase ≤ failed → (c.phase ≡ shut → ⊥) → OneCall o c bs (takes_in s (state_of o c) bs)
+    pub taking_heard : c.phase ≤ phase_failed → (c.phase ≡ phase_closed → ⊥)
+        → OneCall o c bs (takes_in s (state_of o c) bs)
     taking_heard known live = subst (OneCall o c bs) (sym (takes_in-state_of s o c bs known live)) call_heard
 
   -- ---- one call after the first
 
-  pub hears_then : {c k e : Connection} {h g : Heard} → Hears c h k → Hears k g e → Hears c (heard_then h g) e
+  pub hears_then : {c k e : Connection} {h g : HeardAt} → Hears c h k → Hears k g e → Hears c (heard_then h g) e
   hears_then first second = grind (arith, append_assoc, length-append, ends_add)
 
 module _ (q : ℕ) (d : Device) where
-  abbrev HeardThere : Heard → Connection → Type 0
+  abbrev HeardThere : HeardAt → Connection → Type 0
   HeardThere h k = Hears d.settings (connection_at d q) h k
 
   module _ (bs m : List ℕ) where
     -- an accepted call there
-    accepted_call : is_legal d ≡ true → q < places_count → is_shut (connection_at d q) ≡ false
+    accepted_call : is_legal d ≡ true → q < places_count → is_closed (connection_at d q) ≡ false
         → OneCall d.settings d.own (connection_at d q) bs (as_call (takes d q bs))
     accepted_call legal there live =
         let c = connection_at d q in
         taking_heard d.settings d.own c bs (connection_of_legal d legal q there).phase
-        (eqb-false c.phase shut live)
+        (eqb-false c.phase phase_closed live)
 
     call_there : let r = ours.receive d q bs m in
         HeardThere (heard_of d.own (take r.taken bs) (reply r)) (connection_at r.device q)
@@ -181,7 +182,7 @@ module _ (q : ℕ) (d : Device) where
         (sym (placed_here d (legal_places d legal) q there t.ended.own t.ended.connection))
         (accepted_call legal there live).seen))
 
-    takes_a_line : is_legal d ≡ true → q < places_count → is_shut (connection_at d q) ≡ false → reply_room ≤ length m
+    takes_a_line : is_legal d ≡ true → q < places_count → is_closed (connection_at d q) ≡ false → reply_room ≤ length m
         → let r = ours.receive d q bs m in (r.number ≡ 0) × (take r.taken bs ≡ to_first_cr bs)
     takes_a_line legal there live enough = grind (arith, received_taken, accepted_call)
 
@@ -191,7 +192,7 @@ module _ (q : ℕ) (d : Device) where
 
   any_call : (c : Call) → ByBytes ours q d c → HeardThere (heard_in ours q d c) (connection_at (after ours d c) q)
   any_call (receives p bs m) h =
-      if_by (λ (k : Heard). HeardThere k (connection_at (ours.receive d p bs m).device q)) (p == q)
+      if_by (λ (k : HeardAt). HeardThere k (connection_at (ours.receive d p bs m).device q)) (p == q)
       (λ e. subst
       (λ (x : ℕ). let r = ours.receive d x bs m in
       HeardThere (heard_of d.own (take r.taken bs) (reply r)) (connection_at r.device q))

@@ -28,7 +28,7 @@ use Rattle.demands.specs.Calls.{Call, number_of, after}
 use Rattle.demands.specs.KeepsRunning.{Inside, WroteInside, StaysInside, rows_of, set_up_rows, writer_rows, reader_rows}
 use Rattle.demands.specs.KeepsRunning.{greeting_rows, Untouched, WritesNothing, KeepsRunning}
 use Rattle.text.specs.Rows.{◌when◌, first_of}
-use Rattle.text.specs.Scans.{same_by, itself}
+use Rattle.text.specs.Scans.{is_same_by, itself}
 use Rattle.pjlink.specs.Forms.{erra_line, greeting_open, is_reply_form, head_body, reply_parameter}
 use Rattle.pjlink.specs.Bodies.{is_body}
 use Rattle.pjlink.specs.Writings.{IsAllowed}
@@ -140,12 +140,12 @@ pub reader_number : (c : Command) (l : List ℕ) (allowed : Bool) → IsAllowed 
     → reading_outcome_number (ours.read_reply c l).outcome ≡ first_of (reader_rows c l allowed)
 reader_number c l allowed said =
     ap reading_outcome_number (outcome_is_first c l said)
-    ∙ by_tests (same_by itself l erra_line) (is_reply_form (command_class c) l)
+    ∙ by_tests (is_same_by itself l erra_line) (is_reply_form (command_class c) l)
     (is_body (command_class c) (head_body l) (body_of c)) allowed
 
 module _ (l : List ℕ) where
-  greeting_number-read_greeting : (plain erra secured : Bool) → same_by itself l greeting_open ≡ plain
-      → same_by itself l erra_line ≡ erra → greets l (random_in l) ≡ secured
+  greeting_number-read_greeting : (plain erra secured : Bool) → is_same_by itself l greeting_open ≡ plain
+      → is_same_by itself l erra_line ≡ erra → greets l (random_in l) ≡ secured
       → greeting_number (read_greeting l)
       ≡ first_of ((0 when plain) ∷ (0 when erra) ∷ (0 when secured) ∷ (10 when true) ∷ [])
   greeting_number-read_greeting true erra secured p e g = ap greeting_number (greeting_open_lem l p)

@@ -11,9 +11,9 @@ use Rattle.std.proofs.lemmas.Bool.{lt-leb}
 use Rattle.text.proofs.Choices.{if_yes, if_no}
 use Rattle.text.proofs.Orders.{le_or_lt}
 use Rattle.digest.proofs.Laws.{length-leading_digest}
-use Rattle.words.specs.Bytes.{no_cr, command_most}
-use Rattle.record.specs.Limits.{awaiting, opened, places_count}
-use Rattle.record.specs.Places.{connection_at, is_shut}
+use Rattle.words.specs.Bytes.{is_cr_free, command_most}
+use Rattle.record.specs.Limits.{phase_awaiting, phase_open, places_count}
+use Rattle.record.specs.Places.{connection_at, is_closed}
 use Rattle.record.specs.declared.types.Device.{Device}
 use Rattle.device.specs.Answering.{Answered, line_answer, line_swallowed}
 use Rattle.device.specs.Receiving.{is_match}
@@ -46,7 +46,7 @@ module _ (d : Device) (p : ℕ) (bs m : List ℕ) where
       → AnsweredAs ours d p bs b (lent_by r m)
   result_answers a b e count same = grind (arith, line_result, answered_as)
 
-module _ (d : Device) (p : ℕ) (l m : List ℕ) (plain : no_cr l ≡ true) (enough : reply_room ≤ length m) where
+module _ (d : Device) (p : ℕ) (l m : List ℕ) (plain : is_cr_free l ≡ true) (enough : reply_room ≤ length m) where
   abbrev tables : Answered
   tables = line_answer d.settings d.own l
 
@@ -56,7 +56,7 @@ module _ (d : Device) (p : ℕ) (l m : List ℕ) (plain : no_cr l ≡ true) (eno
   long_swallowed : command_most < length l → line_swallowed d.own ≡ answer_to d l
   long_swallowed long = sym (if_no tables (line_swallowed d.own) (lt-leb (length l) command_most long))
 
-  pub line_answered : BetweenLines opened d p
+  pub line_answered : BetweenLines phase_open d p
       → let bs = l ++ codes "\r" in AnsweredAs ours d p bs (answer_to d l) (ours.receive d p bs m)
   line_answered between =
       grind (
@@ -72,7 +72,7 @@ module _ (d : Device) (p : ℕ) (l m : List ℕ) (plain : no_cr l ≡ true) (eno
         le_or_lt,
       )
 
-  pub led_line_answered : BetweenLines awaiting d p → length l ≤ command_most
+  pub led_line_answered : BetweenLines phase_awaiting d p → length l ≤ command_most
       → let bs = digest_for d p ++ l ++ codes "\r" in AnsweredAs ours d p bs (answer_to d l) (ours.receive d p bs m)
   led_line_answered between short =
       grind (
@@ -93,12 +93,12 @@ pub handed_alike : (m : List ℕ) (p : ℕ) (d : Device) (ps : List (List ℕ))
 handed_alike m p d ps = ap (λ (f : Device → List ℕ → Took Device). handed_parts f d ps) (same_calls m p)
 
 pub same_however_cut : (d : Device) (p : ℕ) (m : List ℕ) (ps qs : List (List ℕ)) → is_legal d ≡ true
-    → p < places_count → is_shut (connection_at d p) ≡ false → reply_room ≤ length m → stream_of ps ≡ stream_of qs
+    → p < places_count → is_closed (connection_at d p) ≡ false → reply_room ≤ length m → stream_of ps ≡ stream_of qs
     → handed_on ours m p d ps ≡ handed_on ours m p d qs
 same_however_cut d p m ps qs legal there live enough e = grind (arith, handed_alike, received_however_cut)
 
 pub outsider_refused : (d : Device) (p : ℕ) (l more m : List ℕ) (ps : List (List ℕ))
-    → BetweenLines awaiting d p → no_cr l ≡ true → is_led d p l ≡ false → reply_room ≤ length m
+    → BetweenLines phase_awaiting d p → is_cr_free l ≡ true → is_led d p l ≡ false → reply_room ≤ length m
     → stream_of ps ≡ l ++ codes "\r" ++ more
     → RefusalOnly ours d p (handed_on ours m p d ps)
 outsider_refused d p l more m ps between plain unled enough all =
@@ -120,7 +120,7 @@ outsider_refused d p l more m ps between plain unled enough all =
 pub outsider_reads_erra : (d : Device) (p : ℕ) (bs : List ℕ) (room : ℕ) (c : Command) → is_legal d ≡ true
     → reply_room ≤ room → p < places_count
     → let k = connection_at d p in
-    k.phase ≡ awaiting
+    k.phase ≡ phase_awaiting
     → let g = gathered_from (held_most k.phase) k.line bs in
     g.ended ≡ true → is_match d.settings k g.line ≡ false
     → read_reply c (received_at d p bs room).reply ≡ outcome_alone erra_said

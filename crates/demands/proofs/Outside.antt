@@ -9,10 +9,10 @@ use Rattle.std.proofs.Common.{length, slice_index_or, replicate, ◌==◌, eqb-t
 use Rattle.text.specs.Words.{over}
 use Rattle.std.proofs.lemmas.Bool.{false≢true, eqb-false}
 use Rattle.text.proofs.Choices.{if_all}
-use Rattle.record.specs.Limits.{shut, places_count}
+use Rattle.record.specs.Limits.{phase_closed, places_count}
 use Rattle.record.specs.Legal.{is_legal}
 use Rattle.record.specs.Record.{closed}
-use Rattle.record.specs.Places.{no_connection, connection_at, is_shut}
+use Rattle.record.specs.Places.{no_connection, connection_at, is_closed}
 use Rattle.record.specs.Wanted.{Wanted}
 use Rattle.record.specs.declared.types.Connection.{Connection}
 use Rattle.record.specs.declared.types.Own.{Own}
@@ -26,7 +26,7 @@ use Rattle.ours.specs.Board.{ours}
 use Rattle.demands.specs.Calls.{Call, opens, closes, receives, passes, after}
 use Rattle.demands.specs.Outsider.{Session, opened_with, unopened, noted_of, noted, is_matched, is_received_at, silence}
 use Rattle.demands.proofs.KeepsRunning.{stays_legal, over_front}
-use Rattle.demands.proofs.Sessions.{Standing, is_closed, awaits, nothing_yet, answered_so, closed_stands, heard}
+use Rattle.demands.proofs.Sessions.{Standing, stands_closed, awaits, nothing_yet, answered_so, closed_stands, heard}
 use Rattle.demands.proofs.Sessions.{stands_on, stands_later}
 use Rattle.demands.proofs.CallsDo.{unserved, IsServed, gives, own_then, connection_left, call_by, connection_at-served}
 use Rattle.demands.proofs.CallsDo.{settings_stay}
@@ -89,7 +89,7 @@ module _ (password : List ℕ) (p : ℕ) (s : Session) (d : Device) (out : Outsi
           × KeptIf here t.ended.own
       by true e u =
           let there = subst (λ (k : ℕ). Standing s (connection_at d k)) (sym (eqb-true q p e)) out.standing in
-          let live = eqb-false (connection_at d q).phase shut h.there.1 in
+          let live = eqb-false (connection_at d q).phase phase_closed h.there.1 in
           let on = stands_on d.settings d.own (connection_at d q) s bs live there
           ((λ i. is_matched (out.known i) (same i)) ∙ u) in
           (subst (λ (k : Session). Standing k t.ended.connection) same on.standing, λ z. on.own)
@@ -125,12 +125,12 @@ module _ (password : List ℕ) (p : ℕ) (s : Session) (d : Device) (out : Outsi
 
 -- a place that is closed, and was not opened yet
 pub unopened_outside : (d : Device) (p : ℕ) → is_legal d ≡ true → has_password d.settings ≡ true
-    → is_shut (connection_at d p) ≡ true → Outside (set_up_password d.settings) p unopened d
+    → is_closed (connection_at d p) ≡ true → Outside (set_up_password d.settings) p unopened d
 unopened_outside d p legal secured free = record {
   legal = legal;
   secured = secured;
   known = refl;
-  standing = is_closed (eqb-true (connection_at d p).phase shut free) silence;
+  standing = stands_closed (eqb-true (connection_at d p).phase phase_closed free) silence;
 }
 
 -- every place of a fresh set-up
@@ -139,10 +139,10 @@ pub fresh_outside : (w : Wanted) (p : ℕ) → (ours.set_up w).number ≡ 0
     has_password d.settings ≡ true → Outside (set_up_password d.settings) p unopened d
 fresh_outside w p accepted secured =
     unopened_outside (ours.set_up w).device p (set_up_legal w accepted) secured
-    (ap (λ (e : Device). is_shut (connection_at e p)) (set_up_started w accepted ∙ started_parts w)
-    ∙ all_shut places_count p)
+    (ap (λ (e : Device). is_closed (connection_at e p)) (set_up_started w accepted ∙ started_parts w)
+    ∙ each_closed places_count p)
   where
-    all_shut : (n k : ℕ) → is_shut (slice_index_or (replicate n closed) k no_connection) ≡ true
-    all_shut zero k = refl
-    all_shut (suc n) zero = ap is_shut closed_spelt
-    all_shut (suc n) (suc k) = all_shut n k
+    each_closed : (n k : ℕ) → is_closed (slice_index_or (replicate n closed) k no_connection) ≡ true
+    each_closed zero k = refl
+    each_closed (suc n) zero = ap is_closed closed_spelt
+    each_closed (suc n) (suc k) = each_closed n k

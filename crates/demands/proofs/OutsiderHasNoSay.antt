@@ -7,7 +7,7 @@ use Rattle.std.proofs.lemmas.Bool.{false≢true}
 use Rattle.text.proofs.Choices.{if_by}
 use Rattle.record.specs.Limits.{places_count}
 use Rattle.record.specs.Legal.{is_legal}
-use Rattle.record.specs.Places.{connection_at, is_shut}
+use Rattle.record.specs.Places.{connection_at, is_closed}
 use Rattle.record.specs.declared.types.Device.{Device}
 use Rattle.device.specs.Receiving.{set_up_password}
 use Rattle.device.specs.Calls.{has_password}
@@ -77,13 +77,13 @@ module _ (password : List ℕ) where
 -- ---- from places that are closed
 
 module _ (d : Device) (cs : List Call) (legal : is_legal d ≡ true) (secured : has_password d.settings ≡ true) where
-  pub outsider_has_no_say : (p : ℕ) → is_shut (connection_at d p) ≡ true
+  pub outsider_has_no_say : (p : ℕ) → is_closed (connection_at d p) ≡ true
       → IsNeverMatched ours p (set_up_password d.settings) d unopened cs → NoSay ours p d unopened cs
   outsider_has_no_say p free never =
       let end = no_say (set_up_password d.settings) p cs unopened d (unopened_outside d p legal secured free) never in
       record { kept = end.0; answers = answered_so end.1.standing }
 
-  pub outsiders_have_no_say : ((p : ℕ) → p < places_count → is_shut (connection_at d p) ≡ true)
+  pub outsiders_have_no_say : ((p : ℕ) → p < places_count → is_closed (connection_at d p) ≡ true)
       → ((p : ℕ) → p < places_count → IsNeverMatched ours p (set_up_password d.settings) d unopened cs)
       → HostsAlone ours d cs
   outsiders_have_no_say free never =

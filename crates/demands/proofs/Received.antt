@@ -5,9 +5,9 @@ use Rattle.std.proofs.Common.{ℕ, ◌<◌, ◌≡◌, sym, ap, ◌∙◌, Bool,
 use Rattle.std.proofs.Common.{if◌then◌else◌}
 use Rattle.std.proofs.lemmas.Bool.{eqb-false}
 use Prim.Native.Char.{code}
-use Rattle.record.specs.Limits.{places_count, shut}
+use Rattle.record.specs.Limits.{places_count, phase_closed}
 use Rattle.record.specs.Legal.{is_legal}
-use Rattle.record.specs.Places.{connection_at, with_place, is_shut}
+use Rattle.record.specs.Places.{connection_at, with_place, is_closed}
 use Rattle.record.specs.declared.types.Settings.{Settings}
 use Rattle.record.specs.declared.types.Device.{Device}
 use Rattle.record.proofs.LegalTold.{legal_places, connection_of_legal}
@@ -42,14 +42,14 @@ module _ (s : Settings) where
       by false x y = y
 
 taken_own : (d : Device) (p : ℕ) (bs : List ℕ) → is_legal d ≡ true → p < places_count
-    → is_shut (connection_at d p) ≡ false
+    → is_closed (connection_at d p) ≡ false
     → let t = takes d p bs in t.ended.own ≡ own_by d.settings d.own (connection_at d p) (take t.taken bs)
 taken_own d p bs legal there live =
     let s = d.settings in
     let c = connection_at d p in
     let m = state_of d.own c in
     let known = (connection_of_legal d legal p there).phase in
-    let call = takes_in-state_of s d.own c bs known (eqb-false c.phase shut live) in
+    let call = takes_in-state_of s d.own c bs known (eqb-false c.phase phase_closed live) in
     ap (λ (k : Took State). k.state.own) call
     ∙ ap (λ (k : Took State). k.state.own) (call_runs (code "\r") State collects (ends s) m bs)
     ∙ ap (λ (k : Took State). (ran s m (take k.taken bs)).state.own) (sym call)

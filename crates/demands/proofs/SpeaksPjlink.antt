@@ -25,7 +25,7 @@ use Rattle.pjlink.proofs.GreetingsHeard.{heard_exactly}
 use Rattle.controller.proofs.ReadsSound.{means_what_was_written, what_was_written_is_meant, erra_exactly}
 use Rattle.controller.proofs.Refusals.{erra_read}
 use Rattle.demands.proofs.Received.{received}
-use Rattle.demands.specs.Calls.{closes, marks, reports, enables}
+use Rattle.demands.specs.Calls.{closes, faults, reports, enables}
 use Rattle.demands.specs.SpeaksPjlink.{SpeaksPjlink}
 use Rattle.demands.proofs.LinesAnswered.{line_answered, led_line_answered, same_however_cut, outsider_refused}
 use Rattle.demands.proofs.OutsiderHasNoSay.{outsider_has_no_say, outsiders_have_no_say}
@@ -81,7 +81,7 @@ ours_speaks_pjlink = record {
   opens = opens;
   receives = received;
   closes = λ d p. served_after d (closes p);
-  marks = λ d fault. served_after d (marks fault);
+  marks = λ d fault. served_after d (faults fault);
   reports = λ d errors. served_after d (reports errors);
   enables = λ d lamp mark. served_after d (enables lamp mark);
   greets_back = greets_back;

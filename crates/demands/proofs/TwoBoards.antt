@@ -9,7 +9,7 @@ use Rattle.std.proofs.Common.{arith, length, take, drop, replicate, take-append-
 use Rattle.std.proofs.Common.{eqb-true, eq-eqb, if◌then◌else◌, Option, Some, None}
 use Rattle.std.proofs.lemmas.Bool.{eqb-false}
 use Rattle.std.proofs.lemmas.List.{length-replicate}
-use Rattle.words.specs.Bytes.{no_cr, ◌at◌}
+use Rattle.words.specs.Bytes.{is_cr_free, ◌at◌}
 use Rattle.pjlink.specs.Forms.{reply_parameter}
 use Rattle.pjlink.specs.Greetings.{read_greeting, Exactly}
 use Rattle.pjlink.specs.declared.command.Command.{Command}
@@ -19,10 +19,10 @@ use Rattle.pjlink.proofs.GreetingsHeard.{open_heard, erra_heard, secured_heard, 
 use Rattle.pjlink.proofs.ReadWritings.{allowed_or_not}
 use Rattle.record.specs.Limits.{places_count}
 use Rattle.record.specs.Wanted.{Wanted}
-use Rattle.record.specs.Rules.{at_most}
+use Rattle.record.specs.Rules.{is_at_most}
 use Rattle.record.specs.Given.{Given}
 use Rattle.record.specs.Legal.{is_legal}
-use Rattle.record.specs.Places.{connection_at, with_place, is_shut}
+use Rattle.record.specs.Places.{connection_at, with_place, is_closed}
 use Rattle.record.specs.declared.types.Own.{Own}
 use Rattle.record.specs.declared.types.Device.{Device}
 use Rattle.stored.specs.Form.{form_version, marked_version, old_version, version_form, marked_form_of, old_form_of}
@@ -34,16 +34,16 @@ use Rattle.stored.proofs.OneForm.{stored_as_it_was, old_unmarked}
 use Rattle.stored.proofs.Results.{accepted_told}
 use Rattle.device.specs.Calls.{Result, reply_room, new_connection}
 use Rattle.device.proofs.Cases.{received_by}
-use Rattle.controller.specs.Reading.{ReadAs, Outcome, means_it, erra_said, not_a_line, other_command, disallowed}
+use Rattle.controller.specs.Reading.{ReadAs, ReadingOutcome, means_it, erra_said, not_a_line, other_command, disallowed}
 use Rattle.controller.specs.Reading.{read_reply, reading_outcome_number}
 use Rattle.ours.specs.Board.{Board, Lent, Wrote, ours, reply, bytes_written}
-use Rattle.demands.specs.Calls.{Call, opens, closes, receives, passes, marks, reports, enables, after, number_of}
+use Rattle.demands.specs.Calls.{Call, opens, closes, receives, passes, faults, reports, enables, after, number_of}
 use Rattle.demands.specs.Calls.{gave_by, Gave}
 use Rattle.demands.specs.CallsDone.{own_by}
 use Rattle.demands.specs.KeepsRunning.{Inside, WroteInside, Untouched}
 use Rattle.demands.specs.CountsSeconds.{IsClass1}
 use Rattle.demands.specs.BoardSwap.{LoadsAs}
-use Rattle.demands.specs.Interleaved.{Heard, heard_nothing, heard_then, heard_of, heard, Alone, alone_at, to_first_cr}
+use Rattle.demands.specs.Interleaved.{HeardAt, heard_nothing, heard_then, heard_of, heard, Alone, alone_at, to_first_cr}
 use Rattle.demands.specs.TwoBoards.{MeetsDemands, SameGiven, SameAfter, AreAlike}
 use Rattle.demands.proofs.KeepsRunning.{ours_keeps_running, number_is_first}
 use Rattle.demands.proofs.SpeaksPjlink.{ours_speaks_pjlink}
@@ -86,7 +86,7 @@ module _ (m : List ℕ) where
 -- ---- what an accepted receive gives
 
 abbrev owns_at : Own → List ℕ → List Own
-owns_at o u = if no_cr u then [] else o ∷ []
+owns_at o u = if is_cr_free u then [] else o ∷ []
 
 abbrev alone_here : Device → ℕ → List ℕ → Alone
 alone_here d p bs = alone_at d.settings (connection_at d p) (owns_at d.own (to_first_cr bs)) (to_first_cr bs)
@@ -110,7 +110,7 @@ module _ {R : Type 0} (X : Board R) (k : MeetsDemands X) (x : R) (p : ℕ) (bs m
   abbrev Serves : Type 0
   Serves =
       (is_legal shows_x ≡ true)
-      × ((reply_room ≤ length m) × ((p < places_count) × (is_shut (connection_at shows_x p) ≡ false)))
+      × ((reply_room ≤ length m) × ((p < places_count) × (is_closed (connection_at shows_x p) ≡ false)))
 
   serves : Serves
   serves =
@@ -133,21 +133,21 @@ module _ {R : Type 0} (X : Board R) (k : MeetsDemands X) (x : R) (p : ℕ) (bs m
       })
       ∙ ap (λ (u : List ℕ). heard_of shows_x.own u (reply received_x)) taken_is
 
-  abbrev alone_with : Heard → Alone
+  abbrev alone_with : HeardAt → Alone
   alone_with h = alone_at shows_x.settings (connection_at shows_x p) h.owns h.taken
 
   connection_is : connection_at (X.shows received_x.device) p ≡ (alone_here shows_x p bs).connection
   connection_is =
       (k.places_stand.as_alone x p (receives p bs m ∷ []) (tt, tt)).connection
-      ∙ ap (λ (h : Heard). (alone_with h).connection) heard_is
+      ∙ ap (λ (h : HeardAt). (alone_with h).connection) heard_is
 
   one_receive : OneReceive X x p bs m
   one_receive = record {
     taken = sym (length-take-le received_x.taken bs (k.keeps_running.stays_inside x (receives p bs m)).1)
         ∙ ap length taken_is;
-    replied = sym (ap (λ (h : Heard). h.replied) heard_is)
+    replied = sym (ap (λ (h : HeardAt). h.replied) heard_is)
         ∙ (k.places_stand.as_alone x p (receives p bs m ∷ []) (tt, tt)).replies
-        ∙ ap (λ (h : Heard). (alone_with h).reply) heard_is;
+        ∙ ap (λ (h : HeardAt). (alone_with h).reply) heard_is;
     shown = k.speaks_pjlink.receives x p bs m z
         ∙ (λ i. with_place shows_x
         (own_by shows_x.settings shows_x.own (connection_at shows_x p) (taken_is i)) p (connection_is i));
@@ -204,8 +204,8 @@ module _ {R : Type 0} (B : Board R) (k : MeetsDemands B) (b : R) where
   shown_accepted (passes n) z =
       k.counts_seconds.second_by_second b n z
       ∙ sym (ours_counts_seconds.second_by_second d n (accepted (passes n) z))
-  shown_accepted (marks fault) z =
-      k.speaks_pjlink.marks b fault z ∙ sym (ours_speaks_pjlink.marks d fault (accepted (marks fault) z))
+  shown_accepted (faults fault) z =
+      k.speaks_pjlink.marks b fault z ∙ sym (ours_speaks_pjlink.marks d fault (accepted (faults fault) z))
   shown_accepted (reports errors) z =
       k.speaks_pjlink.reports b errors z ∙ sym (ours_speaks_pjlink.reports d errors (accepted (reports errors) z))
   shown_accepted (enables lamp mark) z =
@@ -277,7 +277,7 @@ module _ {R : Type 0} (B : Board R) (k : MeetsDemands B) (b : R) where
       })
   gave_as (closes p) = ap numbered (number_as (closes p))
   gave_as (passes n) = ap numbered (number_as (passes n))
-  gave_as (marks fault) = ap numbered (number_as (marks fault))
+  gave_as (faults fault) = ap numbered (number_as (faults fault))
   gave_as (reports errors) = ap numbered (number_as (reports errors))
   gave_as (enables lamp mark) = ap numbered (number_as (enables lamp mark))
 
@@ -348,7 +348,7 @@ module _ {R : Type 0} (B : Board R) (k : MeetsDemands B) where
         let told = allowed_or_not c (reply_parameter l) in
         k.keeps_running.reader_number c l told.0 told.1 ∙ sym (ours_keeps_running.reader_number c l told.0 told.1)
 
-    outcome_numbered : (o u : Outcome) → reading_outcome_number o ≡ reading_outcome_number u
+    outcome_numbered : (o u : ReadingOutcome) → reading_outcome_number o ≡ reading_outcome_number u
         → (reading_outcome_number u ≡ 0 → ⊥) → o ≡ u
     outcome_numbered o u e n = grind arith
 
@@ -371,7 +371,7 @@ module _ {R : Type 0} (B : Board R) (k : MeetsDemands B) where
         ap (B.read_reply c) line ∙ k.speaks_pjlink.erra_means_nothing c
         ∙ sym (ap (read_reply c) line ∙ ours_speaks_pjlink.erra_means_nothing c)
 
-    reading_by : (o : Outcome) → read_by_ours.outcome ≡ o → read_there ≡ read_by_ours
+    reading_by : (o : ReadingOutcome) → read_by_ours.outcome ≡ o → read_there ≡ read_by_ours
     reading_by means_it e = reading_meant e
     reading_by erra_said e = reading_erra e
     reading_by not_a_line e = reading_refused (λ z. omega (arith, sym (ap reading_outcome_number e) ∙ z))
@@ -418,7 +418,7 @@ module _ {R : Type 0} (X : Board R) (k : MeetsDemands X) (x : R) (legal : is_leg
       subst (λ (s : List ℕ). LoadsAs X s (stored_of (X.shows x)) (marks_stored (X.shows x)))
       (k.survives_a_swap.form_stored x paper room_found) (k.survives_a_swap.stored_loads x paper room_found)
 
-module _ {R : Type 0} (B : Board R) (k : MeetsDemands B) (s : List ℕ) (bytes : list_all (at_most 255) s ≡ true) where
+module _ {R : Type 0} (B : Board R) (k : MeetsDemands B) (s : List ℕ) (bytes : list_all (is_at_most 255) s ≡ true) where
   load_number_as : (B.load s).number ≡ (ours.load s).number
   load_number_as = k.keeps_running.load_number s ∙ sym (ours_keeps_running.load_number s)
 

@@ -12,7 +12,7 @@ use Rattle.demands.specs.Sample.{memory, with_cr}
 use Rattle.demands.specs.TwoRuns.{fresh_secured, led_on, calls_later, calls_given, asking, waiting}
 use Rattle.demands.specs.Unheard.{AllAlike, no_calls, one_more, same_call, other_bytes, QuietOnceApart, phase_at}
 use Rattle.demands.specs.Unheard.{HeardAlike}
-use Rattle.record.specs.Limits.{awaiting, failed, cooling}
+use Rattle.record.specs.Limits.{phase_awaiting, phase_failed, cooling}
 use Rattle.record.specs.Wanted.{Wanted}
 use Rattle.record.specs.declared.types.Own.{Own}
 use Rattle.device.specs.Answering.{line_answer}
@@ -21,7 +21,7 @@ use Rattle.device.proofs.LinesReceived.{line_result, led_line_received}
 use Rattle.demands.specs.WrongDoors.{secured_sample}
 use Rattle.demands.specs.Computing.{computing}
 use Rattle.demands.proofs.Unheard.{ours_unheard, nobody_opens}
-use Rattle.demands.proofs.Samples.{same_by-leading_digest}
+use Rattle.demands.proofs.Samples.{is_same_by-leading_digest}
 
 abbrev pub password : List ℕ
 password = set_up_password fresh_secured.settings
@@ -72,7 +72,7 @@ unmatched_two = refl
 
 pub unmatched_asks : is_matched password (session_three asking) ≡ false
 unfolding computing
-unmatched_asks = same_by-leading_digest 7 (codes "JBMIAProjectorLink") (codes "%1POWR 1") (omega arith)
+unmatched_asks = is_same_by-leading_digest 7 (codes "JBMIAProjectorLink") (codes "%1POWR 1") (omega arith)
 
 pub unmatched_waits : is_matched password (session_three waiting) ≡ false
 unfolding computing
@@ -129,11 +129,11 @@ ends_as : (bs : List ℕ) → PowersOn bs
 ends_as bs on = ap (λ (r : Result Device). run ours r.device calls_later) on
 
 -- what place 0 is: failed, or awaiting
-pub asks_failed : phase_at ours 0 (run ours fresh_secured (calls_given asking)) ≡ failed
+pub asks_failed : phase_at ours 0 (run ours fresh_secured (calls_given asking)) ≡ phase_failed
 unfolding computing
 asks_failed = ap (phase_at ours 0) (ends_as asking asks_powers_on)
 
-pub waits_awaited : phase_at ours 0 (run ours fresh_secured (calls_given waiting)) ≡ awaiting
+pub waits_awaited : phase_at ours 0 (run ours fresh_secured (calls_given waiting)) ≡ phase_awaiting
 unfolding computing
 waits_awaited = ap (phase_at ours 0) (ends_as waiting waits_powers_on)
 
@@ -168,7 +168,7 @@ parted =
 never_failed : IsNeverMatched ours 0 password fresh_secured unopened (parting (with_cr "x"))
 unfolding computing
 never_failed =
-    let unled = same_by-leading_digest 7 (codes "JBMIAProjectorLink") (codes "x") (omega arith) in
+    let unled = is_same_by-leading_digest 7 (codes "JBMIAProjectorLink") (codes "x") (omega arith) in
     (refl, (refl, (unled, (unled, (unled, tt)))))
 
 never_awaited : IsNeverMatched ours 0 password fresh_secured unopened (parting (codes "x"))

@@ -13,12 +13,12 @@ use Rattle.text.specs.Flags.{is_raised}
 use Rattle.digest.specs.Hex.{leading_digest}
 use Rattle.pjlink.specs.Commands.{command_class, is_command, command_line}
 use Rattle.pjlink.specs.declared.command.Command.{Command}
-use Rattle.record.specs.Limits.{places_count, awaiting, opened}
+use Rattle.record.specs.Limits.{places_count, phase_awaiting, phase_open}
 use Rattle.record.specs.Legal.{is_legal}
-use Rattle.record.specs.Places.{connection_at, with_place, lowest_shut, is_shut}
+use Rattle.record.specs.Places.{connection_at, with_place, lowest_closed, is_closed}
 use Rattle.record.specs.declared.types.Connection.{Connection}
 use Rattle.record.specs.declared.types.Device.{Device}
-use Rattle.record.specs.declared.types.Line.{Line}
+use Rattle.record.specs.declared.types.CollectedLine.{CollectedLine}
 use Rattle.record.proofs.LegalTold.{legal_settings, legal_own, legal_connection, legal_places}
 use Rattle.record.proofs.FactsTold.{settings_is}
 use Rattle.stream.specs.Collecting.{empty_line}
@@ -43,7 +43,7 @@ use Rattle.pjlink.specs.Greetings.{read_greeting}
 use Rattle.demands.specs.Greeted.{greeted_on}
 use Rattle.pjlink.proofs.GreetingsHeard.{open_heard, secured_heard}
 use Rattle.text.proofs.Orders.{le_or_lt}
-use Rattle.record.proofs.LowestShut.{below_lowest}
+use Rattle.record.proofs.LowestClosed.{below_lowest}
 use Rattle.ours.specs.Board.{bytes_written, reply, wrote_by, ours}
 use Rattle.demands.specs.SpeaksPjlink.{BetweenLines, ByClass}
 use Rattle.demands.proofs.KeepsRunning.{over_front}
@@ -60,7 +60,7 @@ pub record TakenAndRead (d : Device) (p : ℕ) (c : Command) (bs : List ℕ) (r 
   pub number : r.number ≡ 0
   pub taken : r.taken ≡ length bs
   pub device : r.device
-      ≡ with_place d (after_request d.settings d.own (Ok c)) p (phase_start (connection_at d p) opened)
+      ≡ with_place d (after_request d.settings d.own (Ok c)) p (phase_start (connection_at d p) phase_open)
   pub said : read_reply c r.reply ≡ meaning (answer_for d.settings d.own (Ok c))
 
 module _ (d : Device) (p : ℕ) (there : p < places_count) (legal : is_legal d ≡ true)
@@ -70,10 +70,10 @@ module _ (d : Device) (p : ℕ) (there : p < places_count) (legal : is_legal d �
   here = connection_at d p
 
   unmarked : is_raised here.line.overlong ≡ false
-  unmarked = ap (λ (l : Line). is_raised l.overlong) (between ∙ empty_is_none)
+  unmarked = ap (λ (l : CollectedLine). is_raised l.overlong) (between ∙ empty_is_none)
 
   none : here.line.held ≡ 0
-  none = ap (λ (l : Line). l.held) (between ∙ empty_is_none)
+  none = ap (λ (l : CollectedLine). l.held) (between ∙ empty_is_none)
 
   read_back : (bs : List ℕ) → received_at d p bs room ≡ command_result d p c (length bs)
       → TakenAndRead d p c bs (received_at d p bs room)
@@ -85,7 +85,7 @@ module _ (d : Device) (p : ℕ) (there : p < places_count) (legal : is_legal d �
       let said = reply_read c (meant_can_be_said d.settings d.own settings own c) (omega arith) fits.has_no_cr in
       subst (TakenAndRead d p c bs) (sym e) (record { number = refl; taken = refl; device = refl; said = said })
 
-  pub command_reads_back : here.phase ≡ opened
+  pub command_reads_back : here.phase ≡ phase_open
       → TakenAndRead d p c (command_line c) (received_at d p (command_line c) room)
   command_reads_back phase =
       read_back (command_line c) (command_received d p there room legal enough unmarked none c writable within phase)
@@ -93,7 +93,8 @@ module _ (d : Device) (p : ℕ) (there : p < places_count) (legal : is_legal d �
   abbrev led_line : List ℕ
   led_line = leading_digest here.random (set_up_password d.settings) ++ command_line c
 
-  pub command_reads_back_secured : here.phase ≡ awaiting → TakenAndRead d p c led_line (received_at d p led_line room)
+  pub command_reads_back_secured : here.phase ≡ phase_awaiting
+      → TakenAndRead d p c led_line (received_at d p led_line room)
   command_reads_back_secured phase =
       read_back led_line (command_received_secured d p there room legal enough unmarked none c writable within phase)
 
@@ -102,12 +103,12 @@ module _ (d : Device) (p : ℕ) (there : p < places_count) (legal : is_legal d �
     abbrev Through : WrittenAs → Type 0
     Through w = (w.number ≡ 0) × TakenAndRead d p c w.bytes (received_at d p w.bytes room)
 
-    pub written_reads_back : here.phase ≡ opened → (random : ℕ) (password : List ℕ)
+    pub written_reads_back : here.phase ≡ phase_open → (random : ℕ) (password : List ℕ)
         → Through (written_command c false random password memory)
     written_reads_back phase random password = grind (arith, written_plain, command_reads_back)
 
     -- the device's own random number and password
-    pub written_reads_back_secured : here.phase ≡ awaiting
+    pub written_reads_back_secured : here.phase ≡ phase_awaiting
         → Through (written_command c true here.random (set_up_password d.settings) memory)
     written_reads_back_secured phase =
         let told = (settings_is d.settings).0 (legal_settings d legal) in
@@ -121,7 +122,7 @@ read_greeting-greeting : (s : Settings) (r : ℕ) → r < 2 ^ 32
 read_greeting-greeting s r word =
     greeted_by_lem s r (λ g c. read_greeting g ≡ greeted_on c) (secured_heard r word) open_heard
 
-pub opening_greets_back : (d : Device) (r room : ℕ) → is_legal d ≡ true → lowest_shut d.connections < places_count
+pub opening_greets_back : (d : Device) (r room : ℕ) → is_legal d ≡ true → lowest_closed d.connections < places_count
     → reply_room ≤ room → r < 2 ^ 32
     → let o = opened_by d r room in
     (o.number ≡ 0) × (read_greeting o.reply ≡ greeted_on (connection_at o.device (place_taken d room)))
@@ -148,7 +149,7 @@ module _ (d : Device) (p : ℕ) (c : Command) (paper m : List ℕ) (writable : i
       → Told w (bytes_written (wrote_by w paper))
   on_paper bs w e back ignored = grind (arith, over_front)
 
-  pub reads_back : (random : ℕ) (password : List ℕ) → BetweenLines opened d p
+  pub reads_back : (random : ℕ) (password : List ℕ) → BetweenLines phase_open d p
       → let w = ours.write c false random password paper in ByClass ours d p c w (ours.receive d p (bytes_written w) m)
   reads_back random password between =
       on_paper (command_line c) _ (written_plain c false random password (length paper) roomy writable refl)
@@ -158,7 +159,7 @@ module _ (d : Device) (p : ℕ) (c : Command) (paper m : List ℕ) (writable : i
       (λ higher. higher_received d p between.there (length m) between.legal enough between.unmarked between.none_held
       c higher between.in_phase)
 
-  pub reads_back_secured : BetweenLines awaiting d p
+  pub reads_back_secured : BetweenLines phase_awaiting d p
       → let w = ours.write c true (connection_at d p).random (set_up_password d.settings) paper in
       ByClass ours d p c w (ours.receive d p (bytes_written w) m)
   reads_back_secured between =
@@ -174,7 +175,7 @@ module _ (d : Device) (p : ℕ) (c : Command) (paper m : List ℕ) (writable : i
       between.none_held c higher between.in_phase)
 
 pub greets_back : (d : Device) (random : ℕ) (m : List ℕ) → is_legal d ≡ true
-    → (q : ℕ) → q < places_count → is_shut (connection_at d q) ≡ true → reply_room ≤ length m → random < 2 ^ 32
+    → (q : ℕ) → q < places_count → is_closed (connection_at d q) ≡ true → reply_room ≤ length m → random < 2 ^ 32
     → let r = ours.opening d random m in
     let p = ours.place_opened d random m in
     (r.number ≡ 0) × (ours.read_greeting (reply r) ≡ greeted_on (connection_at r.device p))

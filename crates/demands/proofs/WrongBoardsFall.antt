@@ -14,14 +14,14 @@ use Rattle.demands.specs.Sample.{halves}
 use Rattle.demands.specs.WrongRefusals.{writes_first, changes_refused}
 use Rattle.demands.specs.Computing.{computing}
 use Rattle.demands.proofs.SpeaksPjlink.{ours_speaks_pjlink}
-use Rattle.demands.proofs.Samples.{apart, opened_sample, ready, same_by-leading_digest, x_unled}
+use Rattle.demands.proofs.Samples.{apart, opened_sample, ready, is_same_by-leading_digest, x_unled}
 use Rattle.pjlink.specs.declared.command.Command.TheVariants.{Query}
 use Rattle.pjlink.specs.declared.body.Body.TheVariants.{Name, Inpt, Powr, Snum}
 use Rattle.pjlink.specs.Said.{text_is, said_bytes, chosen_is}
 use Rattle.pjlink.specs.CanSay.{CanSay, tells, text, input}
 use Rattle.pjlink.specs.declared.body.TextRule.TheVariants as rule
 use Rattle.words.specs.declared.class.ClassNumber.TheVariants.{One}
-use Rattle.record.specs.Limits.{opened, on, volume_most, volume_start}
+use Rattle.record.specs.Limits.{phase_open, on, volume_most, volume_start}
 use Rattle.stream.specs.Machine.{Out}
 use Rattle.controller.specs.Reading.{ReadAs, LineSays, reading_outcome_number}
 use Rattle.ours.specs.Board.{Board, ours}
@@ -69,7 +69,7 @@ changes_refused_falls h =
 
 -- ---- demand 2: lines. Here a power query, its body in small letters
 
-module _ {R : Type 0} (B : Board R) (h : SpeaksPjlink B) (d : R) (between : BetweenLines opened (B.shows d) 0) where
+module _ {R : Type 0} (B : Board R) (h : SpeaksPjlink B) (d : R) (between : BetweenLines phase_open (B.shows d) 0) where
   queried : AnsweredAs B d 0 (with_cr "%1powr ?") (answer_to (B.shows d) (codes "%1powr ?"))
       (B.receive d 0 (with_cr "%1powr ?") memory)
   unfolding computing
@@ -174,7 +174,7 @@ loudest =
     let d = opened_after class_2_sample in
     with_own d (with_volumes (with_power_left d.own on 0) volume_most volume_start)
 
-loud : BetweenLines opened loudest 0
+loud : BetweenLines phase_open loudest 0
 unfolding computing
 loud = record { legal = refl; there = omega arith; in_phase = refl; unmarked = refl; none_held = refl }
 
@@ -220,7 +220,7 @@ unfolding computing
 time_opens_falls h =
     let calls : List Call = opens 7 memory ∷ passes 1 ∷ says "%1POWR 1" ∷ [] in
     let out = h.outsider_has_no_say secured 0 calls refl refl refl
-    (refl, (refl, (same_by-leading_digest 7 (codes "JBMIAProjectorLink") (codes "%1POWR 1") (omega arith), tt))) in
+    (refl, (refl, (is_same_by-leading_digest 7 (codes "JBMIAProjectorLink") (codes "%1POWR 1") (omega arith), tt))) in
     apart (λ o. o.power) (out.kept.1.1.0 refl).own refl
 
 pub failed_answers_falls : SpeaksPjlink failed_answers → ⊥

@@ -5,7 +5,7 @@
 --   UnheardAnyhow B         he is unheard whoever opens, which is not so (proofs/UnheardSamples)
 -- Assumes nothing.
 use Rattle.std.specs.Prelude.{ℕ, ◌≡◌, true, ◌⊎◌, List, take}
-use Rattle.record.specs.Limits.{shut}
+use Rattle.record.specs.Limits.{phase_closed}
 use Rattle.record.specs.Places.{connection_at}
 use Rattle.record.specs.Wanted.{Wanted}
 use Rattle.record.specs.declared.types.Connection.{Connection}
@@ -17,13 +17,13 @@ use Rattle.demands.specs.Outsider.{unopened, IsNeverMatched}
 use Rattle.demands.specs.Unheard.{AllAlike, QuietOnceApart, HeardAlike}
 
 abbrev pub ClosedOr : ℕ → Connection → Type 0
-ClosedOr random c = (c.phase ≡ shut) ⊎ (c.random ≡ random)
+ClosedOr random c = (c.phase ≡ phase_closed) ⊎ (c.random ≡ random)
 
 module _ {R : Type 0} (B : Board R) where
   -- whatever call comes, at whatever place, on a connection that is not closed
   abbrev pub RandomKept : Type 0
   RandomKept =
-      (d : R) (p : ℕ) → ((connection_at (B.shows d) p).phase ≡ shut → ⊥) → (c : Call)
+      (d : R) (p : ℕ) → ((connection_at (B.shows d) p).phase ≡ phase_closed → ⊥) → (c : Call)
       → ClosedOr (connection_at (B.shows d) p).random (connection_at (B.shows (after B d c)) p)
 
   abbrev pub UnheardThroughout : Type 0

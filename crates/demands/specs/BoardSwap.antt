@@ -8,7 +8,7 @@
 use Rattle.std.specs.List.{list_all}
 use Rattle.std.specs.Prelude.{ℕ, ◌+◌, ◌<◌, ◌≡◌, Bool, true, List, length, slice_index_or}
 use Rattle.record.specs.Wanted.{Wanted}
-use Rattle.record.specs.Rules.{at_most}
+use Rattle.record.specs.Rules.{is_at_most}
 use Rattle.words.specs.Bytes.{◌at◌}
 use Rattle.stored.specs.Form.{form_version, marked_form_of, old_form_of, stored_of, marks_stored, stored_form}
 use Rattle.stored.specs.Loading.{started_with}
@@ -38,10 +38,10 @@ pub record BoardSwap {R : Type 0} (B : Board R) : Type 0 where
   pub older_class_1 : (s : List ℕ) → (B.load s).number ≡ 0 → (s at 0 ≡ form_version → ⊥)
       → (B.shows (B.load s).device).settings.class_number ≡ 1
   -- "One set-up has one form": what loads, stored again, is the same bytes, of the newest version
-  pub stored_again : (s : List ℕ) → list_all (at_most 255) s ≡ true → s at 0 ≡ form_version → (B.load s).number ≡ 0
+  pub stored_again : (s : List ℕ) → list_all (is_at_most 255) s ≡ true → s at 0 ≡ form_version → (B.load s).number ≡ 0
       → stored_form (B.shows (B.load s).device) ≡ s
   -- "Each version has one form": no other bytes of that version load as that record
-  pub one_form : (s t : List ℕ) → list_all (at_most 255) s ≡ true → list_all (at_most 255) t ≡ true →
+  pub one_form : (s t : List ℕ) → list_all (is_at_most 255) s ≡ true → list_all (is_at_most 255) t ≡ true →
       (B.load s).number ≡ 0
       → (B.load t).number ≡ 0 → s at 0 ≡ t at 0 → B.shows (B.load s).device ≡ B.shows (B.load t).device → s ≡ t
   -- a lamp's seconds after the swap: what it started with on the one board, and what it burnt on both

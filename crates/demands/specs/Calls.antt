@@ -16,7 +16,7 @@ pub data Call : Type 0 where
   closes : (place : ℕ) → Call
   receives : (place : ℕ) (bytes memory : List ℕ) → Call
   passes : (seconds : ℕ) → Call
-  marks : (fault : Bool) → Call
+  faults : (fault : Bool) → Call
   reports : (errors : List ℕ) → Call
   enables : (lamp : ℕ) (mark : Bool) → Call
 
@@ -45,7 +45,7 @@ module _ {R : Type 0} (B : Board R) where
   after d (closes p) = (B.closing d p).device
   after d (receives p bs m) = (B.receive d p bs m).device
   after d (passes n) = (B.pass d n).device
-  after d (marks fault) = (B.set_fault d fault).device
+  after d (faults fault) = (B.set_fault d fault).device
   after d (reports errors) = (B.set_errors d errors).device
   after d (enables lamp mark) = (B.set_mark d lamp mark).device
 
@@ -54,7 +54,7 @@ module _ {R : Type 0} (B : Board R) where
   gave_by d (closes p) = gave_number (B.closing d p)
   gave_by d (receives p bs m) = gave_lent 0 (B.receive d p bs m)
   gave_by d (passes n) = gave_number (B.pass d n)
-  gave_by d (marks fault) = gave_number (B.set_fault d fault)
+  gave_by d (faults fault) = gave_number (B.set_fault d fault)
   gave_by d (reports errors) = gave_number (B.set_errors d errors)
   gave_by d (enables lamp mark) = gave_number (B.set_mark d lamp mark)
 

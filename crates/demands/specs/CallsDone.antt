@@ -17,7 +17,7 @@ use Rattle.record.specs.declared.types.Own.{Own}
 use Rattle.record.specs.declared.types.Connection.{Connection}
 use Rattle.record.specs.declared.types.Device.{Device}
 use Rattle.record.specs.Legal.{held_most}
-use Rattle.record.specs.Places.{connection_at, with_place, lowest_shut}
+use Rattle.record.specs.Places.{connection_at, with_place, lowest_closed}
 use Rattle.stream.specs.Collecting.{line_after}
 use Rattle.device.specs.Receiving.{keeping_line, line_ended}
 use Rattle.device.specs.Calls.{greeting, new_connection}
@@ -27,7 +27,7 @@ use Rattle.record.specs.Given.{Given}
 pub record OpenedAs {R : Type 0} (B : Board R) (d : R) (random place : ℕ) (r : Lent R) : Type 0 where
   pub taken : r.taken ≡ 0
   pub replied : reply r ≡ greeting (B.shows d).settings random
-  pub lowest : place ≡ lowest_shut (B.shows d).connections
+  pub lowest : place ≡ lowest_closed (B.shows d).connections
   pub device : B.shows r.device
       ≡ with_place (B.shows d) (B.shows d).own place (new_connection (B.shows d).settings random)
 

@@ -16,14 +16,14 @@
 use Rattle.std.specs.Prelude.{ℕ, ◌≤◌, ◌≡◌, true, not, List, ◌++◌, length, if◌then◌else◌, nat_le, codes}
 use Rattle.std.specs.List.{list_all}
 use Rattle.text.specs.Words.{◌is◌}
-use Rattle.words.specs.Bytes.{◌at◌, no_cr, command_most}
-use Rattle.pjlink.specs.declared.body.Row.{Row}
+use Rattle.words.specs.Bytes.{◌at◌, is_cr_free, command_most}
+use Rattle.pjlink.specs.declared.body.BodyRow.{BodyRow}
 use Rattle.pjlink.specs.Bodies.{body_rows}
 use Rattle.pjlink.specs.Forms.{is_command_form, head_body, command_parameter}
 use Rattle.pjlink.specs.Requests.{Request}
 use Rattle.pjlink.specs.RowsOfClass.{is_row_of_class, rows_of_class, request_by}
 use Rattle.pjlink.specs.Said.{said_bytes}
-use Rattle.record.specs.Limits.{awaiting, opened}
+use Rattle.record.specs.Limits.{phase_awaiting, phase_open}
 use Rattle.record.specs.declared.types.Settings.{Settings}
 use Rattle.record.specs.declared.types.Own.{Own}
 use Rattle.record.specs.declared.types.Device.{Device}
@@ -33,13 +33,13 @@ use Rattle.device.specs.Calls.{reply_room}
 use Rattle.ours.specs.Board.{Board}
 use Rattle.demands.specs.SpeaksPjlink.{BetweenLines, AnsweredAs, digest_for}
 
-abbrev pub AreOfOthers : List Row → Type 0
+abbrev pub AreOfOthers : List BodyRow → Type 0
 AreOfOthers more = list_all (λ r. not (is_row_of_class 1 r)) more ≡ true
 
-abbrev pub asked_beside : List Row → List ℕ → Request
+abbrev pub asked_beside : List BodyRow → List ℕ → Request
 asked_beside more l = request_by (rows_of_class 1 body_rows ++ more) 1 (head_body l) (command_parameter l)
 
-abbrev pub line_beside : List Row → Settings → Own → List ℕ → Answered
+abbrev pub line_beside : List BodyRow → Settings → Own → List ℕ → Answered
 line_beside more s o l =
     if is_command_form 1 l
     then record {
@@ -49,7 +49,7 @@ line_beside more s o l =
     }
     else line_swallowed o
 
-abbrev pub answer_beside : List Row → Device → List ℕ → Answered
+abbrev pub answer_beside : List BodyRow → Device → List ℕ → Answered
 answer_beside more d l =
     if nat_le (length l) command_most then line_beside more d.settings d.own l else line_swallowed d.own
 
@@ -61,16 +61,17 @@ OfClass1 B d = (B.shows d).settings.class_number ≡ 1
 
 pub record ClassOneAlone {R : Type 0} (B : Board R) : Type 0 where
   -- any line, on an open connection and behind the matching digest
-  pub answers : (more : List Row) (d : R) (p : ℕ) (l m : List ℕ) → AreOfOthers more → OfClass1 B d
-      → BetweenLines opened (B.shows d) p → no_cr l ≡ true → reply_room ≤ length m
+  pub answers : (more : List BodyRow) (d : R) (p : ℕ) (l m : List ℕ) → AreOfOthers more → OfClass1 B d
+      → BetweenLines phase_open (B.shows d) p → is_cr_free l ≡ true → reply_room ≤ length m
       → let bs = l ++ codes "\r" in AnsweredAs B d p bs (answer_beside more (B.shows d) l) (B.receive d p bs m)
-  pub answers_led : (more : List Row) (d : R) (p : ℕ) (l m : List ℕ) → AreOfOthers more → OfClass1 B d
-      → BetweenLines awaiting (B.shows d) p → no_cr l ≡ true → length l ≤ command_most → reply_room ≤ length m
+  pub answers_led : (more : List BodyRow) (d : R) (p : ℕ) (l m : List ℕ) → AreOfOthers more → OfClass1 B d
+      → BetweenLines phase_awaiting (B.shows d) p → is_cr_free l ≡ true → length l ≤ command_most → reply_room
+      ≤ length m
       → let bs = digest_for (B.shows d) p ++ l ++ codes "\r" in
       AnsweredAs B d p bs (answer_beside more (B.shows d) l) (B.receive d p bs m)
   -- "and drops `%2` lines", whatever follows
-  pub drops_class_2 : (d : R) (p : ℕ) (l m : List ℕ) → OfClass1 B d → BetweenLines opened (B.shows d) p
-      → no_cr l ≡ true → (l at 1 is "2") ≡ true → reply_room ≤ length m
+  pub drops_class_2 : (d : R) (p : ℕ) (l m : List ℕ) → OfClass1 B d → BetweenLines phase_open (B.shows d) p
+      → is_cr_free l ≡ true → (l at 1 is "2") ≡ true → reply_room ≤ length m
       → let bs = l ++ codes "\r" in AnsweredAs B d p bs (line_swallowed (B.shows d).own) (B.receive d p bs m)
   -- RULES, Inputs: "the longest reply is 103"
   pub reply_short : (d : R) (p : ℕ) (bs m : List ℕ) → OfClass1 B d → (B.receive d p bs m).length ≤ longest_of_class_1

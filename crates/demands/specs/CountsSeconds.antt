@@ -25,7 +25,7 @@ use Rattle.pjlink.specs.declared.command.Command.TheVariants.{Query}
 use Rattle.pjlink.specs.declared.body.Body.TheVariants.{Lamp}
 use Rattle.pjlink.specs.Said.{lamps_are, said_bytes}
 use Rattle.words.specs.declared.lamp.LampHours.{LampHours}
-use Rattle.record.specs.Limits.{lamp_limit, opened}
+use Rattle.record.specs.Limits.{lamp_limit, phase_open}
 use Rattle.record.specs.Wanted.{Wanted}
 use Rattle.record.specs.Legal.{is_legal}
 use Rattle.record.specs.SetUp.{is_set_up}
@@ -39,8 +39,8 @@ use Rattle.record.specs.Given.{Given}
 use Rattle.demands.specs.Calls.{Call, run}
 use Rattle.demands.specs.CallsDone.{Leaves}
 use Rattle.demands.specs.SpeaksPjlink.{BetweenLines}
-use Rattle.demands.specs.History.{Event, switched, a_second, mark_switched, no_streams, history, Stage, steady}
-use Rattle.demands.specs.History.{next_stage, marks_after, burning_seconds, stage_after, stage_is_burning, lamp_with}
+use Rattle.demands.specs.History.{HistoryEvent, switched, a_second, mark_switched, no_streams, history, Stage, steady}
+use Rattle.demands.specs.History.{next_stage, marks_after, burning_seconds, stage_after, is_burning_stage, lamp_with}
 
 pub data Beginning : Type 0 where
   sets_up : Beginning
@@ -79,21 +79,21 @@ module _ {R : Type 0} (B : Board R) where
   abbrev pub run_of : Beginning → Wanted → List Call → R
   run_of b w cs = run B (begun_by b w).device cs
 
-  abbrev pub history_of : Beginning → Wanted → List Call → List Event
+  abbrev pub history_of : Beginning → Wanted → List Call → List HistoryEvent
   history_of b w cs = history B (begun_by b w).device no_streams cs
 
 -- the lamp at place k, which started with so many seconds
-abbrev pub lamp_then : Wanted → List Bool → List Event → ℕ → ℕ → LampHours
+abbrev pub lamp_then : Wanted → List Bool → List HistoryEvent → ℕ → ℕ → LampHours
 lamp_then w ms es k start = record {
   hours = lamp_with (burning_seconds w ms k es) start / 3600;
-  lit = stage_is_burning (stage_after w es) && slice_index_or (marks_after ms es) k false;
+  lit = is_burning_stage (stage_after w es) && slice_index_or (marks_after ms es) k false;
 }
 
 abbrev pub each_place : {A : Type 0} → (ℕ → ℕ → A) → ℕ → List ℕ → List A
 each_place f k [] = []
 each_place f k (x ∷ xs) = f k x ∷ each_place f (suc k) xs
 
-abbrev pub lamps_then : Wanted → List Bool → List Event → List LampHours
+abbrev pub lamps_then : Wanted → List Bool → List HistoryEvent → List LampHours
 lamps_then w ms es = each_place (lamp_then w ms es) 0 w.lamps
 
 -- the fleet's question (RULES, Lamps): the seconds of burning, each counted once for each mark that stood
@@ -101,10 +101,10 @@ abbrev pub count_set : List Bool → ℕ
 count_set [] = 0
 count_set (m ∷ ms) = (if m then 1 else 0) + count_set ms
 
-abbrev pub burnt_by_marks : Wanted → Stage → List Bool → List Event → ℕ
+abbrev pub burnt_by_marks : Wanted → Stage → List Bool → List HistoryEvent → ℕ
 burnt_by_marks w g ms [] = 0
 burnt_by_marks w g ms (a_second ∷ es) =
-    (if stage_is_burning g then count_set ms else 0) + burnt_by_marks w (next_stage w g a_second) ms es
+    (if is_burning_stage g then count_set ms else 0) + burnt_by_marks w (next_stage w g a_second) ms es
 burnt_by_marks w g ms (switched wanted ∷ es) = burnt_by_marks w (next_stage w g (switched wanted)) ms es
 burnt_by_marks w g ms (mark_switched lamp mark ∷ es) =
     burnt_by_marks w (next_stage w g (mark_switched lamp mark)) (set ms lamp mark) es
@@ -150,6 +150,6 @@ pub record CountsSeconds {R : Type 0} (B : Board R) : Type 0 where
   -- "the hours answered are the whole hours in that": LAMP, asked at any place on an open connection between lines, the
   -- reply's bytes and what our reader takes from them
   pub hours_told : (b : Beginning) (w : Wanted) (cs : List Call) (p : ℕ) (m : List ℕ) → IsAccepted B b w
-      → 1 ≤ length w.lamps → BetweenLines opened (B.shows (run_of B b w cs)) p → reply_room ≤ length m
+      → 1 ≤ length w.lamps → BetweenLines phase_open (B.shows (run_of B b w cs)) p → reply_room ≤ length m
       → let r = B.receive (run_of B b w cs) p (command_line (Query Lamp)) m in
       LampsTold B (lamps_then w (start_marks b w) (history_of B b w cs)) (reply r)

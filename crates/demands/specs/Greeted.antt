@@ -2,10 +2,10 @@
 --   greeted_on c    the greeting, which is always one
 -- Assumes nothing.
 use Rattle.std.specs.Prelude.{if◌then◌else◌, ◌==◌, Option, Some}
-use Rattle.record.specs.Limits.{awaiting}
+use Rattle.record.specs.Limits.{phase_awaiting}
 use Rattle.record.specs.declared.types.Connection.{Connection}
 use Rattle.pjlink.specs.declared.greeting.Greeting.{Greeting}
 use Rattle.pjlink.specs.declared.greeting.Greeting.TheVariants.{Open, Secured}
 
 abbrev pub greeted_on : Connection → Option Greeting
-greeted_on c = Some (if c.phase == awaiting then Secured c.random else Open)
+greeted_on c = Some (if c.phase == phase_awaiting then Secured c.random else Open)

@@ -15,7 +15,7 @@ use Rattle.std.specs.Prelude.{ℕ, ◌+◌, ◌-◌, min, Bool, true, false, not
 use Rattle.std.specs.Prelude.{List, [], ◌∷◌, ◌++◌, length, take, drop, replicate, set, nat_le, ◌==◌, slice_index_or}
 use Rattle.std.specs.Prelude.{codes}
 use Prim.Native.String.{String}
-use Rattle.text.specs.Scans.{same_by}
+use Rattle.text.specs.Scans.{is_same_by}
 use Rattle.words.specs.Bytes.{upper_of}
 use Rattle.record.specs.Limits.{lamp_limit}
 use Rattle.record.specs.Wanted.{Wanted}
@@ -28,17 +28,17 @@ infix 40 ◌ends_in◌
 
 -- in any case of letters
 abbrev pub ◌says◌ : List ℕ → String → Bool
-bs says t = same_by upper_of bs (codes t)
+bs says t = is_same_by upper_of bs (codes t)
 
 abbrev pub ◌ends_in◌ : List ℕ → String → Bool
 bs ends_in t = drop (length bs - length (codes t)) bs says t
 
-pub data Event : Type 0 where
-  switched : (wanted : Bool) → Event
-  a_second : Event
-  mark_switched : (lamp : ℕ) (mark : Bool) → Event
+pub data HistoryEvent : Type 0 where
+  switched : (wanted : Bool) → HistoryEvent
+  a_second : HistoryEvent
+  mark_switched : (lamp : ℕ) (mark : Bool) → HistoryEvent
 
-unfoldable pub power_set : List ℕ → List ℕ → List Event
+unfoldable pub power_set : List ℕ → List ℕ → List HistoryEvent
 power_set stream answer =
     if not (answer says "%1POWR=OK\r") then []
     else if stream ends_in "%1POWR 1\r" then switched true ∷ []
@@ -63,14 +63,14 @@ module _ {R : Type 0} (B : Board R) where
   streams_after d w c = w
 
   -- what a call tells; the bytes that it took are in its place's stream already
-  abbrev pub seen : R → Streams → Call → List Event
+  abbrev pub seen : R → Streams → Call → List HistoryEvent
   seen d w (receives p bs m) =
       if (B.receive d p bs m).number == 0 then power_set (w p) (reply (B.receive d p bs m)) else []
   seen d w (passes n) = if (B.pass d n).number == 0 then replicate n a_second else []
   seen d w (enables lamp mark) = if (B.set_mark d lamp mark).number == 0 then mark_switched lamp mark ∷ [] else []
   seen d w c = []
 
-  abbrev pub history : R → Streams → List Call → List Event
+  abbrev pub history : R → Streams → List Call → List HistoryEvent
   history d w [] = []
   history d w (c ∷ cs) = seen d (streams_after d w c) c ++ history (after B d c) (streams_after d w c) cs
 
@@ -81,7 +81,7 @@ pub data Stage : Type 0 where
   steady : (on : Bool) → Stage
   towards : (on : Bool) (seconds : ℕ) → Stage
 
-abbrev pub next_stage : Wanted → Stage → Event → Stage
+abbrev pub next_stage : Wanted → Stage → HistoryEvent → Stage
 next_stage w (steady false) (switched true) = towards true w.warm
 next_stage w (steady true) (switched false) = towards false w.cool
 next_stage w (steady true) (switched true) = steady true
@@ -93,37 +93,37 @@ next_stage w (steady on) (mark_switched lamp mark) = steady on
 next_stage w (towards on n) (mark_switched lamp mark) = towards on n
 
 -- his marks, one a lamp
-abbrev pub marks_next : List Bool → Event → List Bool
+abbrev pub marks_next : List Bool → HistoryEvent → List Bool
 marks_next ms (mark_switched lamp mark) = set ms lamp mark
 marks_next ms e = ms
 
-abbrev pub marks_after : List Bool → List Event → List Bool
+abbrev pub marks_after : List Bool → List HistoryEvent → List Bool
 marks_after ms [] = ms
 marks_after ms (e ∷ es) = marks_after (marks_next ms e) es
 
 -- lamps burn in power-on and on the way there
-abbrev pub stage_is_burning : Stage → Bool
-stage_is_burning (steady on) = on
-stage_is_burning (towards on n) = on
+abbrev pub is_burning_stage : Stage → Bool
+is_burning_stage (steady on) = on
+is_burning_stage (towards on n) = on
 
 -- the lamp at place k, if its mark is set (RULES, Lamps)
-abbrev pub burnt_in : Stage → List Bool → ℕ → Event → ℕ
-burnt_in g ms k a_second = if stage_is_burning g && slice_index_or ms k false then 1 else 0
+abbrev pub burnt_in : Stage → List Bool → ℕ → HistoryEvent → ℕ
+burnt_in g ms k a_second = if is_burning_stage g && slice_index_or ms k false then 1 else 0
 burnt_in g ms k e = 0
 
-abbrev pub stage_from : Wanted → Stage → List Event → Stage
+abbrev pub stage_from : Wanted → Stage → List HistoryEvent → Stage
 stage_from w g [] = g
 stage_from w g (e ∷ es) = stage_from w (next_stage w g e) es
 
-abbrev pub burning_from : Wanted → Stage → List Bool → ℕ → List Event → ℕ
+abbrev pub burning_from : Wanted → Stage → List Bool → ℕ → List HistoryEvent → ℕ
 burning_from w g ms k [] = 0
 burning_from w g ms k (e ∷ es) = burnt_in g ms k e + burning_from w (next_stage w g e) (marks_next ms e) k es
 
-abbrev pub burning_seconds : Wanted → List Bool → ℕ → List Event → ℕ
+abbrev pub burning_seconds : Wanted → List Bool → ℕ → List HistoryEvent → ℕ
 burning_seconds w ms k es = burning_from w (steady false) ms k es
 
 -- a device starts off
-abbrev pub stage_after : Wanted → List Event → Stage
+abbrev pub stage_after : Wanted → List HistoryEvent → Stage
 stage_after w es = stage_from w (steady false) es
 
 abbrev pub lamp_with : ℕ → ℕ → ℕ

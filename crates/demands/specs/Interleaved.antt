@@ -5,7 +5,7 @@
 -- TO BELIEVE IT, believe, and nothing else: what a byte and a line's end do to one connection (device/specs/Receiving:
 -- `keeping_line`, `line_ended`; stream/specs/Collecting: `line_after`); the record (record/specs); ours/specs/Board;
 -- here Calls.
---   Heard                    what is seen at a place: the bytes taken and the replies, each in one row, and the own
+--   HeardAt                    what is seen at a place: the bytes taken and the replies, each in one row, and the own
 --                            part at each moment at which a call there took a CR
 --   heard B q d cs           what is seen at place q of the calls cs
 --   ByBytesOnly B q d cs     of the calls cs, whoever makes them, none but receiving changes the connection at place q;
@@ -19,11 +19,11 @@
 use Rattle.std.specs.Prelude.{ℕ, suc, ◌≤◌, ◌<◌, ◌≡◌, true, false, List, [], ◌∷◌, ◌++◌, length, take, drop}
 use Rattle.std.specs.Prelude.{if◌then◌else◌, slice_index_or, ◌==◌}
 use Rattle.text.specs.Words.{◌is◌}
-use Rattle.words.specs.Bytes.{no_cr}
+use Rattle.words.specs.Bytes.{is_cr_free}
 use Rattle.record.specs.Limits.{places_count}
 use Rattle.record.specs.Legal.{held_most, is_legal}
 use Rattle.record.specs.Record.{blank_own}
-use Rattle.record.specs.Places.{connection_at, is_shut}
+use Rattle.record.specs.Places.{connection_at, is_closed}
 use Rattle.record.specs.declared.types.Settings.{Settings}
 use Rattle.record.specs.declared.types.Own.{Own}
 use Rattle.record.specs.declared.types.Connection.{Connection}
@@ -35,15 +35,15 @@ use Rattle.demands.specs.Calls.{Call, receives, after, run}
 
 -- ---- what is seen at a place
 
-pub record Heard : Type 0 where
+pub record HeardAt : Type 0 where
   pub taken : List ℕ
   pub replied : List ℕ
   pub owns : List Own
 
-abbrev pub heard_nothing : Heard
+abbrev pub heard_nothing : HeardAt
 heard_nothing = record { taken = []; replied = []; owns = [] }
 
-abbrev pub heard_then : Heard → Heard → Heard
+abbrev pub heard_then : HeardAt → HeardAt → HeardAt
 heard_then h g = record {
   taken = h.taken ++ g.taken;
   replied = h.replied ++ g.replied;
@@ -51,17 +51,17 @@ heard_then h g = record {
 }
 
 -- of a call there that took the bytes u and replied r, where the own part was o
-abbrev pub heard_of : Own → List ℕ → List ℕ → Heard
-heard_of o u r = record { taken = u; replied = r; owns = if no_cr u then [] else o ∷ [] }
+abbrev pub heard_of : Own → List ℕ → List ℕ → HeardAt
+heard_of o u r = record { taken = u; replied = r; owns = if is_cr_free u then [] else o ∷ [] }
 
 module _ {R : Type 0} (B : Board R) (q : ℕ) where
-  abbrev pub heard_in : R → Call → Heard
+  abbrev pub heard_in : R → Call → HeardAt
   heard_in d (receives p bs m) =
       let r = B.receive d p bs m in
       if p == q then heard_of (B.shows d).own (take r.taken bs) (reply r) else heard_nothing
   heard_in d c = heard_nothing
 
-  abbrev pub heard : R → List Call → Heard
+  abbrev pub heard : R → List Call → HeardAt
   heard d [] = heard_nothing
   heard d (c ∷ cs) = heard_then (heard_in d c) (heard (after B d c) cs)
 
@@ -118,7 +118,7 @@ pub record Interleaved {R : Type 0} (B : Board R) : Type 0 where
   -- RULES, Connection: receiving "takes bytes up to and including the first CR, or all of them if none", whatever the
   -- other places hold
   pub takes_a_line : (d : R) (q : ℕ) (bs m : List ℕ) → is_legal (B.shows d) ≡ true → q < places_count
-      → is_shut (connection_at (B.shows d) q) ≡ false → reply_room ≤ length m
+      → is_closed (connection_at (B.shows d) q) ≡ false → reply_room ≤ length m
       → let r = B.receive d q bs m in (r.number ≡ 0) × (take r.taken bs ≡ to_first_cr bs)
   -- from any record, over any calls of everybody
   pub as_alone : (d : R) (q : ℕ) (cs : List Call) → ByBytesOnly B q d cs → SeenAlone B q d cs

@@ -5,8 +5,8 @@
 -- if it ends.
 -- TO BELIEVE IT, believe, and nothing else: the rows below, against the table of RULES, The numbers a call gives, those
 -- of opening, closing and receiving as device/specs/Calls has them, with `is_no_lamp` and `is_none_left` of
--- record/specs/HostCalls (RULES, Lamps), with `reply_room` and `is_no_place`, and `is_shut`, `connection_at`,
--- `lowest_shut` of record/specs/Places (RULES, Places), those of storing and loading as stored/specs: Form, Loading
+-- record/specs/HostCalls (RULES, Lamps), with `reply_room` and `is_no_place`, and `is_closed`, `connection_at`,
+-- `lowest_closed` of record/specs/Places (RULES, Places), those of storing and loading as stored/specs: Form, Loading
 -- have them, against the order of RULES, Stored form, with numbers in bytes as numbers/specs/HighestFirst has them;
 -- what is legal and what is in range (record/specs: Limits, Rules, Legal, SetUp, and `blank` of Record; words/specs:
 -- Bytes, Sources, Inputs, Texts, Utf8); the length 168 (`command_room` of controller/specs/Writing); for the
@@ -19,8 +19,8 @@
 -- Assumes nothing.
 use Rattle.std.specs.Prelude.{ℕ, ◌≤◌, ◌≡◌, Bool, true, false, not, ◌||◌, List, [], ◌∷◌, set, length, drop, nat_lt, ◌==◌}
 use Rattle.text.specs.Flags.{flag_of}
-use Rattle.text.specs.Rows.{Row, ◌when◌, first_of}
-use Rattle.text.specs.Scans.{same_by, itself}
+use Rattle.text.specs.Rows.{NumberRow, ◌when◌, first_of}
+use Rattle.text.specs.Scans.{is_same_by, itself}
 use Rattle.pjlink.specs.Forms.{erra_line, greeting_open, is_reply_form, head_body, reply_parameter}
 use Rattle.pjlink.specs.Commands.{body_of, command_class}
 use Rattle.pjlink.specs.declared.command.Command.{Command}
@@ -42,7 +42,7 @@ use Rattle.controller.specs.Writing.{command_room, is_writable}
 use Rattle.controller.specs.Reading.{reading_outcome_number}
 use Rattle.pjlink.specs.Greetings.{greets, random_in, greeting_number}
 use Rattle.ours.specs.Board.{Board, Lent, Wrote}
-use Rattle.demands.specs.Calls.{Call, opens, closes, receives, passes, marks, reports, enables, after, number_of}
+use Rattle.demands.specs.Calls.{Call, opens, closes, receives, passes, faults, reports, enables, after, number_of}
 
 -- ---- the table of numbers
 
@@ -50,42 +50,43 @@ abbrev is_illegal : Device → Bool
 is_illegal d = not (is_legal d)
 
 -- of a lamp's mark: no such lamp, or the last mark cleared; then any power but off (RULES, Lamps)
-abbrev pub mark_rows : Device → ℕ → Bool → List Row
+abbrev pub mark_rows : Device → ℕ → Bool → List NumberRow
 mark_rows d k m =
     (1 when is_illegal d) ∷ (3 when (is_no_lamp d k || is_none_left (set d.own.enabled k (flag_of m))))
     ∷ (7 when not (d.own.power == off)) ∷ []
 
-abbrev pub rows_of : Device → Call → List Row
+abbrev pub rows_of : Device → Call → List NumberRow
 rows_of d (opens random m) = opening_rows d (length m)
 rows_of d (closes p) = closing_rows d p
 rows_of d (receives p bs m) = receiving_rows d p (length m)
 rows_of d (passes n) = (1 when is_illegal d) ∷ []
-rows_of d (marks fault) = (1 when is_illegal d) ∷ []
+rows_of d (faults fault) = (1 when is_illegal d) ∷ []
 rows_of d (reports errors) = (1 when is_illegal d) ∷ (3 when not (is_error_list errors)) ∷ []
 rows_of d (enables lamp mark) = mark_rows d lamp mark
 
 -- RULES, Passwords: 8 after every 3
-abbrev pub set_up_rows : Wanted → List Row
+abbrev pub set_up_rows : Wanted → List NumberRow
 set_up_rows w = (3 when not (is_in_range w)) ∷ (8 when not (is_long_enough (length w.password))) ∷ []
 
-abbrev pub writer_rows : Command → Bool → List ℕ → List ℕ → List Row
+abbrev pub writer_rows : Command → Bool → List ℕ → List ℕ → List NumberRow
 writer_rows c secured password m =
     (2 when nat_lt (length m) command_room) ∷ (3 when not (is_writable c secured password)) ∷ []
 
 abbrev is_erra : List ℕ → Bool
-is_erra l = same_by itself l erra_line
+is_erra l = is_same_by itself l erra_line
 
 -- the ERRA line is known before the form is tested, which is that of the command's class (RULES, Class 2); whether the
 -- parameter is allowed is what it says (`IsAllowed`)
-abbrev pub reader_rows : Command → List ℕ → Bool → List Row
+abbrev pub reader_rows : Command → List ℕ → Bool → List NumberRow
 reader_rows c l allowed =
     (0 when is_erra l) ∷ (10 when not (is_reply_form (command_class c) l))
     ∷ (11 when not (is_body (command_class c) (head_body l) (body_of c))) ∷ (12 when not allowed) ∷ []
 
 -- the two greetings and the ERRA line
-abbrev pub greeting_rows : List ℕ → List Row
+abbrev pub greeting_rows : List ℕ → List NumberRow
 greeting_rows l =
-    (0 when same_by itself l greeting_open) ∷ (0 when is_erra l) ∷ (0 when greets l (random_in l)) ∷ (10 when true) ∷ []
+    (0 when is_same_by itself l greeting_open) ∷ (0 when is_erra l) ∷ (0 when greets l (random_in l)) ∷ (10 when true)
+    ∷ []
 
 -- ---- the memory
 

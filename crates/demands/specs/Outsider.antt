@@ -21,7 +21,7 @@
 use Rattle.std.specs.Prelude.{ℕ, ◌≡◌, Bool, true, false, not, ◌&&◌, List, [], ◌∷◌, ◌++◌, take, filter}
 use Rattle.std.specs.Prelude.{if◌then◌else◌, ◌==◌}
 use Rattle.text.specs.Words.{◌is◌}
-use Rattle.words.specs.Bytes.{no_cr}
+use Rattle.words.specs.Bytes.{is_cr_free}
 use Rattle.pjlink.specs.Forms.{erra_line}
 use Rattle.device.specs.Receiving.{is_led_by}
 use Rattle.ours.specs.Board.{Board}
@@ -67,7 +67,7 @@ first_line [] = []
 first_line (b ∷ bs) = if b is "\r" then [] else b ∷ first_line bs
 
 abbrev pub is_matched : List ℕ → Session → Bool
-is_matched password s = not (no_cr s.taken) && is_led_by s.random password (first_line s.taken)
+is_matched password s = not (is_cr_free s.taken) && is_led_by s.random password (first_line s.taken)
 
 abbrev pub IsNeverMatched : {R : Type 0} → Board R → ℕ → List ℕ → R → Session → List Call → Type 0
 IsNeverMatched B p password d s [] = Unit {0}

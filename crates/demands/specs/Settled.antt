@@ -14,7 +14,7 @@ use Prim.Native.String.{String}
 use Rattle.std.specs.Prelude.{ℕ, ◌≡◌, true, false, List, [], ◌∷◌, take}
 use Rattle.record.specs.Wanted.{Wanted}
 use Rattle.ours.specs.Board.{Board}
-use Rattle.demands.specs.Calls.{Call, opens, passes, marks, reports, enables, Gave, gave_by, run}
+use Rattle.demands.specs.Calls.{Call, opens, passes, faults, reports, enables, Gave, gave_by, run}
 use Rattle.demands.specs.Sample.{sample, class_2_sample, texts_sample, lamps_sample, no_lamps_sample}
 use Rattle.demands.specs.Sample.{memory, with_cr, says, rounds}
 use Rattle.demands.specs.WrongDoors.{secured_sample}
@@ -110,16 +110,16 @@ abbrev pub host_rows : List SettledLine
 host_rows =
     ("%1ERST ?" gives "%1ERST=000000" after [])
     ∷ ("%1ERST ?" gives "%1ERST=120010" after reports (1 ∷ 2 ∷ 0 ∷ 0 ∷ 1 ∷ 0 ∷ []) ∷ [])
-    ∷ ("%1POWR ?" gives "%1POWR=ERR4" after marks true ∷ [])
-    ∷ ("%1POWR 1" gives "%1POWR=ERR4" after marks true ∷ [])
-    ∷ ("%1POWR 2" gives "%1POWR=ERR2" after marks true ∷ [])
-    ∷ ("%1INPT ?" gives "%1INPT=ERR4" after marks true ∷ [])
-    ∷ ("%1INPT 11" gives "%1INPT=ERR4" after marks true ∷ [])
-    ∷ ("%1AVMT ?" gives "%1AVMT=ERR4" after marks true ∷ [])
-    ∷ ("%1AVMT 30" gives "%1AVMT=ERR4" after marks true ∷ [])
-    ∷ ("%1ERST ?" gives "%1ERST=000000" after marks true ∷ [])
-    ∷ ("%1LAMP ?" gives "%1LAMP=0 0" after marks true ∷ [])
-    ∷ ("%1POWR ?" gives "%1POWR=0" after marks true ∷ marks false ∷ [])
+    ∷ ("%1POWR ?" gives "%1POWR=ERR4" after faults true ∷ [])
+    ∷ ("%1POWR 1" gives "%1POWR=ERR4" after faults true ∷ [])
+    ∷ ("%1POWR 2" gives "%1POWR=ERR2" after faults true ∷ [])
+    ∷ ("%1INPT ?" gives "%1INPT=ERR4" after faults true ∷ [])
+    ∷ ("%1INPT 11" gives "%1INPT=ERR4" after faults true ∷ [])
+    ∷ ("%1AVMT ?" gives "%1AVMT=ERR4" after faults true ∷ [])
+    ∷ ("%1AVMT 30" gives "%1AVMT=ERR4" after faults true ∷ [])
+    ∷ ("%1ERST ?" gives "%1ERST=000000" after faults true ∷ [])
+    ∷ ("%1LAMP ?" gives "%1LAMP=0 0" after faults true ∷ [])
+    ∷ ("%1POWR ?" gives "%1POWR=0" after faults true ∷ faults false ∷ [])
     ∷ []
 
 -- each text by its own query, and inputs in the set-up's order, of which the first is chosen
@@ -189,9 +189,9 @@ class_2_on_rows =
     ("%2FREZ ?" gives "%2FREZ=0" after on_then [])
     ∷ ("%2FREZ ?" gives "%2FREZ=1" after on_then (says "%2FREZ 1" ∷ []))
     ∷ ("%1INPT ?" gives "%1INPT=6A" after on_then (says "%2INPT 6A" ∷ []))
-    ∷ ("%2SVOL 1" gives "%2SVOL=ERR4" after on_then (marks true ∷ []))
-    ∷ ("%2FREZ ?" gives "%2FREZ=ERR4" after on_then (marks true ∷ []))
-    ∷ ("%2SNUM ?" gives "%2SNUM=SN 7" after on_then (marks true ∷ []))
+    ∷ ("%2SVOL 1" gives "%2SVOL=ERR4" after on_then (faults true ∷ []))
+    ∷ ("%2FREZ ?" gives "%2FREZ=ERR4" after on_then (faults true ∷ []))
+    ∷ ("%2SNUM ?" gives "%2SNUM=SN 7" after on_then (faults true ∷ []))
     ∷ ("%2SVOL 1" gives "%2SVOL=OK" after on_then (rounds 10 (says "%2SVOL 1" ∷ [])))
     ∷ ("%2MVOL 0" gives "%2MVOL=OK" after on_then (rounds 10 (says "%2MVOL 0" ∷ [])))
     ∷ []

@@ -31,19 +31,19 @@ use Rattle.std.specs.Prelude.{if◌then◌else◌, nat_le, codes}
 use Rattle.text.specs.Flags.{is_raised, flag_of}
 use Rattle.digest.specs.Md5.{md5_of}
 use Rattle.digest.specs.Hex.{leading_digest}
-use Rattle.words.specs.Bytes.{no_cr, command_most}
+use Rattle.words.specs.Bytes.{is_cr_free, command_most}
 use Rattle.pjlink.specs.Forms.{erra_line}
 use Rattle.pjlink.specs.Commands.{is_command, command_class, command_line}
 use Rattle.pjlink.specs.declared.body.Body.TheVariants.{Name}
 use Rattle.pjlink.specs.declared.command.Command.{Command}
 use Rattle.pjlink.specs.declared.command.Command.TheVariants.{Query}
 use Rattle.pjlink.specs.Said.{Said, text_is}
-use Rattle.record.specs.Limits.{places_count, awaiting, opened, failed}
+use Rattle.record.specs.Limits.{places_count, phase_awaiting, phase_open, phase_failed}
 use Rattle.record.specs.Wanted.{Wanted}
 use Rattle.record.specs.Legal.{is_legal}
 use Rattle.record.specs.Record.{closed, start_device}
 use Rattle.record.specs.Updates.{with_own, with_fault, with_errors, with_marks}
-use Rattle.record.specs.Places.{connection_at, with_place, is_shut}
+use Rattle.record.specs.Places.{connection_at, with_place, is_closed}
 use Rattle.record.specs.declared.types.Device.{Device}
 use Rattle.record.specs.declared.types.Connection.{Connection}
 use Rattle.meaning.specs.Meaning.{answer_for, after_request}
@@ -71,7 +71,7 @@ pub record BetweenLines (phase : ℕ) (d : Device) (p : ℕ) : Type 0 where
 
 -- open and between lines, the random number kept
 abbrev pub open_again : Connection → Connection
-open_again c = phase_start c opened
+open_again c = phase_start c phase_open
 
 -- ---- what is read of the reply to a command
 
@@ -142,7 +142,7 @@ pub record RefusalOnly {R : Type 0} (B : Board R) (d : R) (p : ℕ) (out : Out R
   pub refusal : out.reply ≡ erra_line
   pub settings : (B.shows out.state).settings ≡ (B.shows d).settings
   pub own : (B.shows out.state).own ≡ (B.shows d).own
-  pub phase : (connection_at (B.shows out.state) p).phase ≡ failed
+  pub phase : (connection_at (B.shows out.state) p).phase ≡ phase_failed
   pub age : (connection_at (B.shows out.state) p).age ≡ 0
   pub others : (q : ℕ) → (q ≡ p → ⊥) → connection_at (B.shows out.state) q ≡ connection_at (B.shows d) q
 
@@ -153,10 +153,10 @@ pub record SpeaksPjlink {R : Type 0} (B : Board R) : Type 0 where
   pub digest : (s : List ℕ) → B.md5 s ≡ md5_of s
   -- "The projector's lines .. are those of PJLink Class 1", and of Class 2 (RULES, Class 2): any line of any
   -- controller, on an open connection and behind the matching digest, is answered as the tables of RULES say
-  pub answers : (d : R) (p : ℕ) (l m : List ℕ) → BetweenLines opened (B.shows d) p → no_cr l ≡ true
+  pub answers : (d : R) (p : ℕ) (l m : List ℕ) → BetweenLines phase_open (B.shows d) p → is_cr_free l ≡ true
       → reply_room ≤ length m
       → let bs = l ++ codes "\r" in AnsweredAs B d p bs (answer_to (B.shows d) l) (B.receive d p bs m)
-  pub answers_led : (d : R) (p : ℕ) (l m : List ℕ) → BetweenLines awaiting (B.shows d) p → no_cr l ≡ true
+  pub answers_led : (d : R) (p : ℕ) (l m : List ℕ) → BetweenLines phase_awaiting (B.shows d) p → is_cr_free l ≡ true
       → length l ≤ command_most → reply_room ≤ length m
       → let bs = digest_for (B.shows d) p ++ l ++ codes "\r" in
       AnsweredAs B d p bs (answer_to (B.shows d) l) (B.receive d p bs m)
@@ -176,12 +176,14 @@ pub record SpeaksPjlink {R : Type 0} (B : Board R) : Type 0 where
   -- "On an open connection between lines, for every command our writer makes without a digest and in every legal state,
   -- what our reader, told the command, takes from the reply is what the projector meant"; RULES, Class 2: by its class
   pub reads_back : (d : R) (p : ℕ) (c : Command) (random : ℕ) (password paper m : List ℕ)
-      → BetweenLines opened (B.shows d) p → is_command c ≡ true → command_room ≤ length paper → reply_room ≤ length m
+      → BetweenLines phase_open (B.shows d) p → is_command c ≡ true → command_room ≤ length paper → reply_room
+      ≤ length m
       → let w = B.write c false random password paper in ByClass B d p c w (B.receive d p (bytes_written w) m)
   -- RULES, Connection: "its reading holds as well on an awaiting connection between lines, for a command led by the
   -- matching digest"
   pub reads_back_secured : (d : R) (p : ℕ) (c : Command) (paper m : List ℕ)
-      → BetweenLines awaiting (B.shows d) p → is_command c ≡ true → command_room ≤ length paper → reply_room ≤ length m
+      → BetweenLines phase_awaiting (B.shows d) p → is_command c ≡ true → command_room ≤ length paper → reply_room
+      ≤ length m
       → let w = B.write c true (connection_at (B.shows d) p).random (set_up_password (B.shows d).settings) paper in
       ByClass B d p c w (B.receive d p (bytes_written w) m)
   -- RULES, Texts: a name that the projector accepts is one that our reader accepts
@@ -190,19 +192,20 @@ pub record SpeaksPjlink {R : Type 0} (B : Board R) : Type 0 where
   -- "On a secured connection a first line without the matching digest yields the refusal line only; power, input, mutes
   -- and lamps stay": whatever follows it, and however it all is cut
   pub outsider_refused : (d : R) (p : ℕ) (l more m : List ℕ) (ps : List (List ℕ))
-      → BetweenLines awaiting (B.shows d) p → no_cr l ≡ true → is_led (B.shows d) p l ≡ false → reply_room ≤ length m
+      → BetweenLines phase_awaiting (B.shows d) p → is_cr_free l ≡ true → is_led (B.shows d) p l ≡ false → reply_room
+      ≤ length m
       → stream_of ps ≡ l ++ codes "\r" ++ more
       → RefusalOnly B d p (handed_on B m p d ps)
   -- and over any calls, whoever else makes them: at a place that starts closed on a device with a password, so long as
   -- no first line of a connection there is led by the digest of its opening's number
   pub outsider_has_no_say : (d : R) (p : ℕ) (cs : List Call) → is_legal (B.shows d) ≡ true
-      → has_password (B.shows d).settings ≡ true → is_shut (connection_at (B.shows d) p) ≡ true
+      → has_password (B.shows d).settings ≡ true → is_closed (connection_at (B.shows d) p) ≡ true
       → IsNeverMatched B p (set_up_password (B.shows d).settings) d unopened cs
       → NoSay B p d unopened cs
   -- and where that holds of every place, the own part is what time and the host's calls make of it
   pub outsiders_have_no_say : (d : R) (cs : List Call) → is_legal (B.shows d) ≡ true
       → has_password (B.shows d).settings ≡ true
-      → ((p : ℕ) → p < places_count → is_shut (connection_at (B.shows d) p) ≡ true)
+      → ((p : ℕ) → p < places_count → is_closed (connection_at (B.shows d) p) ≡ true)
       → ((p : ℕ) → p < places_count → IsNeverMatched B p (set_up_password (B.shows d).settings) d unopened cs)
       → HostsAlone B d cs
   -- RULES, The legal record, Connection and Time: what the other calls leave, where they are accepted
@@ -225,7 +228,7 @@ pub record SpeaksPjlink {R : Type 0} (B : Board R) : Type 0 where
   -- what the greeting reader takes from the opening reply is what opening did, where some place is closed; it takes no
   -- other line for a greeting
   pub greets_back : (d : R) (random : ℕ) (m : List ℕ) → is_legal (B.shows d) ≡ true
-      → (q : ℕ) → q < places_count → is_shut (connection_at (B.shows d) q) ≡ true → reply_room ≤ length m
+      → (q : ℕ) → q < places_count → is_closed (connection_at (B.shows d) q) ≡ true → reply_room ≤ length m
       → random < 2 ^ 32
       → let r = B.opening d random m in
       let p = B.place_opened d random m in
@@ -234,7 +237,7 @@ pub record SpeaksPjlink {R : Type 0} (B : Board R) : Type 0 where
   -- RULES, Connection: "Handed on until all is taken, with no time between, a stream gives the same reply bytes and end
   -- state however it is cut"
   pub same_however_cut : (d : R) (p : ℕ) (m : List ℕ) (ps qs : List (List ℕ)) → is_legal (B.shows d) ≡ true
-      → p < places_count → is_shut (connection_at (B.shows d) p) ≡ false → reply_room ≤ length m
+      → p < places_count → is_closed (connection_at (B.shows d) p) ≡ false → reply_room ≤ length m
       → stream_of ps ≡ stream_of qs
       → handed_on B m p d ps ≡ handed_on B m p d qs
   -- RULES, Places: "One place's bytes never touch another's connection"

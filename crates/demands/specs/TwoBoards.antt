@@ -10,7 +10,7 @@ use Rattle.std.specs.List.{list_all}
 use Rattle.std.specs.Prelude.{ℕ, ◌≡◌, Bool, true, List}
 use Rattle.pjlink.specs.declared.command.Command.{Command}
 use Rattle.record.specs.Wanted.{Wanted}
-use Rattle.record.specs.Rules.{at_most}
+use Rattle.record.specs.Rules.{is_at_most}
 use Rattle.record.specs.Given.{Given}
 use Rattle.ours.specs.Board.{Board}
 use Rattle.demands.specs.Calls.{Call, gave_all, run}
@@ -41,7 +41,7 @@ module _ {R S : Type 0} (B : Board R) (C : Board S) where
     pub calls : (b : R) (c : S) → B.shows b ≡ C.shows c → (cs : List Call) → SameAfter b c cs
     pub set_ups : (w : Wanted) → SameGiven (B.set_up w) (C.set_up w)
     pub stores : (b : R) (c : S) → B.shows b ≡ C.shows c → (m : List ℕ) → B.store b m ≡ C.store c m
-    pub loads : (s : List ℕ) → list_all (at_most 255) s ≡ true → SameGiven (B.load s) (C.load s)
+    pub loads : (s : List ℕ) → list_all (is_at_most 255) s ≡ true → SameGiven (B.load s) (C.load s)
     pub digests : (s : List ℕ) → B.md5 s ≡ C.md5 s
     pub commands : (c : Command) (secured : Bool) (random : ℕ) (password m : List ℕ)
         → B.write c secured random password m ≡ C.write c secured random password m

@@ -2,7 +2,7 @@
 -- Assumes nothing.
 use Rattle.std.specs.Prelude.{◌&&◌, ◌++◌, take, drop, if◌then◌else◌, ◌==◌, codes}
 use Rattle.text.specs.Words.{◌is◌}
-use Rattle.text.specs.Scans.{same_by, itself}
+use Rattle.text.specs.Scans.{is_same_by, itself}
 use Rattle.words.specs.Bytes.{◌at◌, upper_of}
 use Rattle.pjlink.specs.Forms.{reply_parameter}
 use Rattle.record.specs.Limits.{volume_most}
@@ -28,7 +28,7 @@ answers_class_2 = but_receive (λ d p bs m.
 -- keeps the rule of Class 1 for the input that is told: a digit 1 to 9
 abbrev pub refuses_letters : Board Device
 refuses_letters = but_reader (λ c l.
-    if same_by itself (reply_parameter l) (codes "6A") then outcome_alone disallowed else read_reply c l)
+    if is_same_by itself (reply_parameter l) (codes "6A") then outcome_alone disallowed else read_reply c l)
 
 -- from the top, one step up is the bottom
 abbrev from_the_top : Device → Device → Device
@@ -44,5 +44,5 @@ volume_wraps = but_receive (λ d p bs m.
       taken = r.taken;
       length = r.length;
       memory = r.memory;
-      device = if same_by upper_of bs (codes "%2SVOL 1\r") then from_the_top d r.device else r.device;
+      device = if is_same_by upper_of bs (codes "%2SVOL 1\r") then from_the_top d r.device else r.device;
     })

@@ -4,7 +4,7 @@
 -- Assumes nothing.
 use Rattle.std.specs.Prelude.{ℕ, [], length, if◌then◌else◌, ◌==◌, codes}
 use Rattle.pjlink.specs.Forms.{greeting_open}
-use Rattle.record.specs.Limits.{awaiting, opened, failed}
+use Rattle.record.specs.Limits.{phase_awaiting, phase_open, phase_failed}
 use Rattle.record.specs.Wanted.{Wanted, with_password}
 use Rattle.record.specs.declared.types.Device.{Device}
 use Rattle.record.specs.Places.{connection_at, with_place}
@@ -22,7 +22,7 @@ forgets_password = but_set_up (λ w. ours.set_up (with_password [] w))
 
 -- the device with the connection at place p open, whatever it was
 abbrev let_in : Device → ℕ → Device
-let_in d p = with_place d d.own p (phase_start (connection_at d p) opened)
+let_in d p = with_place d d.own p (phase_start (connection_at d p) phase_open)
 
 -- `PJLINK 0`, password or not
 abbrev opened_openly : ℕ → Result Device → Result Device
@@ -52,11 +52,11 @@ time_lets_in phase = but_pass (λ d n.
     })
 
 abbrev pub time_opens : Board Device
-time_opens = time_lets_in awaiting
+time_opens = time_lets_in phase_awaiting
 
 -- a failed connection answers commands once a second has passed
 abbrev pub failed_answers : Board Device
-failed_answers = time_lets_in failed
+failed_answers = time_lets_in phase_failed
 
 abbrev pub never_closes : Board Device
 never_closes = but_closing (λ d p. record { number = (ours.closing d p).number; device = d })

@@ -4,15 +4,15 @@
 use Rattle.std.specs.Prelude.{ℕ, suc, Bool, not, ◌&&◌, List, [], ◌∷◌, ◌++◌, map, length, take, drop, ◌==◌, codes}
 use Rattle.std.specs.Prelude.{if◌then◌else◌}
 use Rattle.text.specs.Flags.{is_raised, flag_of}
-use Rattle.text.specs.Scans.{same_by, itself}
+use Rattle.text.specs.Scans.{is_same_by, itself}
 use Rattle.words.specs.Bytes.{upper_of}
-use Rattle.words.specs.declared.power.Power.TheVariants.{Off}
+use Rattle.words.specs.declared.power.PowerStatus.TheVariants.{Off}
 use Rattle.pjlink.specs.Forms.{head_body, erra_line}
 use Rattle.pjlink.specs.declared.command.Command.{Command}
 use Rattle.pjlink.specs.declared.body.Body.TheVariants.{Name}
 use Rattle.pjlink.specs.Bodies.{is_body}
 use Rattle.pjlink.specs.Said.{text_is, power_is}
-use Rattle.record.specs.Limits.{opened}
+use Rattle.record.specs.Limits.{phase_open}
 use Rattle.record.specs.Updates.{with_line, with_own, with_mutes}
 use Rattle.record.specs.Record.{blank}
 use Rattle.record.specs.declared.types.Own.{Own}
@@ -20,7 +20,7 @@ use Rattle.record.specs.declared.types.Device.{Device}
 use Rattle.stream.specs.Collecting.{empty_line}
 use Rattle.record.specs.Places.{connection_at, with_place}
 use Rattle.device.specs.Calls.{refused_by}
-use Rattle.controller.specs.Reading.{ReadAs, meaning, outcome_alone, read_reply, Outcome, means_it, erra_said}
+use Rattle.controller.specs.Reading.{ReadAs, meaning, outcome_alone, read_reply, ReadingOutcome, means_it, erra_said}
 use Rattle.controller.specs.Reading.{not_a_line, other_command, disallowed}
 use Rattle.ours.specs.Board.{Board, Lent, ours, lent_by}
 use Rattle.record.specs.Given.{Given}
@@ -104,7 +104,7 @@ abbrev pub forgets_at_nothing : Board Device
 forgets_at_nothing = but_receive forgetting_at
 
 -- takes a NAME reply in other letters than our projector's for the empty text
-abbrev empty_reading : Outcome → ReadAs
+abbrev empty_reading : ReadingOutcome → ReadAs
 empty_reading means_it = meaning (text_is [])
 empty_reading erra_said = outcome_alone erra_said
 empty_reading not_a_line = outcome_alone not_a_line
@@ -113,7 +113,7 @@ empty_reading disallowed = outcome_alone disallowed
 
 abbrev reads_our_names : Command → List ℕ → ReadAs
 reads_our_names c l =
-    if is_body 1 (head_body l) Name && not (same_by itself (head_body l) (codes "NAME"))
+    if is_body 1 (head_body l) Name && not (is_same_by itself (head_body l) (codes "NAME"))
     then empty_reading (read_reply c l).outcome else read_reply c l
 
 abbrev pub others_nameless : Board Device
@@ -122,14 +122,14 @@ others_nameless = but_reader reads_our_names
 -- takes a power off from the ERRA line
 abbrev reads_off_at_erra_line : Command → List ℕ → ReadAs
 reads_off_at_erra_line c l =
-    if same_by itself l erra_line then record { outcome = erra_said; said = power_is Off } else read_reply c l
+    if is_same_by itself l erra_line then record { outcome = erra_said; said = power_is Off } else read_reply c l
 
 abbrev pub off_at_erra : Board Device
 off_at_erra = but_reader reads_off_at_erra_line
 
 -- the connection at place p is open, and swallows an overlong line
 abbrev swallows_at : Device → ℕ → Bool
-swallows_at d p = (connection_at d p).phase == opened && is_raised (connection_at d p).line.overlong
+swallows_at d p = (connection_at d p).phase == phase_open && is_raised (connection_at d p).line.overlong
 
 abbrev are_apart : Bool → Bool → Bool
 are_apart a b = if a then not b else b

@@ -6,7 +6,7 @@
 use Rattle.std.specs.Prelude.{ℕ, ◌+◌, min, Bool, ◌&&◌, ◌||◌, List, [], set, length, if◌then◌else◌, slice_index_or, ◌==◌}
 use Rattle.text.specs.Words.{over}
 use Rattle.pjlink.specs.Forms.{erra_line}
-use Rattle.record.specs.Limits.{awaiting, failed, places_count, error_most}
+use Rattle.record.specs.Limits.{phase_awaiting, phase_failed, places_count, error_most}
 use Rattle.record.specs.Record.{closed}
 use Rattle.record.specs.Updates.{with_own, with_errors}
 use Rattle.record.specs.declared.types.Device.{Device}
@@ -17,7 +17,7 @@ use Rattle.record.specs.Given.{Given}
 use Rattle.demands.specs.OursBut.{but_receive}
 
 abbrev fails_now : Device → ℕ → Device → Bool
-fails_now d p e = (connection_at d p).phase == awaiting && (connection_at e p).phase == failed
+fails_now d p e = (connection_at d p).phase == phase_awaiting && (connection_at e p).phase == phase_failed
 
 abbrev on_failure : (Device → ℕ → Device) → Board Device
 on_failure change = but_receive (λ d p bs m.

@@ -5,7 +5,7 @@ use Rattle.std.specs.Prelude.{ℕ, List, if◌then◌else◌, ◌==◌}
 use Rattle.record.specs.Limits.{off}
 use Rattle.record.specs.Updates.{with_own, with_power_left, with_line}
 use Rattle.record.specs.Places.{connection_at, with_place}
-use Rattle.record.specs.declared.types.Line.{Line}
+use Rattle.record.specs.declared.types.CollectedLine.{CollectedLine}
 use Rattle.record.specs.declared.types.Device.{Device}
 use Rattle.stream.specs.Collecting.{empty_line}
 use Rattle.ours.specs.Board.{Board, Lent, ours}
@@ -54,8 +54,8 @@ forgets_others_power = besides ℕ 0 (λ b p bs m.
     lent_beside p (ours.receive (if p == b.1 then b.0 else power_forgotten b.0) p bs m))
 
 -- every place's bytes are collected in one line
-abbrev pub one_line_for_all : Board (Device × Line)
-one_line_for_all = besides Line empty_line (λ b p bs m.
+abbrev pub one_line_for_all : Board (Device × CollectedLine)
+one_line_for_all = besides CollectedLine empty_line (λ b p bs m.
     let d = b.0 in
     let r = ours.receive (with_place d d.own p (with_line (connection_at d p) b.1)) p bs m in
     lent_beside (connection_at r.device p).line r)

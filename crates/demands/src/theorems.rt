@@ -2,7 +2,7 @@
 // here: that these functions have their contracts is that the theorems stand.
 ghost use Rattle.std.specs.Prelude.{◌≡◌, ◌<◌, ◌≤◌, true, false, ℕ, List, length, slice_index_or, codes};
 ghost use Rattle.pjlink.specs.declared.command.Command.{Command};
-ghost use Rattle.record.specs.Limits.{places_count, awaiting, failed, cooling};
+ghost use Rattle.record.specs.Limits.{places_count, phase_awaiting, phase_failed, cooling};
 ghost use Rattle.record.specs.Legal.{is_legal, held_most};
 ghost use Rattle.record.specs.Places.{connection_at};
 ghost use Rattle.record.specs.declared.types.Device.{Device};
@@ -37,7 +37,7 @@ pub fn boards_that_meet_the_demands_are_alike<R, S>()
 #[tactic(auto, using(crate::proofs::LinesAnswered::outsider_reads_erra))]
 pub fn outsiders_read_erra()
     ensures { (d : Device) (p : ℕ) (bytes : List ℕ) (room : ℕ) (c : Command) → is_legal d ≡ true → reply_room ≤ room
-        → p < places_count → let k = connection_at d p in k.phase ≡ awaiting
+        → p < places_count → let k = connection_at d p in k.phase ≡ phase_awaiting
         → let g =
         gathered_from (held_most k.phase) k.line bytes in g.ended ≡ true → is_match d.settings k g.line ≡ false
         → read_reply c (received_at d p bytes room).reply ≡ outcome_alone erra_said }
@@ -66,7 +66,7 @@ pub fn halves_by_turns_are_answered()
 {}
 
 /// Of two lamps that burn for 100 seconds, the one whose mark was cleared before rests (RULES, Lamps).
-pub fn a_disabled_lamp_rests()
+pub fn a_disabled_lamp_stays_dark()
     ensures burns { slice_index_or (run_of ours sets_up two_lamps one_rests).own.lamps 0 0 ≡ 100 }
     ensures rests { slice_index_or (run_of ours sets_up two_lamps one_rests).own.lamps 1 0 ≡ 0 }
 {}
@@ -82,8 +82,8 @@ pub fn an_outsider_can_be_unheard()
     ensures other_unmatched { IsNeverMatched ours 0 (set_up_password fresh_secured.settings) fresh_secured unopened
         (calls_given waiting) }
     ensures quiet { QuietOnceApart ours 0 fresh_secured fresh_secured (calls_given asking) (calls_given waiting) }
-    ensures failed_in_one { phase_at ours 0 (run ours fresh_secured (calls_given asking)) ≡ failed }
-    ensures awaited_in_other { phase_at ours 0 (run ours fresh_secured (calls_given waiting)) ≡ awaiting }
+    ensures failed_in_one { phase_at ours 0 (run ours fresh_secured (calls_given asking)) ≡ phase_failed }
+    ensures awaited_in_other { phase_at ours 0 (run ours fresh_secured (calls_given waiting)) ≡ phase_awaiting }
     ensures power_on_answered { let d = after ours (after ours fresh_secured (opens 7 memory)) (opens 8 memory) in
         reply (ours.receive (after ours d (receives 0 asking memory)) 1 led_on memory) ≡ with_cr "%1POWR=OK" }
     ensures one_burnt { slice_index_or (run ours fresh_secured (calls_given asking)).own.lamps 0 0 ≡ 20 }

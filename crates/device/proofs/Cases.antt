@@ -7,10 +7,10 @@ use Rattle.text.proofs.ByRows.{rows_done}
 use Rattle.text.proofs.Choices.{if_yes, if_no}
 use Rattle.digest.specs.Hex.{hex_digits}
 use Rattle.pjlink.specs.Forms.{greeting_open, greeting_secured}
-use Rattle.record.specs.Limits.{places_count, awaiting, opened}
+use Rattle.record.specs.Limits.{places_count, phase_awaiting, phase_open}
 use Rattle.record.specs.Legal.{is_legal}
 use Rattle.record.specs.Record.{closed}
-use Rattle.record.specs.Places.{connection_at, with_place, is_shut, lowest_shut}
+use Rattle.record.specs.Places.{connection_at, with_place, is_closed, lowest_closed}
 use Rattle.record.specs.declared.types.Settings.{Settings}
 use Rattle.record.specs.declared.types.Connection.{Connection}
 use Rattle.record.specs.declared.types.Device.{Device}
@@ -25,13 +25,13 @@ takes d p bs = taken_in d.settings d.own (connection_at d p) bs
 -- receiving: refused, or what is taken in
 module _ (d : Device) (p : ℕ) (bs : List ℕ) (room : ℕ) where
   pub received_by : (P : Result Device → Type 0) → ((n : ℕ) → (n ≡ 0 → ⊥) → P (refused_by n d))
-      → (is_legal d ≡ true → reply_room ≤ room → p < places_count → is_shut (connection_at d p) ≡ false
+      → (is_legal d ≡ true → reply_room ≤ room → p < places_count → is_closed (connection_at d p) ≡ false
       → P (accepted_taken d p (takes d p bs)))
       → P (received_at d p bs room)
   unfolding received_at
   received_by P refused taken = grind arith
 
-  pub received_taken : is_legal d ≡ true → reply_room ≤ room → p < places_count → is_shut (connection_at d p) ≡ false
+  pub received_taken : is_legal d ≡ true → reply_room ≤ room → p < places_count → is_closed (connection_at d p) ≡ false
       → received_at d p bs room ≡ accepted_taken d p (takes d p bs)
   unfolding received_at
   received_taken legal enough there live = grind arith
@@ -39,7 +39,7 @@ module _ (d : Device) (p : ℕ) (bs : List ℕ) (room : ℕ) where
 -- opening: refused, or the greeting at the lowest closed place
 module _ (d : Device) (r room : ℕ) where
   abbrev lowest : ℕ
-  lowest = lowest_shut d.connections
+  lowest = lowest_closed d.connections
 
   pub opened_placed_by : (P : ℕ → Result Device → Type 0) → ((n : ℕ) → (n ≡ 0 → ⊥) → P 0 (refused_by n d))
       → (is_legal d ≡ true → reply_room ≤ room → lowest < places_count → P lowest (accepted_opening d r))
@@ -66,8 +66,8 @@ module _ (d : Device) (r room : ℕ) where
 
 -- the greeting and the connection that it opens, by whether there is a password
 pub greeted_by_lem : (s : Settings) (r : ℕ) (P : List ℕ → Connection → Type 0)
-    → P (greeting_secured (hex_digits 8 r)) (begun_in awaiting r)
-    → P greeting_open (begun_in opened r)
+    → P (greeting_secured (hex_digits 8 r)) (begun_in phase_awaiting r)
+    → P greeting_open (begun_in phase_open r)
     → P (greeting s r) (new_connection s r)
 unfolding greeting new_connection
 greeted_by_lem s r P secured plain = grind arith
@@ -79,7 +79,7 @@ module _ (s : Settings) (r : ℕ) where
     unfolding greeting
     secured_greeting = if_yes _ _ on
 
-    pub secured_greeted : new_connection s r ≡ begun_in awaiting r
+    pub secured_greeted : new_connection s r ≡ begun_in phase_awaiting r
     unfolding new_connection
     secured_greeted = ap (λ (p : ℕ). begun_in p r) (if_yes _ _ on)
 
@@ -88,20 +88,20 @@ module _ (s : Settings) (r : ℕ) where
     unfolding greeting
     open_greeting = if_no _ _ none
 
-    pub open_greeted : new_connection s r ≡ begun_in opened r
+    pub open_greeted : new_connection s r ≡ begun_in phase_open r
     unfolding new_connection
     open_greeted = ap (λ (p : ℕ). begun_in p r) (if_no _ _ none)
 
 -- closing: refused, or the closed connection
 module _ (d : Device) (p : ℕ) where
   pub closed_by_lem : (P : Result Device → Type 0) → ((n : ℕ) → (n ≡ 0 → ⊥) → P (refused_by n d))
-      → (is_legal d ≡ true → p < places_count → is_shut (connection_at d p) ≡ false
+      → (is_legal d ≡ true → p < places_count → is_closed (connection_at d p) ≡ false
       → P (plain_result (with_place d d.own p closed)))
       → P (closed_by d p)
   unfolding closed_by
   closed_by_lem P refused closes = grind arith
 
-  pub closed_at_place : is_legal d ≡ true → p < places_count → is_shut (connection_at d p) ≡ false
+  pub closed_at_place : is_legal d ≡ true → p < places_count → is_closed (connection_at d p) ≡ false
       → closed_by d p ≡ plain_result (with_place d d.own p closed)
   unfolding closed_by
   closed_at_place legal there live = grind arith

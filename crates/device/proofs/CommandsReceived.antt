@@ -16,7 +16,7 @@ use Rattle.pjlink.specs.declared.command.Command.{Command}
 use Rattle.pjlink.proofs.CommandLines.{command_length, command_no_cr}
 use Rattle.pjlink.specs.Said.{Said, said_bytes}
 use Rattle.text.specs.Flags.{is_raised}
-use Rattle.record.specs.Limits.{places_count, awaiting, opened}
+use Rattle.record.specs.Limits.{places_count, phase_awaiting, phase_open}
 use Rattle.record.specs.Legal.{is_legal}
 use Rattle.record.specs.Places.{connection_at, with_place}
 use Rattle.record.specs.declared.types.Connection.{Connection}
@@ -41,7 +41,7 @@ command_result d p k n = record {
   number = 0;
   taken = n;
   reply = reply_to k (answer_for d.settings d.own (Ok k));
-  device = with_place d (after_request d.settings d.own (Ok k)) p (phase_start (connection_at d p) opened);
+  device = with_place d (after_request d.settings d.own (Ok k)) p (phase_start (connection_at d p) phase_open);
 }
 
 abbrev pub swallowed_at : Device → ℕ → ℕ → Result Device
@@ -49,12 +49,12 @@ swallowed_at d p n = record {
   number = 0;
   taken = n;
   reply = [];
-  device = with_place d d.own p (phase_start (connection_at d p) opened);
+  device = with_place d d.own p (phase_start (connection_at d p) phase_open);
 }
 
 -- an open connection between lines stays as it was
-pub open_again : (d : Device) (p : ℕ) → p < places_count → is_legal d ≡ true → (connection_at d p).phase ≡ opened
-    → (connection_at d p).line ≡ empty_line → phase_start (connection_at d p) opened ≡ connection_at d p
+pub open_again : (d : Device) (p : ℕ) → p < places_count → is_legal d ≡ true → (connection_at d p).phase ≡ phase_open
+    → (connection_at d p).line ≡ empty_line → phase_start (connection_at d p) phase_open ≡ connection_at d p
 open_again d p there legal phase empty =
     search (arith, age_untimed, connection_is, legal_connection, legal_connection d legal p there)
 
@@ -74,14 +74,14 @@ module _ (d : Device) (p : ℕ) (there : p < places_count) (room : ℕ) (legal :
   abbrev pub digest : List ℕ
   digest = leading_digest c.random (set_up_password d.settings)
 
-  command_line_received : c.phase ≡ opened
+  command_line_received : c.phase ≡ phase_open
       → received_at d p (command_line k) room ≡ spoken_after (length (command_line k)) answered
   command_line_received phase =
       line_received d p there room legal enough unmarked none (command_text k) (command_no_cr k) phase
       (omega (arith, command_length k))
       ∙ ap (λ (n : ℕ). spoken_after n answered) (sym (length-append (command_text k) (codes "\r")))
 
-  led_received : c.phase ≡ awaiting
+  led_received : c.phase ≡ phase_awaiting
       → received_at d p (digest ++ command_line k) room ≡ spoken_after (length (digest ++ command_line k)) answered
   led_received phase =
       let count : digest_long + length (command_text k) + 1 ≡ length (digest ++ command_line k)
@@ -100,11 +100,11 @@ module _ (d : Device) (p : ℕ) (there : p < places_count) (room : ℕ) (legal :
     answers : (n : ℕ) → spoken_after n answered ≡ command_result d p k n
     answers n = grind (arith, command_answered, legal_settings)
 
-    pub command_received : c.phase ≡ opened
+    pub command_received : c.phase ≡ phase_open
         → received_at d p (command_line k) room ≡ command_result d p k (length (command_line k))
     command_received phase = command_line_received phase ∙ answers (length (command_line k))
 
-    pub command_received_secured : c.phase ≡ awaiting
+    pub command_received_secured : c.phase ≡ phase_awaiting
         → received_at d p (digest ++ command_line k) room ≡ command_result d p k (length (digest ++ command_line k))
     command_received_secured phase = led_received phase ∙ answers (length (digest ++ command_line k))
 
@@ -113,10 +113,10 @@ module _ (d : Device) (p : ℕ) (there : p < places_count) (room : ℕ) (legal :
     swallows : (n : ℕ) → spoken_after n answered ≡ swallowed_at d p n
     swallows n = ap (spoken_after n) (higher_swallowed d.settings d.own (legal_settings d legal) k higher)
 
-    pub higher_received : c.phase ≡ opened
+    pub higher_received : c.phase ≡ phase_open
         → received_at d p (command_line k) room ≡ swallowed_at d p (length (command_line k))
     higher_received phase = command_line_received phase ∙ swallows (length (command_line k))
 
-    pub higher_received_secured : c.phase ≡ awaiting
+    pub higher_received_secured : c.phase ≡ phase_awaiting
         → received_at d p (digest ++ command_line k) room ≡ swallowed_at d p (length (digest ++ command_line k))
     higher_received_secured phase = led_received phase ∙ swallows (length (digest ++ command_line k))

@@ -5,8 +5,8 @@ use Rattle.std.specs.List.{list_all}
 use Rattle.std.proofs.Common.{ℕ, ◌+◌, ◌≤◌, ◌≡◌, refl, true, List, [], ◌∷◌, ◌++◌, arith, length, ◌==◌}
 use Prim.Native.Char.{code}
 use Rattle.text.proofs.Choices.{if_all}
-use Rattle.words.specs.Bytes.{not_cr}
-use Rattle.record.specs.Limits.{failed}
+use Rattle.words.specs.Bytes.{is_not_cr}
+use Rattle.record.specs.Limits.{phase_failed}
 use Rattle.record.specs.Legal.{held_most}
 use Rattle.record.specs.Places.{connection_at}
 use Rattle.record.specs.declared.types.Settings.{Settings}
@@ -25,10 +25,10 @@ module _ (s : Settings) (o : Own) (c : Connection) where
   abbrev most : ℕ
   most = held_most c.phase
 
-  pub all_taken : (bs : List ℕ) → list_all not_cr bs ≡ true → (taken_in s o c bs).taken ≡ length bs
+  pub all_taken : (bs : List ℕ) → list_all is_not_cr bs ≡ true → (taken_in s o c bs).taken ≡ length bs
   all_taken bs e = grind (arith, plain_gathered, taken_part)
 
-  pub line_taken : (xs more : List ℕ) → list_all not_cr xs ≡ true
+  pub line_taken : (xs more : List ℕ) → list_all is_not_cr xs ≡ true
       → (taken_in s o c (xs ++ (code "\r" ∷ more))).taken ≡ length xs + 1
   line_taken xs more e = grind (arith, gathered_from-append, taken-line)
 
@@ -39,7 +39,7 @@ module _ (s : Settings) (o : Own) (c : Connection) where
 
   keeps_itself : keeping_line c c.line ≡ c
   unfolding keeping_line
-  keeps_itself = if_all (λ (k : Connection). k ≡ c) (c.phase == failed) refl refl
+  keeps_itself = if_all (λ (k : Connection). k ≡ c) (c.phase == phase_failed) refl refl
 
   pub nothing_taken : taken_in s o c [] ≡ record { ended = no_reply o c; taken = 0 }
   unfolding taken_in

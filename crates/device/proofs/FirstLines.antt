@@ -4,12 +4,12 @@
 use Rattle.std.proofs.Common.{arith, ℕ, ◌≤◌, ◌≡◌, sym, ap, ◌∙◌, Bool, true, false, List, ◌∷◌, ◌++◌, ⊎_elim, length}
 use Rattle.std.proofs.Common.{nat_le, leb-true, le-leb}
 use Prim.Native.Char.{code}
-use Rattle.text.specs.Scans.{same_by, itself}
+use Rattle.text.specs.Scans.{is_same_by, itself}
 use Rattle.text.proofs.Choices.{both, both_left, both_right}
 use Rattle.digest.specs.Hex.{leading_digest}
-use Rattle.words.specs.Bytes.{no_cr}
+use Rattle.words.specs.Bytes.{is_cr_free}
 use Rattle.words.proofs.Characters.{no_cr_each}
-use Rattle.record.specs.Limits.{line_room, awaiting}
+use Rattle.record.specs.Limits.{line_room, phase_awaiting}
 use Rattle.record.specs.Legal.{held_most}
 use Rattle.record.specs.declared.types.Settings.{Settings}
 use Rattle.record.specs.declared.types.Connection.{Connection}
@@ -39,7 +39,7 @@ module _ (s : Settings) (c : Connection) where
   match_led l short e =
       let long = leb-true digest_long (length l) (both_left _ _ e) in
       both (le-leb (length l) line_room short)
-      (ap (λ (front : List ℕ). same_by itself front digest)
+      (ap (λ (front : List ℕ). is_same_by itself front digest)
       (sym (room_first line_room l digest_long long))
       ∙ both_right (nat_le digest_long (length l)) _ e)
 
@@ -52,7 +52,8 @@ module _ (s : Settings) (c : Connection) where
   is_match-collected_all l unled =
       grind (arith, ⊎_elim, collected_whole, unled_short, collected_overlong, overlong_unmatched)
 
-  module _ (empty : c.line ≡ empty_line) (phase : c.phase ≡ awaiting) (l more : List ℕ) (plain : no_cr l ≡ true) where
+  module _ (empty : c.line ≡ empty_line) (phase : c.phase ≡ phase_awaiting) (l more : List ℕ)
+      (plain : is_cr_free l ≡ true) where
     abbrev first : Gathered
     first = gathered_from (held_most c.phase) c.line (l ++ (code "\r" ∷ more))
 

@@ -14,7 +14,7 @@ use Rattle.pjlink.specs.declared.body.Body.TheVariants.{Powr}
 use Rattle.pjlink.specs.declared.command.Command.TheVariants.{PowerSet}
 use Rattle.pjlink.specs.Bodies.{is_body}
 use Rattle.pjlink.specs.Said.{okay}
-use Rattle.record.specs.Limits.{shut, awaiting, opened}
+use Rattle.record.specs.Limits.{phase_closed, phase_awaiting, phase_open}
 use Rattle.record.specs.Legal.{is_collecting, held_most, is_connection}
 use Rattle.record.specs.Record.{closed}
 use Rattle.record.specs.Places.{connection_at}
@@ -72,7 +72,7 @@ module _ (s : Settings) (o : Own) {w h : List ℕ} (known : Ends w h) (x : List 
   tells_on t = search (arith, effect_on, ends_trans, ends_with)
 
 -- a legal connection that is neither awaiting nor open holds nothing
-unheld : (c : Connection) → is_connection c ≡ true → (c.phase ≡ opened → ⊥) → (c.phase ≡ awaiting → ⊥)
+unheld : (c : Connection) → is_connection c ≡ true → (c.phase ≡ phase_open → ⊥) → (c.phase ≡ phase_awaiting → ⊥)
     → c.line.held ≡ 0
 unheld c legal n m = grind (arith, held_most_none, held_within, connection_is)
 
@@ -84,7 +84,7 @@ module _ (s : Settings) (o : Own) (c : Connection) (bs : List ℕ) (legal : is_c
   abbrev sent : ℕ → List ℕ
   sent n = line_text c.line ++ take n bs
 
-  part_last : (c.phase ≡ shut → ⊥) → Ends (sent gathers.before) (line_text (keeping_line c gathers.line).line)
+  part_last : (c.phase ≡ phase_closed → ⊥) → Ends (sent gathers.before) (line_text (keeping_line c gathers.line).line)
   unfolding keeping_line
   part_last live = grind (arith, eqb-true, ends_unheld, unheld, gathered_ends, collecting, connection_is)
 
@@ -123,7 +123,7 @@ module _ (s : Settings) (o : Own) (c : Connection) (bs : List ℕ) (legal : is_c
   abbrev TellsOf : Taken → Type 0
   TellsOf t = Tells s o (sent t.taken) t.ended.reply t.ended.own t.ended.connection
 
-  pub taken_tells : (c.phase ≡ shut → ⊥) → TellsOf (taken_in s o c bs)
+  pub taken_tells : (c.phase ≡ phase_closed → ⊥) → TellsOf (taken_in s o c bs)
   taken_tells live =
       let Told : Taken → Type 0 = λ t. Keeps o t.ended.own → TellsOf t in
       taken_by s o c bs Told
@@ -152,7 +152,7 @@ received_tells d p bs room =
     (λ h s t c. let took = taken_in d.settings d.own here bs in
     subst (Tells d.settings d.own (held ++ take took.taken bs) took.ended.reply took.ended.own)
     (sym (placed_here d (legal_places d h) p t took.ended.own took.ended.connection))
-    (taken_tells d.settings d.own here bs (legal_connection d h p t) (eqb-false here.phase shut c)))
+    (taken_tells d.settings d.own here bs (legal_connection d h p t) (eqb-false here.phase phase_closed c)))
 
 -- at each place opening and closing leave a connection that holds nothing, or as it was
 abbrev held : Connection → List ℕ

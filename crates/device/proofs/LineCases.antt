@@ -4,12 +4,12 @@ use Rattle.std.proofs.Common.{arith, ℕ, ◌+◌, ◌≤◌, ◌≡◌, ap, ◌
 use Rattle.text.specs.Flags.{is_raised}
 use Rattle.text.proofs.Choices.{if_yes, if_no, if_by}
 use Rattle.pjlink.specs.Forms.{is_command_form}
-use Rattle.record.specs.Limits.{awaiting, opened, failed}
+use Rattle.record.specs.Limits.{phase_awaiting, phase_open, phase_failed}
 use Rattle.record.specs.Updates.{with_line}
 use Rattle.record.specs.Legal.{held_most}
 use Rattle.record.specs.declared.types.Settings.{Settings}
 use Rattle.record.specs.declared.types.Own.{Own}
-use Rattle.record.specs.declared.types.Line.{Line}
+use Rattle.record.specs.declared.types.CollectedLine.{CollectedLine}
 use Rattle.record.specs.declared.types.Connection.{Connection}
 use Rattle.stream.specs.Collecting.{Gathered}
 use Rattle.stream.specs.Collecting.{line_text, gathered_from}
@@ -26,58 +26,58 @@ unfolding line_answer
 answered_by s o l P = if_by P (is_command_form s.class_number l)
 
 -- what CR does, by the phase and what the line is
-module _ (s : Settings) (o : Own) (c : Connection) (l : Line) where
-  module _ (phase : c.phase ≡ opened) where
+module _ (s : Settings) (o : Own) (c : Connection) (l : CollectedLine) where
+  module _ (phase : c.phase ≡ phase_open) where
     pub ended_overlong : is_raised l.overlong ≡ true → line_ended s o c l ≡ served_line c (line_swallowed o)
     unfolding line_ended
-    ended_overlong m = if_yes _ _ (eq-eqb c.phase opened phase) ∙ ap (served_line c) (if_yes _ _ m)
+    ended_overlong m = if_yes _ _ (eq-eqb c.phase phase_open phase) ∙ ap (served_line c) (if_yes _ _ m)
 
     pub ended_open : is_raised l.overlong ≡ false → line_ended s o c l ≡ served_line c (line_answer s o (line_text l))
     unfolding line_ended
-    ended_open m = if_yes _ _ (eq-eqb c.phase opened phase) ∙ ap (served_line c) (if_no _ _ m)
+    ended_open m = if_yes _ _ (eq-eqb c.phase phase_open phase) ∙ ap (served_line c) (if_no _ _ m)
 
-  module _ (phase : c.phase ≡ awaiting) where
-    not_open : (c.phase == opened) ≡ false
-    not_open = ap (λ (p : ℕ). p == opened) phase
+  module _ (phase : c.phase ≡ phase_awaiting) where
+    not_open : (c.phase == phase_open) ≡ false
+    not_open = ap (λ (p : ℕ). p == phase_open) phase
 
     pub ended_match : is_match s c l ≡ true
         → line_ended s o c l ≡ served_line c (line_answer s o (drop digest_long (line_text l)))
     unfolding line_ended
-    ended_match m = if_no _ _ not_open ∙ if_yes _ _ (eq-eqb c.phase awaiting phase) ∙ if_yes _ _ m
+    ended_match m = if_no _ _ not_open ∙ if_yes _ _ (eq-eqb c.phase phase_awaiting phase) ∙ if_yes _ _ m
 
     pub ended_erra : is_match s c l ≡ false → line_ended s o c l ≡ refused_digest o c
     unfolding line_ended
-    ended_erra m = if_no _ _ not_open ∙ if_yes _ _ (eq-eqb c.phase awaiting phase) ∙ if_no _ _ m
+    ended_erra m = if_no _ _ not_open ∙ if_yes _ _ (eq-eqb c.phase phase_awaiting phase) ∙ if_no _ _ m
 
-  pub ended_other : (c.phase ≡ opened → ⊥) → (c.phase ≡ awaiting → ⊥) → line_ended s o c l ≡ no_reply o c
+  pub ended_other : (c.phase ≡ phase_open → ⊥) → (c.phase ≡ phase_awaiting → ⊥) → line_ended s o c l ≡ no_reply o c
   unfolding line_ended
-  ended_other p q = if_no _ _ (ne_eqb c.phase opened p) ∙ if_no _ _ (ne_eqb c.phase awaiting q)
+  ended_other p q = if_no _ _ (ne_eqb c.phase phase_open p) ∙ if_no _ _ (ne_eqb c.phase phase_awaiting q)
 
   pub ended_by : (P : Ended → Type 0)
-      → (c.phase ≡ opened → is_raised l.overlong ≡ true → P (served_line c (line_swallowed o)))
-      → (c.phase ≡ opened → is_raised l.overlong ≡ false → P (served_line c (line_answer s o (line_text l))))
-      → (c.phase ≡ awaiting → is_match s c l ≡ true
+      → (c.phase ≡ phase_open → is_raised l.overlong ≡ true → P (served_line c (line_swallowed o)))
+      → (c.phase ≡ phase_open → is_raised l.overlong ≡ false → P (served_line c (line_answer s o (line_text l))))
+      → (c.phase ≡ phase_awaiting → is_match s c l ≡ true
       → P (served_line c (line_answer s o (drop digest_long (line_text l)))))
-      → (c.phase ≡ awaiting → is_match s c l ≡ false → P (refused_digest o c))
-      → ((c.phase ≡ opened → ⊥) → (c.phase ≡ awaiting → ⊥) → P (no_reply o c))
+      → (c.phase ≡ phase_awaiting → is_match s c l ≡ false → P (refused_digest o c))
+      → ((c.phase ≡ phase_open → ⊥) → (c.phase ≡ phase_awaiting → ⊥) → P (no_reply o c))
       → P (line_ended s o c l)
   unfolding line_ended
   ended_by P overlong line match erra other = grind arith
 
 -- the digest is all there
-pub match_long : (s : Settings) (c : Connection) (l : Line) → is_match s c l ≡ true → digest_long ≤ l.held
+pub match_long : (s : Settings) (c : Connection) (l : CollectedLine) → is_match s c l ≡ true → digest_long ≤ l.held
 unfolding is_match
 match_long s c l e = grind arith
 
 -- a failed connection keeps no byte
-module _ (c : Connection) (l : Line) where
-  pub keeping_none : c.phase ≡ failed → keeping_line c l ≡ c
+module _ (c : Connection) (l : CollectedLine) where
+  pub keeping_none : c.phase ≡ phase_failed → keeping_line c l ≡ c
   unfolding keeping_line
-  keeping_none p = if_yes _ _ (eq-eqb c.phase failed p)
+  keeping_none p = if_yes _ _ (eq-eqb c.phase phase_failed p)
 
-  pub keeping_line_lem : (c.phase ≡ failed → ⊥) → keeping_line c l ≡ with_line c l
+  pub keeping_line_lem : (c.phase ≡ phase_failed → ⊥) → keeping_line c l ≡ with_line c l
   unfolding keeping_line
-  keeping_line_lem p = if_no _ _ (ne_eqb c.phase failed p)
+  keeping_line_lem p = if_no _ _ (ne_eqb c.phase phase_failed p)
 
 -- what a call takes in, by whether CR came
 module _ (s : Settings) (o : Own) (c : Connection) (bs : List ℕ) where

@@ -7,10 +7,10 @@ use Rattle.std.specs.List.{list_all}
 use Rattle.std.proofs.Common.{ℕ, ◌+◌, ◌≤◌, ◌<◌, ◌≡◌, ap, true, false, List, ◌∷◌, ◌++◌, arith, length, ◌==◌, codes}
 use Prim.Native.Char.{code}
 use Rattle.digest.specs.Hex.{leading_digest}
-use Rattle.words.specs.Bytes.{not_cr, no_cr, command_most}
+use Rattle.words.specs.Bytes.{is_not_cr, is_cr_free, command_most}
 use Rattle.words.proofs.Characters.{no_cr_each}
 use Rattle.text.specs.Flags.{is_raised}
-use Rattle.record.specs.Limits.{places_count, shut, awaiting, opened}
+use Rattle.record.specs.Limits.{places_count, phase_closed, phase_awaiting, phase_open}
 use Rattle.record.specs.Legal.{held_most, is_legal}
 use Rattle.record.specs.Places.{connection_at}
 use Rattle.record.specs.declared.types.Settings.{Settings}
@@ -32,8 +32,8 @@ use Rattle.stream.proofs.LegalLines.{between_lines}
 use Rattle.device.proofs.WholeLines.{open_line-taken, matching_line-taken}
 
 -- an overlong line on an open connection
-module _ (s : Settings) (o : Own) (c : Connection) (empty : c.line ≡ empty_line) (phase : c.phase ≡ opened)
-    (xs rest : List ℕ) (long : command_most < length xs) (plain : list_all not_cr xs ≡ true) where
+module _ (s : Settings) (o : Own) (c : Connection) (empty : c.line ≡ empty_line) (phase : c.phase ≡ phase_open)
+    (xs rest : List ℕ) (long : command_most < length xs) (plain : list_all is_not_cr xs ≡ true) where
   abbrev bytes : List ℕ
   bytes = xs ++ (code "\r" ∷ rest)
 
@@ -50,20 +50,20 @@ line_result d p a n = accepted_taken d p (record { ended = served_line (connecti
 
 module _ (d : Device) (p : ℕ) (there : p < places_count) (room : ℕ) (legal : is_legal d ≡ true)
     (enough : reply_room ≤ room) (unmarked : is_raised (connection_at d p).line.overlong ≡ false)
-    (none : (connection_at d p).line.held ≡ 0) (l : List ℕ) (plain : no_cr l ≡ true) where
+    (none : (connection_at d p).line.held ≡ 0) (l : List ℕ) (plain : is_cr_free l ≡ true) where
   abbrev c : Connection
   c = connection_at d p
 
   empty : c.line ≡ empty_line
   empty = between_lines c.phase c.line (line_legal c (legal_connection d legal p there)) unmarked none
 
-  plainly : list_all not_cr l ≡ true
+  plainly : list_all is_not_cr l ≡ true
   plainly = no_cr_each l plain
 
-  module _ (phase : c.phase ≡ opened) where
+  module _ (phase : c.phase ≡ phase_open) where
     open_takes : received_at d p (l ++ codes "\r") room
         ≡ accepted_taken d p (taken_in d.settings d.own c (l ++ codes "\r"))
-    open_takes = received_taken d p (l ++ codes "\r") room legal enough there (ap (λ (q : ℕ). q == shut) phase)
+    open_takes = received_taken d p (l ++ codes "\r") room legal enough there (ap (λ (q : ℕ). q == phase_closed) phase)
 
     pub line_received : length l ≤ command_most
         → received_at d p (l ++ codes "\r") room ≡ line_result d p (line_answer d.settings d.own l) (length l + 1)
@@ -76,7 +76,7 @@ module _ (d : Device) (p : ℕ) (there : p < places_count) (room : ℕ) (legal :
   abbrev digest : List ℕ
   digest = leading_digest c.random (set_up_password d.settings)
 
-  pub led_line_received : c.phase ≡ awaiting → length l ≤ command_most
+  pub led_line_received : c.phase ≡ phase_awaiting → length l ≤ command_most
       → received_at d p (digest ++ l ++ codes "\r") room
       ≡ line_result d p (line_answer d.settings d.own l) (digest_long + length l + 1)
   led_line_received phase short = grind (arith, received_taken, matching_line-taken, empty, plainly)

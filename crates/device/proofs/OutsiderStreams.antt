@@ -7,7 +7,7 @@ use Rattle.std.proofs.Common.{drop_of_length-le, if◌then◌else◌}
 use Prim.Native.Char.{code}
 use Rattle.text.proofs.Choices.{if_yes}
 use Rattle.pjlink.specs.Forms.{erra_line}
-use Rattle.record.specs.Limits.{places_count, awaiting, failed}
+use Rattle.record.specs.Limits.{places_count, phase_awaiting, phase_failed}
 use Rattle.record.specs.Updates.{with_line}
 use Rattle.record.specs.Legal.{held_most, is_legal}
 use Rattle.record.specs.Places.{connection_at}
@@ -40,7 +40,7 @@ refusal_of g = if g.ended then erra_line else []
 -- what an outsider's bytes leave
 abbrev outsider_leaves : Own → Connection → Gathered → Out State
 outsider_leaves o c g = record {
-  state = state_of o (if g.ended then phase_start c failed else with_line c g.line);
+  state = state_of o (if g.ended then phase_start c phase_failed else with_line c g.line);
   reply = refusal_of g;
 }
 
@@ -52,20 +52,20 @@ module _ (s : Settings) where
   stepped m b cr = if cr then ends s m else without_reply (collects m b)
 
   -- a failed connection ignores whatever comes
-  failed_step : (m : State) (b : ℕ) (cr : Bool) → m.connection.phase ≡ failed → stepped m b cr ≡ without_reply m
+  failed_step : (m : State) (b : ℕ) (cr : Bool) → m.connection.phase ≡ phase_failed → stepped m b cr ≡ without_reply m
   failed_step m b cr h = grind (arith, failed_ignores_line, keeping_none)
 
-  pub failed_run : (m : State) (bs : List ℕ) → m.connection.phase ≡ failed → ran m bs ≡ without_reply m
+  pub failed_run : (m : State) (bs : List ℕ) → m.connection.phase ≡ phase_failed → ran m bs ≡ without_reply m
   failed_run m [] f = run_none (code "\r") State collects (ends s) m
   failed_run m (b ∷ bs) f = grind (arith, run_more, failed_step, failed_run m bs f)
 
   -- his first call, and what is left then: the line ends and is refused, or nothing is left
-  outsider_run : (o : Own) (c : Connection) (bs : List ℕ) → c.phase ≡ awaiting → IsUnmatched s c bs
+  outsider_run : (o : Own) (c : Connection) (bs : List ℕ) → c.phase ≡ phase_awaiting → IsUnmatched s c bs
       → ran (state_of o c) bs ≡ outsider_leaves o c (first_line c bs)
   outsider_run o c bs waits unmatched =
       let g = first_line c bs in
       let leaves_then : Bool → Out State = λ t. record {
-        state = state_of o (if t then phase_start c failed else with_line c g.line);
+        state = state_of o (if t then phase_start c phase_failed else with_line c g.line);
         reply = if t then erra_line else [];
       } in
       run_called (code "\r") State collects (ends s) (state_of o c) bs
@@ -75,7 +75,7 @@ module _ (s : Settings) where
       (λ t. reply_then (as_call t).reply (ran (as_call t).state (drop t.taken bs)) ≡ outsider_leaves o c g)
       (λ e. ap (λ (r : Ended). reply_then r.reply (ran (leaves r).state (drop (g.before + 1) bs)))
       (ended_erra s o c g.line waits (unmatched e))
-      ∙ ap (reply_then erra_line) (failed_run (state_of o (phase_start c failed)) (drop (g.before + 1) bs) refl)
+      ∙ ap (reply_then erra_line) (failed_run (state_of o (phase_start c phase_failed)) (drop (g.before + 1) bs) refl)
       ∙ ap leaves_then (sym e))
       (λ e. (λ i. ran (state_of o (keeping_line_lem c g.line (λ f. omega arith) i))
       (drop_of_length-le bs {i = g.before} (omega (arith, gathered_whole (held_most c.phase) c.line bs e)) i))
@@ -84,7 +84,7 @@ module _ (s : Settings) where
 
 -- the calls, however the stream is cut
 module _ (room : ℕ) (enough : reply_room ≤ room) (p : ℕ) (there : p < places_count) (d : Device)
-    (legal : is_legal d ≡ true) (waits : (connection_at d p).phase ≡ awaiting) (ps : List (List ℕ))
+    (legal : is_legal d ≡ true) (waits : (connection_at d p).phase ≡ phase_awaiting) (ps : List (List ℕ))
     (unmatched : IsUnmatched d.settings (connection_at d p) (stream_of ps)) where
   abbrev all : Out Device
   all = handed_parts (receives room p) d ps
@@ -118,10 +118,10 @@ module _ (room : ℕ) (enough : reply_room ≤ room) (p : ℕ) (there : p < plac
 
   -- once his first line ended, the connection has failed
   module _ (cr : (first_line (connection_at d p) (stream_of ps)).ended ≡ true) where
-    failed_then : after ≡ phase_start (connection_at d p) failed
+    failed_then : after ≡ phase_start (connection_at d p) phase_failed
     failed_then = if_yes _ _ cr
 
-    pub outsider_stream_fails : (connection_at (handed_parts (receives room p) d ps).state p).phase ≡ failed
+    pub outsider_stream_fails : (connection_at (handed_parts (receives room p) d ps).state p).phase ≡ phase_failed
     outsider_stream_fails = ap (λ (c : Connection). c.phase) (here ∙ failed_then)
 
     pub outsider_stream_age : (connection_at (handed_parts (receives room p) d ps).state p).age ≡ 0

@@ -4,11 +4,11 @@
 use Rattle.std.proofs.Common.{ℕ, ◌≡◌, refl, sym, ap, ◌∙◌, true, false, List, [], arith}
 use Rattle.std.proofs.lemmas.Bool.{false≢true}
 use Rattle.pjlink.specs.Forms.{erra_line}
-use Rattle.record.specs.Limits.{awaiting, failed}
+use Rattle.record.specs.Limits.{phase_awaiting, phase_failed}
 use Rattle.record.specs.Legal.{held_most}
 use Rattle.record.specs.declared.types.Settings.{Settings}
 use Rattle.record.specs.declared.types.Own.{Own}
-use Rattle.record.specs.declared.types.Line.{Line}
+use Rattle.record.specs.declared.types.CollectedLine.{CollectedLine}
 use Rattle.record.specs.declared.types.Connection.{Connection}
 use Rattle.record.specs.declared.types.Device.{Device}
 use Rattle.record.specs.Places.{connection_at}
@@ -22,7 +22,7 @@ use Rattle.device.proofs.LineCases.{ended_other, ended_erra, keeping_none, taken
 pub record Outside (o : Own) (c : Connection) (e : Ended) : Type 0 where
   pub reply : e.reply ≡ erra_line
   pub own : e.own ≡ o
-  pub phase : e.connection.phase ≡ failed
+  pub phase : e.connection.phase ≡ phase_failed
   pub age : e.connection.age ≡ 0
   pub random : e.connection.random ≡ c.random
   pub line : e.connection.line ≡ empty_line
@@ -34,8 +34,8 @@ IsUnmatched s c bs =
     g.ended ≡ true → is_match s c g.line ≡ false
 
 module _ (s : Settings) (o : Own) (c : Connection) where
-  module _ (phase : c.phase ≡ awaiting) where
-    pub mismatch_refused : (l : Line) → is_match s c l ≡ false → Outside o c (line_ended s o c l)
+  module _ (phase : c.phase ≡ phase_awaiting) where
+    pub mismatch_refused : (l : CollectedLine) → is_match s c l ≡ false → Outside o c (line_ended s o c l)
     mismatch_refused l m = grind (arith, ended_erra)
 
     pub unmatched_line_refused : (bs : List ℕ) → IsUnmatched s c bs
@@ -44,8 +44,8 @@ module _ (s : Settings) (o : Own) (c : Connection) where
         taken_by s o c bs (λ t. Outside o c t.ended) (λ e. mismatch_refused _ (n e))
         (λ e. absurd (false≢true (sym e ∙ cr)))
 
-  module _ (phase : c.phase ≡ failed) where
-    pub failed_ignores_line : (l : Line) → line_ended s o c l ≡ no_reply o c
+  module _ (phase : c.phase ≡ phase_failed) where
+    pub failed_ignores_line : (l : CollectedLine) → line_ended s o c l ≡ no_reply o c
     failed_ignores_line l = ended_other s o c l (λ p. omega arith) (λ p. omega arith)
 
     pub failed_ignores : (bs : List ℕ) → (taken_in s o c bs).ended ≡ no_reply o c
@@ -57,7 +57,7 @@ module _ (d : Device) (p : ℕ) (bs : List ℕ) (room : ℕ) where
   abbrev here : Connection
   here = connection_at d p
 
-  module _ (phase : here.phase ≡ failed) where
+  module _ (phase : here.phase ≡ phase_failed) where
     pub failed_keeps_record : (received_at d p bs room).device ≡ d
     unfolding received_at
     failed_keeps_record = grind (arith, failed_ignores, with_place-connection_at)

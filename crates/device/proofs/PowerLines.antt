@@ -11,7 +11,7 @@ use Rattle.std.proofs.Common.{arith, ℕ, ◌≡◌, refl, sym, ap, ◌∙◌, B
 use Rattle.std.proofs.Common.{codes, Ok, Err}
 use Rattle.std.proofs.lemmas.Bool.{false≢true}
 use Prim.Native.Char.{code}
-use Rattle.text.specs.Scans.{same_by}
+use Rattle.text.specs.Scans.{is_same_by}
 use Rattle.text.proofs.Choices.{if_by}
 use Rattle.words.specs.Bytes.{◌at◌, upper_of}
 use Rattle.words.specs.Powers.{switch_code}
@@ -54,11 +54,11 @@ module _ (s : Settings) (o : Own) where
 
 -- a reply is `%1POWR=OK` exactly when its body is POWR and its parameter OK
 abbrev pub is_power_okay : List ℕ → Bool
-is_power_okay r = same_by upper_of r (codes "%1POWR=OK\r")
+is_power_okay r = is_same_by upper_of r (codes "%1POWR=OK\r")
 
 module _ (a b c d : ℕ) (p : List ℕ) where
   okay_by_parts : is_power_okay (reply_line (code "1") (a ∷ b ∷ c ∷ d ∷ []) p)
-      ≡ (is_body 1 (a ∷ b ∷ c ∷ d ∷ []) Powr && same_by upper_of (p ++ (code "\r" ∷ [])) (codes "OK\r"))
+      ≡ (is_body 1 (a ∷ b ∷ c ∷ d ∷ []) Powr && is_same_by upper_of (p ++ (code "\r" ∷ [])) (codes "OK\r"))
   okay_by_parts = grind arith
 
 reply_line-said_bytes : (h : ℕ) (s : List ℕ) (m : Said) → m ≡ okay
@@ -75,14 +75,14 @@ power_line a b c d wanted = codes "%1" ++ (a ∷ b ∷ c ∷ d ∷ []) ++ codes 
 
 -- with its CR it is read, in any case of letters, as a set to that power and to no other
 abbrev pub is_power_line : Bool → List ℕ → Bool
-is_power_line v l = same_by upper_of l (codes "%1POWR " ++ (switch_code v ∷ codes "\r"))
+is_power_line v l = is_same_by upper_of l (codes "%1POWR " ++ (switch_code v ∷ codes "\r"))
 
 abbrev is_same : Bool → Bool → Bool
 is_same true v = v
 is_same false v = not v
 
 switch_read : (w v : Bool)
-    → same_by upper_of (switch_code w ∷ codes "\r") (switch_code v ∷ codes "\r") ≡ is_same w v
+    → is_same_by upper_of (switch_code w ∷ codes "\r") (switch_code v ∷ codes "\r") ≡ is_same w v
 switch_read w v = grind arith
 
 same_itself : (w : Bool) → is_same w w ≡ true

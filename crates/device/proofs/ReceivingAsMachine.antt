@@ -7,12 +7,12 @@ use Rattle.std.proofs.Common.{ℕ, ◌≤◌, ◌≡◌, refl, sym, ap, ◌∙�
 use Rattle.std.proofs.lemmas.Bool.{eqb-false}
 use Prim.Native.Char.{code}
 use Rattle.text.proofs.Choices.{if_no}
-use Rattle.record.specs.Limits.{shut, awaiting, opened, failed}
+use Rattle.record.specs.Limits.{phase_closed, phase_awaiting, phase_open, phase_failed}
 use Rattle.record.specs.Updates.{with_line}
 use Rattle.record.specs.Legal.{held_most}
 use Rattle.record.specs.declared.types.Settings.{Settings}
 use Rattle.record.specs.declared.types.Own.{Own}
-use Rattle.record.specs.declared.types.Line.{Line}
+use Rattle.record.specs.declared.types.CollectedLine.{CollectedLine}
 use Rattle.record.specs.declared.types.Connection.{Connection}
 use Rattle.stream.specs.Collecting.{Gathered}
 use Rattle.stream.specs.Collecting.{line_after, gathered_from}
@@ -46,8 +46,8 @@ abbrev pub ends : Settings → State → Out State
 ends s m = leaves (line_ended s m.own m.connection m.connection.line)
 
 -- what CR does to a line does not depend on the line that the connection holds, unless it has failed
-module _ (s : Settings) (o : Own) (c : Connection) (l : Line) where
-  line_ended-with_line : (t u : Bool) → (c.phase == opened) ≡ t → (c.phase == awaiting) ≡ u →
+module _ (s : Settings) (o : Own) (c : Connection) (l : CollectedLine) where
+  line_ended-with_line : (t u : Bool) → (c.phase == phase_open) ≡ t → (c.phase == phase_awaiting) ≡ u →
       (t ≡ false → u ≡ false → ⊥)
       → line_ended s o (with_line c l) l ≡ line_ended s o c l
   unfolding line_ended is_match
@@ -57,24 +57,24 @@ module _ (s : Settings) (o : Own) (c : Connection) (bs : List ℕ) where
   abbrev gathers : Gathered
   gathers = gathered_from (held_most c.phase) c.line bs
 
-  abbrev ended : Line → Out State
+  abbrev ended : CollectedLine → Out State
   ended l = leaves (line_ended s o c l)
 
   abbrev called : Took State
   called = one_call (code "\r") State collects (ends s) (state_of o c) bs
 
   -- `keep` says what is kept of a line
-  takes_finishes : (keep : Line → State) → ((l : Line) → state_of o (keeping_line c l) ≡ keep l)
+  takes_finishes : (keep : CollectedLine → State) → ((l : CollectedLine) → state_of o (keeping_line c l) ≡ keep l)
       → as_call (taken_in s o c bs) ≡ finished keep ended gathers
   unfolding keeping_line taken_in
   takes_finishes keep kept = grind (arith, if_no)
 
   -- failed: no byte is kept
-  failed_call : c.phase ≡ failed → as_call (taken_in s o c bs) ≡ called
+  failed_call : c.phase ≡ phase_failed → as_call (taken_in s o c bs) ≡ called
   failed_call f =
-      let kept : (l : Line) → state_of o (keeping_line c l) ≡ state_of o c = λ l.
+      let kept : (l : CollectedLine) → state_of o (keeping_line c l) ≡ state_of o c = λ l.
       ap {B = State} (state_of o) (keeping_none c l f) in
-      let ignored : (l : Line) → ended c.line ≡ ended l = λ l.
+      let ignored : (l : CollectedLine) → ended c.line ≡ ended l = λ l.
       let here = ended_other s o c c.line (λ p. omega arith) (λ p. omega arith) in
       let there = ended_other s o c l (λ p. omega arith) (λ p. omega arith) in
       ap leaves (here ∙ sym there) in
@@ -83,24 +83,24 @@ module _ (s : Settings) (o : Own) (c : Connection) (bs : List ℕ) where
       ignored c.line bs)
 
   -- awaiting or open: the line is
-  collecting_call : c.phase ≤ failed → (c.phase ≡ shut → ⊥) → (c.phase ≡ failed → ⊥)
+  collecting_call : c.phase ≤ phase_failed → (c.phase ≡ phase_closed → ⊥) → (c.phase ≡ phase_failed → ⊥)
       → as_call (taken_in s o c bs) ≡ called
   collecting_call known live n =
       let most = held_most c.phase in
-      let keep : Line → State = λ l. state_of o (with_line c l) in
-      let one_more : (l : Line) (b : ℕ) → collects (keep l) b ≡ keep (line_after most l b) = λ l b.
+      let keep : CollectedLine → State = λ l. state_of o (with_line c l) in
+      let one_more : (l : CollectedLine) (b : ℕ) → collects (keep l) b ≡ keep (line_after most l b) = λ l b.
       ap {B = State} (state_of o) (keeping_line_lem (with_line c l) (line_after most l b) n) in
-      let same : (l : Line) → ends s (keep l) ≡ ended l = λ l.
+      let same : (l : CollectedLine) → ends s (keep l) ≡ ended l = λ l.
       ap leaves
-      (line_ended-with_line s o c l (c.phase == opened) (c.phase == awaiting) refl refl
-      (λ p q. omega (arith, eqb-false c.phase opened p, eqb-false c.phase awaiting q))) in
+      (line_ended-with_line s o c l (c.phase == phase_open) (c.phase == phase_awaiting) refl refl
+      (λ p q. omega (arith, eqb-false c.phase phase_open p, eqb-false c.phase phase_awaiting q))) in
       takes_finishes keep (λ l. ap {B = State} (state_of o) (keeping_line_lem c l n))
       ∙ sym (call_finishes State collects (ends s) most keep ended one_more same c.line bs)
 
-  by_phase : (t : Bool) → (c.phase == failed) ≡ t → c.phase ≤ failed → (c.phase ≡ shut → ⊥)
+  by_phase : (t : Bool) → (c.phase == phase_failed) ≡ t → c.phase ≤ phase_failed → (c.phase ≡ phase_closed → ⊥)
       → as_call (taken_in s o c bs) ≡ called
   by_phase t h g e = grind (arith, failed_call, collecting_call)
 
-  pub takes_in-state_of : c.phase ≤ failed → (c.phase ≡ shut → ⊥)
+  pub takes_in-state_of : c.phase ≤ phase_failed → (c.phase ≡ phase_closed → ⊥)
       → takes_in s (state_of o c) bs ≡ one_call (code "\r") State collects (ends s) (state_of o c) bs
-  takes_in-state_of known live = by_phase (c.phase == failed) refl known live
+  takes_in-state_of known live = by_phase (c.phase == phase_failed) refl known live

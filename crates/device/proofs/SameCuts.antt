@@ -7,12 +7,12 @@
 use Rattle.std.proofs.Common.{ℕ, ◌≤◌, ◌<◌, ◌≡◌, refl, sym, ap, ◌∙◌, true, false, List, arith, ◌==◌, ne_eqb}
 use Prim.Native.Char.{code}
 use Rattle.text.proofs.Choices.{if_all}
-use Rattle.record.specs.Limits.{places_count, shut, failed}
+use Rattle.record.specs.Limits.{places_count, phase_closed, phase_failed}
 use Rattle.record.specs.Legal.{is_settings, is_own, is_connection, is_legal}
-use Rattle.record.specs.Places.{connection_at, with_place, is_shut}
+use Rattle.record.specs.Places.{connection_at, with_place, is_closed}
 use Rattle.record.specs.declared.types.Settings.{Settings}
 use Rattle.record.specs.declared.types.Own.{Own}
-use Rattle.record.specs.declared.types.Line.{Line}
+use Rattle.record.specs.declared.types.CollectedLine.{CollectedLine}
 use Rattle.record.specs.declared.types.Connection.{Connection}
 use Rattle.record.specs.declared.types.Device.{Device}
 use Rattle.record.proofs.LegalTold.{legal_settings, legal_own, legal_connections, legal_connection, legal_places}
@@ -34,16 +34,16 @@ pub record Live (s : Settings) (m : State) : Type 0 where
   pub settings : is_settings s ≡ true
   pub own : is_own s m.own ≡ true
   pub connection : is_connection m.connection ≡ true
-  pub live : m.connection.phase ≡ shut → ⊥
+  pub live : m.connection.phase ≡ phase_closed → ⊥
 
-keeping_phase : (c : Connection) (l : Line) → (keeping_line c l).phase ≡ c.phase
+keeping_phase : (c : Connection) (l : CollectedLine) → (keeping_line c l).phase ≡ c.phase
 unfolding keeping_line
-keeping_phase c l = if_all (λ (k : Connection). k.phase ≡ c.phase) (c.phase == failed) refl refl
+keeping_phase c l = if_all (λ (k : Connection). k.phase ≡ c.phase) (c.phase == phase_failed) refl refl
 
-ended_live : (s : Settings) (o : Own) (c : Connection) (l : Line) → (c.phase ≡ shut → ⊥)
-    → (line_ended s o c l).connection.phase ≡ shut → ⊥
+ended_live : (s : Settings) (o : Own) (c : Connection) (l : CollectedLine) → (c.phase ≡ phase_closed → ⊥)
+    → (line_ended s o c l).connection.phase ≡ phase_closed → ⊥
 ended_live s o c l n =
-    ended_by s o c l (λ e. e.connection.phase ≡ shut → ⊥) (λ p m z. omega arith) (λ p m z. omega arith)
+    ended_by s o c l (λ e. e.connection.phase ≡ phase_closed → ⊥) (λ p m z. omega arith) (λ p m z. omega arith)
     (λ p m z. omega arith) (λ p m z. omega arith) (λ p q. n)
 
 module _ (s : Settings) where
@@ -82,8 +82,8 @@ module _ (room : ℕ) (enough : reply_room ≤ room) (p : ℕ) (there : p < plac
     here : connection_at e p ≡ m.connection
     here = placed_here d (legal_places d legal) p there m.own m.connection
 
-    unshut : is_shut (connection_at e p) ≡ false
-    unshut = ap is_shut here ∙ ne_eqb m.connection.phase shut r.live
+    unclosed : is_closed (connection_at e p) ≡ false
+    unclosed = ap is_closed here ∙ ne_eqb m.connection.phase phase_closed r.live
 
   receives-device_at : (m : State) (bs : List ℕ) → Live s m
       → receives room p (device_at d p m) bs
@@ -91,7 +91,7 @@ module _ (room : ℕ) (enough : reply_room ≤ room) (p : ℕ) (there : p < plac
   receives-device_at m bs r =
       let c = m.connection in
       let t = taken_in s m.own c bs in
-      ap as_device_call (received_taken (e m r) p bs room (still_legal m r) enough there (unshut m r))
+      ap as_device_call (received_taken (e m r) p bs room (still_legal m r) enough there (unclosed m r))
       ∙ (λ i. as_device_call (accepted_taken (e m r) p (taken_in s m.own (here m r i) bs)))
       ∙ (λ i. record {
         taken = t.taken;
@@ -101,7 +101,7 @@ module _ (room : ℕ) (enough : reply_room ≤ room) (p : ℕ) (there : p < plac
       ∙ ap (took_through (device_at d p))
       (takes_in-state_of s m.own c bs ((connection_is c).0 r.connection).phase r.live)
 
-  module _ (live : is_shut (connection_at d p) ≡ false) where
+  module _ (live : is_closed (connection_at d p) ≡ false) where
     ready_parts : Live s (parts_at d p)
     ready_parts = grind (arith, legal_settings, legal_own, legal_connection)
 

@@ -8,7 +8,7 @@ use Rattle.record.specs.Legal.{is_settings, is_own}
 use Rattle.record.specs.Places.{connection_at}
 use Rattle.record.specs.declared.types.Settings.{Settings}
 use Rattle.record.specs.declared.types.Own.{Own}
-use Rattle.record.specs.declared.types.Line.{Line}
+use Rattle.record.specs.declared.types.CollectedLine.{CollectedLine}
 use Rattle.record.specs.declared.types.Connection.{Connection}
 use Rattle.record.specs.declared.types.Device.{Device}
 use Rattle.record.proofs.LegalTold.{legal_settings, legal_own}
@@ -28,7 +28,7 @@ module _ (s : Settings) (o : Own) (settings : is_settings s ≡ true) (own : is_
   answered_short l = grind (arith, meant_fits, if_all, length-append)
 
   module _ (c : Connection) where
-    pub ended_short : (l : Line) → length (line_ended s o c l).reply ≤ longest_reply
+    pub ended_short : (l : CollectedLine) → length (line_ended s o c l).reply ≤ longest_reply
     ended_short l =
         ended_by s o c l (λ e. length e.reply ≤ longest_reply) (λ p m. omega arith) (λ p m. answered_short _)
         (λ p m. answered_short _) (λ p m. omega arith) (λ p q. omega arith)

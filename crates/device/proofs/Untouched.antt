@@ -5,7 +5,7 @@ use Rattle.std.proofs.Common.{arith, ℕ, ◌≡◌, refl, List}
 use Rattle.std.proofs.lemmas.Grind.{common_steps}
 use Rattle.record.specs.declared.types.Settings.{Settings}
 use Rattle.record.specs.declared.types.Own.{Own}
-use Rattle.record.specs.declared.types.Line.{Line}
+use Rattle.record.specs.declared.types.CollectedLine.{CollectedLine}
 use Rattle.record.specs.declared.types.Connection.{Connection}
 use Rattle.record.specs.declared.types.Device.{Device}
 use Rattle.record.specs.Places.{connection_at}
@@ -25,7 +25,7 @@ module _ (s : Settings) (o : Own) where
   unfolding line_answer
   answered_keeps l = grind (arith, done_keeps)
 
-  pub ended_keeps : (c : Connection) (l : Line) → Keeps o (line_ended s o c l).own
+  pub ended_keeps : (c : Connection) (l : CollectedLine) → Keeps o (line_ended s o c l).own
   ended_keeps c l =
       ended_by s o c l (λ e. Keeps o e.own) (λ p m. itself_kept o) (λ p m. answered_keeps _)
       (λ p m. answered_keeps _) (λ p m. itself_kept o) (λ p q. itself_kept o)

@@ -12,7 +12,7 @@ use Rattle.text.proofs.Scanning.{list_all-append}
 use Rattle.text.proofs.Sameness.{turned_same}
 use Rattle.digest.specs.Hex.{leading_digest}
 use Rattle.digest.proofs.Laws.{length-leading_digest, hex_are_digits, digits_have_no_cr}
-use Rattle.words.specs.Bytes.{not_cr, command_most}
+use Rattle.words.specs.Bytes.{is_not_cr, command_most}
 use Rattle.pjlink.specs.Forms.{head_body}
 use Rattle.pjlink.specs.Commands.{body_text, body_of, command_class, class_digit, is_command, command_text}
 use Rattle.pjlink.specs.declared.command.Command.{Command}
@@ -23,7 +23,7 @@ use Rattle.pjlink.specs.Bodies.{is_body}
 use Rattle.pjlink.specs.Requests.{request_of}
 use Rattle.pjlink.proofs.CommandsAskedBack.{command_asked_back}
 use Rattle.pjlink.specs.Said.{said_bytes}
-use Rattle.record.specs.Limits.{line_room, awaiting, opened}
+use Rattle.record.specs.Limits.{line_room, phase_awaiting, phase_open}
 use Rattle.record.specs.Record.{in_room}
 use Rattle.record.specs.Legal.{held_most, is_settings}
 use Rattle.record.specs.declared.types.Settings.{Settings}
@@ -51,13 +51,13 @@ line_text-line_of xs h = filled_take line_room xs
 
 module _ (s : Settings) (o : Own) (c : Connection) (empty : c.line ≡ empty_line) (rest : List ℕ) where
   whole_line : (xs : List ℕ) → length xs ≤ held_most c.phase → held_most c.phase ≤ line_room
-      → list_all not_cr xs ≡ true
+      → list_all is_not_cr xs ≡ true
       → taken_in s o c (xs ++ (code "\r" ∷ rest))
       ≡ record { ended = line_ended s o c (line_of xs); taken = length xs + 1 }
   unfolding taken_in
   whole_line xs h room plain = grind (arith, empty_is_none, line_gathered)
 
-  pub open_line-taken : (xs : List ℕ) → c.phase ≡ opened → length xs ≤ command_most → list_all not_cr xs ≡ true
+  pub open_line-taken : (xs : List ℕ) → c.phase ≡ phase_open → length xs ≤ command_most → list_all is_not_cr xs ≡ true
       → taken_in s o c (xs ++ (code "\r" ∷ rest))
       ≡ record { ended = served_line c (line_answer s o xs); taken = length xs + 1 }
   open_line-taken xs phase short plain = grind (arith, held_most_opened, ended_open, line_text-line_of, whole_line)
@@ -90,7 +90,7 @@ module _ (s : Settings) (o : Own) (c : Connection) (empty : c.line ≡ empty_lin
         ap (drop digest_long) (line_text-line_of led (omega (arith, led_long)))
         ∙ drop_at digest xs digest_long digest_long_lem
 
-    pub matching_line-taken : c.phase ≡ awaiting → length xs ≤ command_most → list_all not_cr xs ≡ true
+    pub matching_line-taken : c.phase ≡ phase_awaiting → length xs ≤ command_most → list_all is_not_cr xs ≡ true
         → taken_in s o c (led ++ (code "\r" ∷ rest))
         ≡ record { ended = served_line c (line_answer s o xs); taken = digest_long + length xs + 1 }
     matching_line-taken phase short plain =
@@ -100,7 +100,7 @@ module _ (s : Settings) (o : Own) (c : Connection) (empty : c.line ≡ empty_lin
         = ended_match s o c (line_of led) phase (led_matches short)
         ∙ ap (λ (l : List ℕ). served_line c (line_answer s o l)) (drop-line_text short) in
         whole_line led (omega arith) (omega arith)
-        (list_all-append not_cr digest xs (digits_have_no_cr digest (hex_are_digits _)) plain)
+        (list_all-append is_not_cr digest xs (digits_have_no_cr digest (hex_are_digits _)) plain)
         ∙ (λ i. record { ended = ended i; taken = long i + 1 })
 
 -- a command's line

@@ -9,13 +9,13 @@
 --   closed_by d p         closing at place p: refused, or the closed connection
 -- Assumes nothing.
 use Rattle.std.specs.Prelude.{ℕ, Bool, not, List, [], ◌∷◌, if◌then◌else◌, nat_le, nat_lt, ◌==◌}
-use Rattle.text.specs.Rows.{Row, ◌when◌, by_rows}
+use Rattle.text.specs.Rows.{NumberRow, ◌when◌, by_rows}
 use Rattle.digest.specs.Hex.{hex_digits}
 use Rattle.pjlink.specs.Forms.{greeting_open, greeting_secured, reply_most}
-use Rattle.record.specs.Limits.{places_count, awaiting, opened}
+use Rattle.record.specs.Limits.{places_count, phase_awaiting, phase_open}
 use Rattle.record.specs.Legal.{is_legal}
 use Rattle.record.specs.Record.{closed}
-use Rattle.record.specs.Places.{connection_at, with_place, is_shut, lowest_shut}
+use Rattle.record.specs.Places.{connection_at, with_place, is_closed, lowest_closed}
 use Rattle.record.specs.declared.types.Settings.{Settings}
 use Rattle.record.specs.declared.types.Connection.{Connection}
 use Rattle.record.specs.declared.types.Device.{Device}
@@ -45,17 +45,18 @@ longest_reply = 136
 abbrev pub is_no_place : ℕ → Bool
 is_no_place p = nat_le places_count p
 
-abbrev pub receiving_rows : Device → ℕ → ℕ → List Row
+abbrev pub receiving_rows : Device → ℕ → ℕ → List NumberRow
 receiving_rows d p room =
     (1 when not (is_legal d)) ∷ (2 when nat_lt room reply_room) ∷ (3 when is_no_place p)
-    ∷ (4 when is_shut (connection_at d p)) ∷ []
+    ∷ (4 when is_closed (connection_at d p)) ∷ []
 
-abbrev pub opening_rows : Device → ℕ → List Row
+abbrev pub opening_rows : Device → ℕ → List NumberRow
 opening_rows d room =
-    (1 when not (is_legal d)) ∷ (2 when nat_lt room reply_room) ∷ (6 when is_no_place (lowest_shut d.connections)) ∷ []
+    (1 when not (is_legal d)) ∷ (2 when nat_lt room reply_room) ∷ (6 when is_no_place (lowest_closed d.connections))
+    ∷ []
 
-abbrev pub closing_rows : Device → ℕ → List Row
-closing_rows d p = (1 when not (is_legal d)) ∷ (3 when is_no_place p) ∷ (4 when is_shut (connection_at d p)) ∷ []
+abbrev pub closing_rows : Device → ℕ → List NumberRow
+closing_rows d p = (1 when not (is_legal d)) ∷ (3 when is_no_place p) ∷ (4 when is_closed (connection_at d p)) ∷ []
 
 abbrev pub accepted_taken : Device → ℕ → Taken → Result Device
 accepted_taken d p t = record {
@@ -78,21 +79,21 @@ unfoldable pub greeting : Settings → ℕ → List ℕ
 greeting s r = if has_password s then greeting_secured (hex_digits 8 r) else greeting_open
 
 unfoldable pub new_connection : Settings → ℕ → Connection
-new_connection s r = begun_in (if has_password s then awaiting else opened) r
+new_connection s r = begun_in (if has_password s then phase_awaiting else phase_open) r
 
 abbrev pub accepted_opening : Device → ℕ → Result Device
 accepted_opening d r = record {
   number = 0;
   taken = 0;
   reply = greeting d.settings r;
-  device = with_place d d.own (lowest_shut d.connections) (new_connection d.settings r);
+  device = with_place d d.own (lowest_closed d.connections) (new_connection d.settings r);
 }
 
 unfoldable pub opened_by : Device → ℕ → ℕ → Result Device
 opened_by d r room = by_rows (opening_rows d room) (λ n. refused_by n d) (accepted_opening d r)
 
 unfoldable pub place_taken : Device → ℕ → ℕ
-place_taken d room = by_rows (opening_rows d room) (λ n. 0) (lowest_shut d.connections)
+place_taken d room = by_rows (opening_rows d room) (λ n. 0) (lowest_closed d.connections)
 
 unfoldable pub closed_by : Device → ℕ → Result Device
 closed_by d p = by_rows (closing_rows d p) (λ n. refused_by n d) (plain_result (with_place d d.own p closed))

@@ -9,15 +9,15 @@
 -- Assumes nothing.
 use Rattle.std.specs.Prelude.{ℕ, ◌+◌, Bool, not, ◌&&◌, List, [], length, take, drop, if◌then◌else◌, nat_le, ◌==◌}
 use Rattle.text.specs.Flags.{is_raised}
-use Rattle.text.specs.Scans.{same_by, itself}
+use Rattle.text.specs.Scans.{is_same_by, itself}
 use Rattle.digest.specs.Hex.{leading_digest}
 use Rattle.pjlink.specs.Forms.{erra_line}
-use Rattle.record.specs.Limits.{line_room, awaiting, opened, failed}
+use Rattle.record.specs.Limits.{line_room, phase_awaiting, phase_open, phase_failed}
 use Rattle.record.specs.Updates.{with_line}
 use Rattle.record.specs.Legal.{held_most}
 use Rattle.record.specs.declared.types.Settings.{Settings}
 use Rattle.record.specs.declared.types.Own.{Own}
-use Rattle.record.specs.declared.types.Line.{Line}
+use Rattle.record.specs.declared.types.CollectedLine.{CollectedLine}
 use Rattle.record.specs.declared.types.Connection.{Connection}
 use Rattle.stream.specs.Collecting.{Gathered}
 use Rattle.stream.specs.Collecting.{empty_line, line_text, gathered_from}
@@ -46,35 +46,35 @@ set_up_password s = take s.password.len s.password.bytes
 
 abbrev pub is_led_by : ℕ → List ℕ → List ℕ → Bool
 is_led_by random password l =
-    nat_le (length l) line_room && same_by itself (take digest_long l) (leading_digest random password)
+    nat_le (length l) line_room && is_same_by itself (take digest_long l) (leading_digest random password)
 
-unfoldable pub is_match : Settings → Connection → Line → Bool
+unfoldable pub is_match : Settings → Connection → CollectedLine → Bool
 is_match s c l =
     not (is_raised l.overlong) && nat_le digest_long l.held
-    && same_by itself (take digest_long l.bytes) (leading_digest c.random (set_up_password s))
+    && is_same_by itself (take digest_long l.bytes) (leading_digest c.random (set_up_password s))
 
 abbrev pub no_reply : Own → Connection → Ended
 no_reply o c = record { own = o; connection = c; reply = [] }
 
 abbrev pub served_line : Connection → Answered → Ended
-served_line c a = record { own = a.own; connection = phase_start c opened; reply = a.reply }
+served_line c a = record { own = a.own; connection = phase_start c phase_open; reply = a.reply }
 
 abbrev pub refused_digest : Own → Connection → Ended
-refused_digest o c = record { own = o; connection = phase_start c failed; reply = erra_line }
+refused_digest o c = record { own = o; connection = phase_start c phase_failed; reply = erra_line }
 
 -- open: an overlong line is swallowed; awaiting: the rest of a line with the matching digest is a line, any other line
 -- is refused; failed: ignored
-unfoldable pub line_ended : Settings → Own → Connection → Line → Ended
+unfoldable pub line_ended : Settings → Own → Connection → CollectedLine → Ended
 line_ended s o c l =
-    if c.phase == opened then
+    if c.phase == phase_open then
     served_line c (if is_raised l.overlong then line_swallowed o else line_answer s o (line_text l))
-    else if c.phase == awaiting then
+    else if c.phase == phase_awaiting then
     (if is_match s c l then served_line c (line_answer s o (drop digest_long (line_text l))) else refused_digest o c)
     else no_reply o c
 
 -- a failed connection takes bytes and keeps none
-unfoldable pub keeping_line : Connection → Line → Connection
-keeping_line c l = if c.phase == failed then c else with_line c l
+unfoldable pub keeping_line : Connection → CollectedLine → Connection
+keeping_line c l = if c.phase == phase_failed then c else with_line c l
 
 abbrev pub taken_of : Settings → Own → Connection → Gathered → Taken
 taken_of s o c g =

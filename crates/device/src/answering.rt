@@ -12,10 +12,10 @@ use pjlink::{form, request, write};
 use record::types::{Own, Settings};
 use words::class::ClassNumber;
 use words::codec;
-use words::codec::Line;
+use words::codec::LineBytes;
 
 // Puts the reply to a line of this class and these letters.
-fn put_reply(class: ClassNumber, letters: [u8; 4], reply: &Reply<'_>, out: &mut Line)
+fn put_reply(class: ClassNumber, letters: [u8; 4], reply: &Reply<'_>, out: &mut LineBytes)
     requires fits { length (said_bytes (said_by reply.now)) ≤ parameter_most }
     requires empty { out.old.items ≡ [] }
     ensures { out.new.items ≡ reply_line (class_code class) letters (said_bytes (said_by reply.now)) }
@@ -28,16 +28,16 @@ fn put_reply(class: ClassNumber, letters: [u8; 4], reply: &Reply<'_>, out: &mut 
 
 /// Decides what the line asks, and puts the reply to it; a line not of the form is swallowed.
 #[tactic(auto, using(meaning::proofs::CanBeSaid::meant_fits), unfolding(crate::specs::Answering::line_answer))]
-pub fn answer_line(s: &Settings, o: &mut Own, l: &[u8], out: &mut Line)
-    requires ready { IsReady s.now o.old }
+pub fn answer_line(settings: &Settings, own: &mut Own, bytes: &[u8], out: &mut LineBytes)
+    requires ready { IsReady settings.now own.old }
     requires empty { out.old.items ≡ [] }
-    ensures reply { out.new.items ≡ (line_answer s.now o.old l.now).reply }
-    ensures own { o.new ≡ (line_answer s.now o.old l.now).own }
+    ensures reply { out.new.items ≡ (line_answer settings.now own.old bytes.now).reply }
+    ensures own { own.new ≡ (line_answer settings.now own.old bytes.now).own }
 {
-    let Some(line) = form::command(s.class(), l) else {
+    let Some(line) = form::command(settings.class(), bytes) else {
         return;
     };
     let asked = request::request(line.class, line.letters, line.parameter);
-    let reply = meaning::decide(s, o, asked);
+    let reply = meaning::decide(settings, own, asked);
     put_reply(line.class, line.letters, &reply, out);
 }

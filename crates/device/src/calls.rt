@@ -13,7 +13,7 @@ use record::legality::Legal;
 use record::refusal::Refusal;
 use record::types::{Connection, PLACES, Settings};
 use record::views::Phase;
-use words::codec::Line;
+use words::codec::LineBytes;
 
 /// Room for the longest reply that the standard allows.
 pub const REPLY_ROOM: usize = 136;
@@ -59,10 +59,10 @@ pub fn receive(
     if PLACES <= place {
         return Err(Refusal::OutOfRange);
     }
-    if places::is_shut(&device.connections[place]) {
+    if places::is_closed(&device.connections[place]) {
         return Err(Refusal::Closed);
     }
-    let mut reply = Line::new();
+    let mut reply = LineBytes::new();
     let taken = receiving::take_in(
         &device.settings,
         &mut device.own,
@@ -78,7 +78,7 @@ pub fn receive(
 
 // The line from the start of the lent memory; its length.
 #[tactic(auto, using(text::proofs::Stores::sets_over))]
-fn lend(line: &Line, out: &mut [u8]) -> usize
+fn lend(line: &LineBytes, out: &mut [u8]) -> usize
     requires { REPLY_ROOM ≤ length out.old }
     ensures length { result ≡ length line.now.items }
     ensures memory { out.new ≡ over line.now.items out.old }
@@ -88,7 +88,7 @@ fn lend(line: &Line, out: &mut [u8]) -> usize
 }
 
 #[tactic(auto, unfolding(crate::specs::Calls::greeting))]
-fn greeting(s: &Settings, random: u32) -> Line
+fn greeting(s: &Settings, random: u32) -> LineBytes
     ensures { result.items ≡ greeting s.now random }
 {
     let greeting = if s.password.len == 0 {
@@ -96,7 +96,7 @@ fn greeting(s: &Settings, random: u32) -> Line
     } else {
         Greeting::Secured(random)
     };
-    let mut line = Line::new();
+    let mut line = LineBytes::new();
     greeting.put(&mut line);
     line
 }
@@ -129,7 +129,7 @@ pub fn open(legal: &mut Legal<'_>, random: u32, out: &mut [u8]) -> Result<Opened
     if out.len() < REPLY_ROOM {
         return Err(Refusal::NoRoom);
     }
-    let place = places::lowest_shut(&device.connections);
+    let place = places::lowest_closed(&device.connections);
     if PLACES <= place {
         return Err(Refusal::NoPlace);
     }
@@ -149,7 +149,7 @@ pub fn close(legal: &mut Legal<'_>, place: usize) -> Result<(), Refusal>
     if PLACES <= place {
         return Err(Refusal::OutOfRange);
     }
-    if places::is_shut(&device.connections[place]) {
+    if places::is_closed(&device.connections[place]) {
         return Err(Refusal::Closed);
     }
     device.connections[place] = Connection::CLOSED;

@@ -2,14 +2,14 @@
 ghost use Rattle.std.specs.Prelude.{◌≡◌, []};
 ghost use Rattle.device.specs.Ready.{IsReady};
 ghost use Rattle.device.specs.Receiving.{is_match, line_ended, phase_start, keeping_line, taken_in};
-ghost use Rattle.record.specs.Limits.{failed};
+ghost use Rattle.record.specs.Limits.{phase_failed};
 ghost use Rattle.record.specs.Updates.{with_line};
 ghost use Rattle.record.specs.Views.{with_phase};
 ghost use Rattle.stream.specs.Collecting.{empty_line};
 
 use crate::answering;
 use pjlink::greeting::Greeting;
-use record::types::{Connection, Line, Own, Settings};
+use record::types::{CollectedLine, Connection, Own, Settings};
 use record::views::Phase;
 use text::{flag, rooms};
 use words::codec;
@@ -18,16 +18,16 @@ const DIGEST_LONG: usize = 32;
 
 // The connection in another phase, with nothing collected.
 #[tactic(auto, using(stream::proofs::LinesSpelt::empty_spelt))]
-pub(crate) fn turn(c: &mut Connection, phase: Phase)
-    ensures { c.new ≡ with_line (with_phase c.old phase) empty_line }
+pub(crate) fn turn(connection: &mut Connection, phase: Phase)
+    ensures { connection.new ≡ with_line (with_phase connection.old phase) empty_line }
 {
-    c.set_phase(phase);
-    c.line = Connection::CLOSED.line;
+    connection.set_phase(phase);
+    connection.line = Connection::CLOSED.line;
 }
 
 // The first line has not the matching digest.
 fn fail(c: &mut Connection)
-    ensures { c.new ≡ phase_start c.old failed }
+    ensures { c.new ≡ phase_start c.old phase_failed }
 {
     let random = c.random;
     turn(c, Phase::Failed { age: 0, random });
@@ -35,12 +35,12 @@ fn fail(c: &mut Connection)
 
 // Whether the line starts with the digest of the random number and the password.
 #[tactic(auto, unfolding(crate::specs::Receiving::is_match))]
-fn matches(s: &Settings, c: &Connection, l: &Line) -> bool
+fn is_match(s: &Settings, c: &Connection, l: &CollectedLine) -> bool
     ensures { result ≡ is_match s.now c.now l.now }
 {
     !flag::is_raised(l.overlong)
         && DIGEST_LONG <= l.held
-        && text::same(
+        && text::is_same(
             &l.bytes[..DIGEST_LONG],
             &digest::leading_digest(c.random, rooms::first(&s.password.bytes, s.password.len)),
         )
@@ -48,7 +48,13 @@ fn matches(s: &Settings, c: &Connection, l: &Line) -> bool
 
 // What CR does; the reply is put, or nothing where there is none.
 #[tactic(auto, unfolding(crate::specs::Receiving::line_ended))]
-fn end_line(s: &Settings, o: &mut Own, c: &mut Connection, l: &Line, reply: &mut codec::Line)
+fn end_line(
+    s: &Settings,
+    o: &mut Own,
+    c: &mut Connection,
+    l: &CollectedLine,
+    reply: &mut codec::LineBytes,
+)
     requires ready { IsReady s.now o.old }
     requires empty { reply.old.items ≡ [] }
     ensures reply { reply.new.items ≡ (line_ended s.now o.old c.old l.now).reply }
@@ -63,7 +69,7 @@ fn end_line(s: &Settings, o: &mut Own, c: &mut Connection, l: &Line, reply: &mut
             }
         }
         Phase::Awaiting { random, .. } => {
-            if matches(s, c, l) {
+            if is_match(s, c, l) {
                 turn(c, Phase::Open { random });
                 let (_, line) = rooms::first(&l.bytes, l.held).split_at(DIGEST_LONG);
                 answering::answer_line(s, o, line, reply);
@@ -78,7 +84,7 @@ fn end_line(s: &Settings, o: &mut Own, c: &mut Connection, l: &Line, reply: &mut
 
 // A failed connection keeps no byte.
 #[tactic(auto, unfolding(crate::specs::Receiving::keeping_line))]
-fn keep(c: &mut Connection, l: &Line)
+fn keep(c: &mut Connection, l: &CollectedLine)
     ensures { c.new ≡ keeping_line c.old l.now }
 {
     if !matches!(c.phase(), Phase::Failed { .. }) {
@@ -90,25 +96,25 @@ fn keep(c: &mut Connection, l: &Line)
 /// with its CR, or nothing where none is due.
 #[tactic(auto, using(record::proofs::PhaseSeen::phase_tests), unfolding(crate::specs::Receiving::taken_in))]
 pub fn take_in(
-    s: &Settings,
-    o: &mut Own,
-    c: &mut Connection,
+    settings: &Settings,
+    own: &mut Own,
+    connection: &mut Connection,
     bytes: &[u8],
-    reply: &mut codec::Line,
+    reply: &mut codec::LineBytes,
 ) -> usize
-    requires ready { IsReady s.now o.old }
+    requires ready { IsReady settings.now own.old }
     requires empty { reply.old.items ≡ [] }
-    ensures taken { result ≡ (taken_in s.now o.old c.old bytes.now).taken }
-    ensures reply { reply.new.items ≡ (taken_in s.now o.old c.old bytes.now).ended.reply }
-    ensures own { o.new ≡ (taken_in s.now o.old c.old bytes.now).ended.own }
-    ensures connection { c.new ≡ (taken_in s.now o.old c.old bytes.now).ended.connection }
+    ensures taken { result ≡ (taken_in settings.now own.old connection.old bytes.now).taken }
+    ensures reply { reply.new.items ≡ (taken_in settings.now own.old connection.old bytes.now).ended.reply }
+    ensures own { own.new ≡ (taken_in settings.now own.old connection.old bytes.now).ended.own }
+    ensures connection { connection.new ≡ (taken_in settings.now own.old connection.old bytes.now).ended.connection }
 {
-    let mut line = c.line;
-    let passed = stream::gather(c.phase(), &mut line, bytes);
+    let mut line = connection.line;
+    let passed = stream::gather(connection.phase(), &mut line, bytes);
     if !passed.ended {
-        keep(c, &line);
+        keep(connection, &line);
         return passed.before;
     }
-    end_line(s, o, c, &line, reply);
+    end_line(settings, own, connection, &line, reply);
     passed.before + 1
 }

@@ -2,10 +2,10 @@
 // is that the theorems stand.
 ghost use Rattle.std.specs.Prelude.{◌≡◌, ◌+◌, ◌<◌, ◌≤◌, ◌++◌, true, false, ℕ, List, [], length, codes};
 ghost use Rattle.std.specs.List.{list_all};
-ghost use Rattle.words.specs.Bytes.{not_cr};
+ghost use Rattle.words.specs.Bytes.{is_not_cr};
 ghost use Rattle.pjlink.specs.Forms.{greeting_open, greeting_secured};
 ghost use Rattle.digest.specs.Hex.{hex_digits};
-ghost use Rattle.record.specs.Limits.{places_count, awaiting, opened, failed};
+ghost use Rattle.record.specs.Limits.{places_count, phase_awaiting, phase_open, phase_failed};
 ghost use Rattle.record.specs.Legal.{is_legal};
 ghost use Rattle.record.specs.Places.{connection_at};
 ghost use Rattle.record.specs.declared.types.Settings.{Settings};
@@ -40,18 +40,18 @@ pub fn one_result()
 pub fn a_password_is_asked_for()
     ensures secured { (s : Settings) (random : ℕ) → has_password s ≡ true
         → (greeting s random ≡ greeting_secured (hex_digits 8 random))
-        × (new_connection s random ≡ begun_in awaiting random) }
+        × (new_connection s random ≡ begun_in phase_awaiting random) }
     ensures unsecured { (s : Settings) (random : ℕ) → has_password s ≡ false
-        → (greeting s random ≡ greeting_open) × (new_connection s random ≡ begun_in opened random) }
+        → (greeting s random ≡ greeting_open) × (new_connection s random ≡ begun_in phase_open random) }
 {}
 
 /// A call takes the bytes up to and including the first CR, or all of them if there is none, in every phase; of no
 /// bytes it takes none and changes nothing (RULES, Connection).
 #[tactic(auto, using(crate::proofs::Counts::counts))]
 pub fn a_call_takes_one_line()
-    ensures part { (s : Settings) (o : Own) (c : Connection) (bytes : List ℕ) → list_all not_cr bytes ≡ true
+    ensures part { (s : Settings) (o : Own) (c : Connection) (bytes : List ℕ) → list_all is_not_cr bytes ≡ true
         → (taken_in s o c bytes).taken ≡ length bytes }
-    ensures line { (s : Settings) (o : Own) (c : Connection) (bytes more : List ℕ) → list_all not_cr bytes ≡ true
+    ensures line { (s : Settings) (o : Own) (c : Connection) (bytes more : List ℕ) → list_all is_not_cr bytes ≡ true
         → (taken_in s o c (bytes ++ (codes "\r" ++ more))).taken ≡ length bytes + 1 }
     ensures none { (s : Settings) (o : Own) (c : Connection)
         → taken_in s o c [] ≡ record { ended = no_reply o c; taken = 0 } }
@@ -65,11 +65,11 @@ pub fn what_receiving_keeps()
         (o.lamps ≡ d.own.lamps) × (o.enabled ≡ d.own.enabled) × (o.fault ≡ d.own.fault) × (o.errors ≡ d.own.errors) }
     ensures open_between_lines { (d : Device) (p : ℕ) → p < places_count → is_legal d ≡ true
         → let c = connection_at d p in
-        c.phase ≡ opened → c.line ≡ empty_line → phase_start c opened ≡ c }
+        c.phase ≡ phase_open → c.line ≡ empty_line → phase_start c phase_open ≡ c }
     ensures failed_record { (d : Device) (p : ℕ) (bytes : List ℕ) (room : ℕ)
-        → (connection_at d p).phase ≡ failed → (received_at d p bytes room).device ≡ d }
+        → (connection_at d p).phase ≡ phase_failed → (received_at d p bytes room).device ≡ d }
     ensures failed_reply { (d : Device) (p : ℕ) (bytes : List ℕ) (room : ℕ)
-        → (connection_at d p).phase ≡ failed → (received_at d p bytes room).reply ≡ [] }
+        → (connection_at d p).phase ≡ phase_failed → (received_at d p bytes room).reply ≡ [] }
 {}
 
 /// More lent memory than a call asks for changes nothing of what it does.

@@ -5,7 +5,7 @@ use Rattle.std.proofs.Common.{◌≡◌, ℕ, ◌+◌, ◌*◌, ◌%◌, ◌<◌
 use Rattle.std.proofs.lemmas.List.{get_or-set_same, get_or-set_other}
 use Rattle.digest.specs.Words.{◌plus◌, ◌<<<◌, word_at}
 use Rattle.digest.specs.Rounds.{word_number, constant_of, shift_of, function_of, operation, operated_with}
-use Rattle.digest.specs.Sums.{operation_place, AreConstants, AreSums}
+use Rattle.digest.specs.Sums.{operation_index, AreConstants, AreSums}
 use Rattle.digest.specs.declared.Buffer.{Buffer}
 use Rattle.digest.proofs.Tables.{word_number_in_block}
 
@@ -21,13 +21,13 @@ module _ (xs t s : List ℕ) where
       grind (arith, ew, ev, its_word, below, get_or-set_same, get_or-set_other)
 
   pub all_summed : (n : ℕ) → 64 ≤ n → AreConstants t → SumsBelow n xs t s → AreSums xs s
-  unfolding operation_place
+  unfolding operation_index
   all_summed n all constants below = record {
     placed = λ i h.
         let in_block : word_number i < 16 = word_number_in_block i h in
-        let its_word : operation_place i % 16 ≡ word_number i = omega arith in
-        below (operation_place i) (omega arith)
-        ∙ ap (λ (k : ℕ). word_at xs (4 * k) plus slice_index t (operation_place i)) its_word
+        let its_word : operation_index i % 16 ≡ word_number i = omega arith in
+        below (operation_index i) (omega arith)
+        ∙ ap (λ (k : ℕ). word_at xs (4 * k) plus slice_index t (operation_index i)) its_word
         ∙ ap (λ (c : ℕ). word_at xs (4 * word_number i) plus c) (constants.placed i h);
   }
 
@@ -39,7 +39,7 @@ in_order a x t early late f h = omega (arith, h)
 -- an operation by its sum, with its function in two parts
 module _ (xs s : List ℕ) (i : ℕ) (q : Buffer) (sums : AreSums xs s) (h : i < 64) where
   pub operated : (early late a r b : ℕ) → early + late ≡ function_of i q.b q.c q.d
-      → a ≡ q.a plus slice_index s (operation_place i) plus early plus late → r ≡ a <<< shift_of i → b ≡ q.b plus r
+      → a ≡ q.a plus slice_index s (operation_index i) plus early plus late → r ≡ a <<< shift_of i → b ≡ q.b plus r
       → record { a = q.d; b = b; c = q.b; d = q.c } ≡ operation xs i q
   unfolding operation operated_with
   operated early late a r b ef ea er eb =

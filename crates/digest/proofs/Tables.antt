@@ -4,7 +4,7 @@ use Rattle.std.proofs.Common.{arith, ◌≡◌, ℕ, ◌+◌, ◌*◌, ◌%◌, 
 use Rattle.std.proofs.Common.{List, slice_index}
 use Rattle.text.proofs.EachBelow.{each_below, all_below}
 use Rattle.digest.specs.Rounds.{by_round, shifts, shift_of, word_numbers, word_number, constant_of}
-use Rattle.digest.specs.Sums.{operation_place, AreConstants}
+use Rattle.digest.specs.Sums.{operation_index, AreConstants}
 use Rattle.digest.specs.Hex.{hex_digit, is_hex_digit, hex_worth}
 
 pub word_number_by_formula : (i : ℕ) → i < 64 → word_number i ≡ by_round i i (5 * i + 1) (3 * i + 5) (7 * i) % 16
@@ -18,10 +18,10 @@ pub word_number_in_block : (i : ℕ) → i < 64 → word_number i < 16
 word_number_in_block i h = omega (arith, word_number_by_formula i h)
 
 -- constants, by the test of their places
-pub are_constants : (t : List ℕ) → all_below (λ k. slice_index t (operation_place k) == constant_of k) 64 ≡ true
+pub are_constants : (t : List ℕ) → all_below (λ k. slice_index t (operation_index k) == constant_of k) 64 ≡ true
     → AreConstants t
 are_constants t e = record {
-  placed = λ i h. eqb-true _ _ (each_below (λ k. slice_index t (operation_place k) == constant_of k) 64 e i h);
+  placed = λ i h. eqb-true _ _ (each_below (λ k. slice_index t (operation_index k) == constant_of k) 64 e i h);
 }
 
 -- the shifts of operation i by its round, and there by its place in the row

@@ -70,10 +70,10 @@ fn finish(s: &[u8], bits: u64, q: Buffer) -> Digest
 
 /// Returns the MD5 digest of a message of any length (RFC 1321).
 #[tactic(auto, using(crate::proofs::Blocks::md5_from_start))]
-pub fn md5(s: &[u8]) -> Digest
-    ensures { result.bytes ≡ md5_of s.now }
+pub fn md5(bytes: &[u8]) -> Digest
+    ensures { result.bytes ≡ md5_of bytes.now }
 {
-    finish(s, tail::bit_length(s.len()), Buffer::start())
+    finish(bytes, tail::bit_length(bytes.len()), Buffer::start())
 }
 
 // The digest of `head` and s, one after the other, of any length.
@@ -93,32 +93,32 @@ fn md5_after(head: [u8; 8], s: &[u8]) -> Digest
 }
 
 /// Returns a digest in lowercase hexadecimal digits, two a byte.
-pub fn hex(d: Digest) -> [u8; 32]
-    ensures { result ≡ hex_of d.bytes }
+pub fn hex(digest: Digest) -> [u8; 32]
+    ensures { result ≡ hex_of digest.bytes }
 {
-    digits::all(&d.bytes)
+    digits::all(&digest.bytes)
 }
 
 /// Returns the eight lowercase hexadecimal digits of a number, the highest first.
-pub fn hex8(x: u32) -> [u8; 8]
-    ensures { result ≡ hex_digits 8 x }
+pub fn hex8(number: u32) -> [u8; 8]
+    ensures { result ≡ hex_digits 8 number }
 {
-    digits::eight(x)
+    digits::eight(number)
 }
 
 /// Returns the two lowercase hexadecimal digits of a byte, the higher first.
-pub fn hex2(x: u8) -> [u8; 2]
-    ensures { result ≡ hex_digits 2 x }
+pub fn hex2(byte: u8) -> [u8; 2]
+    ensures { result ≡ hex_digits 2 byte }
 {
-    digits::two(x)
+    digits::two(byte)
 }
 
 /// Returns the number of at most eight hexadecimal digits; a byte that is no digit counts as 0.
-pub fn hex_value(s: &[u8]) -> u32
-    requires fits { length s.now ≤ 8 }
-    ensures { result ≡ hex_value s.now }
+pub fn hex_value(digits: &[u8]) -> u32
+    requires fits { length digits.now ≤ 8 }
+    ensures { result ≡ hex_value digits.now }
 {
-    digits::value(s)
+    digits::value(digits)
 }
 
 /// Returns what leads the first line of a controller that knows the password (PJLink 1.04, 5.1): the digest of the

@@ -17,7 +17,7 @@ use Rattle.floorlog.specs.Events.{LogEvent, opens, receives, passes, closes, no_
 use Rattle.floorlog.specs.Doing.{log_place, event_result}
 use Rattle.floorlog.specs.Told.{seconds_of, places_after, Drives}
 use Rattle.floorlog.proofs.LogOpenings.{log_opened_by}
-use Rattle.floorlog.proofs.OnePlace.{first_is_lowest_shut}
+use Rattle.floorlog.proofs.OnePlace.{first_is_lowest_closed}
 
 -- no second
 none_later : (cs : List Connection) → map (times connection_second 0) cs ≡ cs
@@ -55,7 +55,7 @@ module _ (d : Device) where
       (λ legal free. opened_by_lem d r reply_room (λ q. Kept q.device) (λ n z. itself_kept)
       (λ h s c. let new = new_connection d.settings r in subst
       (λ (k : ℕ). set before log_place (slice_index_or (set before k new) log_place no_connection) ≡ set before k new)
-      (sym (first_is_lowest_shut before free)) (put_there before new)))
+      (sym (first_is_lowest_closed before free)) (put_there before new)))
 
   passing_drives : (n : ℕ) → Drives n d (event_result d (passes n)).device
   unfolding event_result

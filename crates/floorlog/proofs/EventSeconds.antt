@@ -4,9 +4,9 @@ use Rattle.std.proofs.Common.{arith, ℕ, ◌≤◌, ◌&&◌, List, length, nat
 use Rattle.std.specs.List.{list_all}
 use Rattle.text.proofs.Choices.{if_all}
 use Rattle.digest.specs.Hex.{is_hex_digit}
-use Rattle.words.specs.Bytes.{no_cr}
+use Rattle.words.specs.Bytes.{is_cr_free}
 use Rattle.clock.specs.Passing.{seconds_most}
-use Rattle.floorlog.specs.Events.{LogEvent, line_most, random_said, seconds_said, form_said, event}
+use Rattle.floorlog.specs.Events.{LogEvent, log_line_most, random_said, seconds_said, form_said, event}
 use Rattle.floorlog.specs.Told.{seconds_of}
 
 abbrev Within : LogEvent → Type 0
@@ -26,4 +26,4 @@ form_within l = grind (arith, if_all, random_within, seconds_within)
 
 pub event_seconds : (l : List ℕ) → Within (event l)
 unfolding event
-event_seconds l = if_all Within (nat_le (length l) line_most && no_cr l) (form_within l) (omega arith)
+event_seconds l = if_all Within (nat_le (length l) log_line_most && is_cr_free l) (form_within l) (omega arith)

@@ -15,7 +15,7 @@ use Rattle.device.proofs.Illegal.{received_illegal, closed_illegal, received_leg
 use Rattle.record.specs.declared.refusal.Refusal.TheVariants.{NotLegal}
 use Rattle.floorlog.specs.declared.event.Event.{Event}
 use Rattle.floorlog.specs.declared.event.Event.TheVariants.{NoSuch}
-use Rattle.floorlog.specs.declared.outcome.Outcome.TheVariants.{Refused}
+use Rattle.floorlog.specs.declared.outcome.EventOutcome.TheVariants.{Refused}
 use Rattle.floorlog.specs.Outcomes.{outcome_text}
 use Rattle.floorlog.specs.Events.{LogEvent, opens, receives, passes, closes, no_such, event_said}
 use Rattle.floorlog.specs.Doing.{log_place, event_result, result_text, event_answer}

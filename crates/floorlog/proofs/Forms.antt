@@ -6,7 +6,7 @@ use Rattle.std.proofs.lemmas.Bool.{lt-leb}
 use Rattle.text.proofs.Choices.{both}
 use Rattle.numbers.specs.Decimal.{is_digit, decimal_value}
 use Rattle.clock.specs.Passing.{seconds_most}
-use Rattle.floorlog.specs.Events.{passes, no_such, line_most, seconds_said, event}
+use Rattle.floorlog.specs.Events.{passes, no_such, log_line_most, seconds_said, event}
 
 -- the seconds after `T`
 module _ (s : List ℕ) (some : 1 ≤ length s) (few : length s ≤ 10) where
@@ -28,6 +28,6 @@ module _ (s : List ℕ) (some : 1 ≤ length s) (few : length s ≤ 10) where
 
 -- any line
 module _ (l : List ℕ) where
-  pub event_overlong : line_most < length l → event l ≡ no_such
+  pub event_overlong : log_line_most < length l → event l ≡ no_such
   unfolding event
-  event_overlong h = simp (lt-leb (length l) line_most h)
+  event_overlong h = simp (lt-leb (length l) log_line_most h)

@@ -4,11 +4,11 @@
 use Rattle.std.proofs.Common.{ℕ, ◌<◌, ◌≡◌, ap, ◌∙◌, true, false, List, [], ◌∷◌, arith, slice_index_or}
 use Rattle.record.specs.Limits.{places_count}
 use Rattle.record.specs.Legal.{is_legal, is_timed}
-use Rattle.record.specs.Places.{no_connection, connection_at, is_shut, lowest_shut}
+use Rattle.record.specs.Places.{no_connection, connection_at, is_closed, lowest_closed}
 use Rattle.record.specs.Record.{closed, blank}
 use Rattle.record.specs.declared.types.Connection.{Connection}
 use Rattle.record.specs.declared.types.Device.{Device}
-use Rattle.record.proofs.LowestShut.{below_lowest}
+use Rattle.record.proofs.LowestClosed.{below_lowest}
 use Rattle.record.proofs.Spelt.{closed_spelt, blank_spelt}
 use Rattle.record.proofs.Calls.{set_up_by}
 use Rattle.record.proofs.ConnectionsTold.{all_closed_at}
@@ -22,13 +22,13 @@ use Rattle.floorlog.specs.Doing.{log_place, event_result}
 use Rattle.floorlog.specs.Playing.{sample_device, state_after}
 use Rattle.floorlog.proofs.LogOpenings.{log_opened_by}
 
-pub first_is_lowest_shut : (cs : List Connection) → is_shut (slice_index_or cs 0 no_connection) ≡ true →
-    lowest_shut cs ≡ 0
-first_is_lowest_shut cs e = grind (arith, below_lowest)
+pub first_is_lowest_closed : (cs : List Connection) → is_closed (slice_index_or cs 0 no_connection) ≡ true →
+    lowest_closed cs ≡ 0
+first_is_lowest_closed cs e = grind (arith, below_lowest)
 
-pub log_place_taken : (d : Device) → is_legal d ≡ true → is_shut (connection_at d log_place) ≡ true
+pub log_place_taken : (d : Device) → is_legal d ≡ true → is_closed (connection_at d log_place) ≡ true
     → place_taken d reply_room ≡ log_place
-log_place_taken d legal shut = grind (arith, first_is_lowest_shut, opened_lowest)
+log_place_taken d legal shut = grind (arith, first_is_lowest_closed, opened_lowest)
 
 untimed : (c : Connection) → c ≡ closed → is_timed c.phase ≡ false
 untimed c e = ap (λ (k : Connection). is_timed k.phase) (e ∙ closed_spelt)

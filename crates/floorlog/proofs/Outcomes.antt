@@ -11,8 +11,8 @@ use Rattle.record.specs.Refusals.{refusal_number}
 use Rattle.record.specs.declared.refusal.Refusal.{Refusal}
 use Rattle.record.specs.declared.types.Device.{Device}
 use Rattle.device.specs.Calls.{Result, reply_room}
-use Rattle.floorlog.specs.declared.outcome.Outcome.{Outcome}
-use Rattle.floorlog.specs.declared.outcome.Outcome.TheVariants.{Served}
+use Rattle.floorlog.specs.declared.outcome.EventOutcome.{EventOutcome}
+use Rattle.floorlog.specs.declared.outcome.EventOutcome.TheVariants.{Served}
 use Rattle.floorlog.specs.Outcomes.{refusal_shown, outcome_text, IsReplyWithin}
 use Rattle.floorlog.specs.Doing.{outcome}
 
@@ -28,7 +28,7 @@ module _ (r : Result Device) where
 refusal_short : (n : ℕ) → length (refusal_shown n) ≤ 12
 refusal_short n = omega (arith, length-append (codes "! ") (digits n), digits_at_most_10 n)
 
-pub outcome_short : (o : Outcome) (m : List ℕ) → IsReplyWithin o reply_room
+pub outcome_short : (o : EventOutcome) (m : List ℕ) → IsReplyWithin o reply_room
     → length (outcome_text o m) ≤ reply_room
 outcome_short o m h = grind (arith, if_all, length-take, refusal_short)
 

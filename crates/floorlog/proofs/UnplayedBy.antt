@@ -12,7 +12,7 @@ use Rattle.floorlog.specs.Kinds.{begins_history}
 use Rattle.floorlog.specs.Events.{event}
 use Rattle.floorlog.specs.Unplayed.{begins_as_history, why_misread, line_noted, SaidLine, said_line, unplayed_by}
 use Rattle.floorlog.specs.Unplayed.{answer, left_by_event, none_unplayed, unplayed_of}
-use Rattle.floorlog.specs.declared.unplayed.Misread.TheVariants as why
+use Rattle.floorlog.specs.declared.unplayed.LineError.TheVariants as why
 use Rattle.floorlog.specs.declared.unplayed.Unplayed.{Unplayed}
 use Rattle.floorlog.proofs.KeptText.{event_of_front, map_kept}
 

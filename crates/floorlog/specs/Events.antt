@@ -2,12 +2,12 @@
 --   LogEvent           a connection opened with a random number; bytes received; seconds passed; the connection closed;
 --                      or a line of no such form, which changes nothing
 --   event_said e       the same of an event as the code has it
---   line_most          the most bytes of a line, without its LF
+--   log_line_most          the most bytes of a line, without its LF
 --   l starts "O"       the line has that letter, a space and perhaps more
 --   random_said s      `O`: s is eight lowercase hex digits, the random number
 --   seconds_said s     `T`: s is one to ten decimal digits of a number of seconds, at most 4,294,967,295
 --   form_said l        which of the four forms l has: a text is received with a CR after it
---   event l            the same, for a line that has at most `line_most` bytes and no CR in it; else no such form
+--   event l            the same, for a line that has at most `log_line_most` bytes and no CR in it; else no such form
 --   events log         those of a log
 -- Assumes nothing.
 use Rattle.std.specs.List.{list_all}
@@ -16,7 +16,7 @@ use Prim.Native.Char.{Char}
 use Rattle.text.specs.Words.{◌is◌}
 use Rattle.numbers.specs.Decimal.{is_digit, decimal_value}
 use Rattle.digest.specs.Hex.{is_hex_digit, hex_value}
-use Rattle.words.specs.Bytes.{◌at◌, no_cr}
+use Rattle.words.specs.Bytes.{◌at◌, is_cr_free}
 use Rattle.clock.specs.Passing.{seconds_most}
 use Rattle.textio.specs.Lines.{lines_of}
 use Rattle.floorlog.specs.declared.event.Event.{Event}
@@ -37,8 +37,8 @@ event_said (Passes n) = passes n
 event_said Closes = closes
 event_said NoSuch = no_such
 
-abbrev pub line_most : ℕ
-line_most = 4096
+abbrev pub log_line_most : ℕ
+log_line_most = 4096
 
 unfoldable pub random_said : List ℕ → LogEvent
 random_said s = if length s == 8 && list_all is_hex_digit s then opens (hex_value s) else no_such
@@ -61,7 +61,7 @@ form_said l =
     else no_such
 
 unfoldable pub event : List ℕ → LogEvent
-event l = if nat_le (length l) line_most && no_cr l then form_said l else no_such
+event l = if nat_le (length l) log_line_most && is_cr_free l then form_said l else no_such
 
 abbrev pub events : List ℕ → List LogEvent
 events log = map event (lines_of log)

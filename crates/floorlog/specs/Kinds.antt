@@ -6,8 +6,8 @@
 use Rattle.std.specs.Prelude.{ℕ, Bool, true, false, ◌&&◌, List, [], ◌∷◌}
 use Rattle.text.specs.Words.{◌is◌}
 use Rattle.textio.specs.Lines.{LogLine}
-use Rattle.floorlog.specs.declared.kinds.Kind.{Kind}
-use Rattle.floorlog.specs.declared.kinds.Kind.TheVariants.{Unbegun, Events, History}
+use Rattle.floorlog.specs.declared.kinds.LogKind.{LogKind}
+use Rattle.floorlog.specs.declared.kinds.LogKind.TheVariants.{Unbegun, Events, History}
 
 unfoldable pub begins_history : List ℕ → Bool
 begins_history (l ∷ o ∷ g ∷ s ∷ more) = l is "L" && o is "O" && g is "G" && s is " "
@@ -17,7 +17,7 @@ abbrev pub is_history : List LogLine → Bool
 is_history [] = false
 is_history (l ∷ ls) = begins_history l.text
 
-abbrev pub is_history_from : Kind → List LogLine → Bool
+abbrev pub is_history_from : LogKind → List LogLine → Bool
 is_history_from Unbegun ls = is_history ls
 is_history_from Events ls = false
 is_history_from History ls = true

@@ -16,16 +16,16 @@ use Rattle.std.specs.Prelude.{ℕ, ◌+◌, ◌-◌, Bool, true, false, not, ◌
 use Rattle.std.specs.Prelude.{if◌then◌else◌, nat_le, ◌==◌, Some, None}
 use Rattle.std.specs.declared.option.Option.{Option}
 use Rattle.text.specs.Words.{◌is◌, ◌from◌to◌}
-use Rattle.words.specs.Bytes.{◌at◌, no_cr}
+use Rattle.words.specs.Bytes.{◌at◌, is_cr_free}
 use Rattle.numbers.specs.Decimal.{digits, long_digits}
 use Rattle.reasons.specs.Reasons.{number_text}
 use Rattle.record.specs.declared.types.Device.{Device}
 use Rattle.textio.specs.Lines.{lines_of}
-use Rattle.floorlog.specs.Events.{LogEvent, event, line_most, ◌starts◌}
+use Rattle.floorlog.specs.Events.{LogEvent, event, log_line_most, ◌starts◌}
 use Rattle.floorlog.specs.Doing.{event_result, event_answer}
 use Rattle.floorlog.specs.Kinds.{begins_history}
-use Rattle.floorlog.specs.declared.unplayed.Misread.{Misread}
-use Rattle.floorlog.specs.declared.unplayed.Misread.TheVariants as why
+use Rattle.floorlog.specs.declared.unplayed.LineError.{LineError}
+use Rattle.floorlog.specs.declared.unplayed.LineError.TheVariants as why
 use Rattle.floorlog.specs.declared.unplayed.MisreadLine.{MisreadLine}
 use Rattle.floorlog.specs.declared.unplayed.RefusedCall.{RefusedCall}
 use Rattle.floorlog.specs.declared.unplayed.Unplayed.{Unplayed}
@@ -40,13 +40,13 @@ abbrev pub begins_as_history : List ℕ → Bool
 begins_as_history l = begins_history l || begins_opening l || begins_stated l
 
 -- UTF-8's mark, which some editors put before a text
-abbrev pub has_mark : List ℕ → Bool
-has_mark l = l at 0 == 239 && l at 1 == 187 && l at 2 == 191
+abbrev pub has_byte_order_mark : List ℕ → Bool
+has_byte_order_mark l = l at 0 == 239 && l at 1 == 187 && l at 2 == 191
 
 abbrev pub ends_with_cr : List ℕ → Bool
 ends_with_cr l = nat_le 1 (length l) && l at (length l - 1) is "\r"
 
-unfoldable pub why_of_letter : List ℕ → Misread
+unfoldable pub why_of_letter : List ℕ → LineError
 why_of_letter l =
     if length l == 0 then why.Empty
     else if l at 0 == 0 then why.Nul
@@ -58,19 +58,19 @@ why_of_letter l =
     else if l at 0 from "0" to "9" || l at 0 is "[" then why.Stamped
     else why.NoLetter
 
-unfoldable pub why_misread : List ℕ → Misread
+unfoldable pub why_misread : List ℕ → LineError
 why_misread l =
     if begins_as_history l then why.OfHistory
-    else if not (nat_le (length l) line_most) then why.TooLong
-    else if has_mark l then why.OrderMark
+    else if not (nat_le (length l) log_line_most) then why.TooLong
+    else if has_byte_order_mark l then why.ByteOrderMark
     else if ends_with_cr l then why.EndsWithCr
-    else if not (no_cr l) then why.HasCr
+    else if not (is_cr_free l) then why.HasCr
     else why_of_letter l
 
-abbrev pub misread_words : Misread → List ℕ
+abbrev pub misread_words : LineError → List ℕ
 misread_words why.OfHistory = codes " is of a history, and no header stands before it"
 misread_words why.TooLong = codes ": longer than 4,096 bytes"
-misread_words why.OrderMark = codes ": a byte order mark before it"
+misread_words why.ByteOrderMark = codes ": a byte order mark before it"
 misread_words why.EndsWithCr = codes " ends with CR: is this a file with CRLF line ends?"
 misread_words why.HasCr = codes ": a CR in it"
 misread_words why.Empty = codes " is empty"
@@ -90,11 +90,11 @@ abbrev pub first_noted : {A : Type 0} → Option A → A → Option A
 first_noted (Some a) b = Some a
 first_noted None b = Some b
 
-abbrev pub is_of_history : Misread → Bool
+abbrev pub is_of_history : LineError → Bool
 is_of_history why.OfHistory = true
 is_of_history w = false
 
-abbrev pub line_noted : Unplayed → ℕ → Misread → Option ℕ → Unplayed
+abbrev pub line_noted : Unplayed → ℕ → LineError → Option ℕ → Unplayed
 line_noted u n w None = record u {
   misread = u.misread + 1;
   first_misread = first_noted u.first_misread (record { line = n; why = w });
@@ -109,7 +109,7 @@ line_noted u n w (Some c) =
 
 pub record SaidLine (E : Type 0) : Type 0 where
   pub event : E
-  pub why : Misread
+  pub why : LineError
 
 abbrev pub said_line : {E : Type 0} → (List ℕ → E) → List ℕ → SaidLine E
 said_line said l = record { event = said l; why = why_misread l }

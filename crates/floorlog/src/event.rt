@@ -9,11 +9,11 @@ ghost use Rattle.floorlog.specs.Doing.{log_place, opened_in_log, event_result, o
 ghost use Rattle.floorlog.specs.Doing.{printed_line};
 ghost use Rattle.floorlog.specs.Told.{seconds_of, Drives};
 
-use crate::outcome::{Outcome, Printed};
+use crate::outcome::{EventOutcome, Printed};
 use clock::pass;
 use device::calls;
 use device::calls::REPLY_ROOM;
-use record::connection::SHUT;
+use record::connection::PHASE_CLOSED;
 use record::legality::{Legal, Tested};
 use record::refusal::Refusal;
 
@@ -33,11 +33,11 @@ pub enum Event<'a> {
 }
 
 /// The place that a log drives (RULES, Floor log).
-pub const PLACE: usize = 0;
+pub const LOG_PLACE: usize = 0;
 
 // Opening at that place, where it is closed: then it is the lowest closed place, which the device takes.
 #[tactic(auto, using(crate::proofs::LogOpenings::log_opened_again, crate::proofs::LogOpenings::log_opened_closed))]
-fn open(legal: &mut Legal<'_>, random: u32, reply: &mut [u8; REPLY_ROOM]) -> Outcome
+fn open(legal: &mut Legal<'_>, random: u32, reply: &mut [u8; REPLY_ROOM]) -> EventOutcome
     ensures same_reference { legal.new.device.ghost_name ≡ legal.old.device.ghost_name }
     ensures within { IsReplyWithin result reply_room }
     ensures text { outcome_text result reply.new ≡ outcome (opened_in_log legal.old.device.now random) }
@@ -45,16 +45,16 @@ fn open(legal: &mut Legal<'_>, random: u32, reply: &mut [u8; REPLY_ROOM]) -> Out
     ensures device { legal.new.device.now ≡ (opened_in_log legal.old.device.now random).device }
     ensures reply { reply.new ≡ over (opened_in_log legal.old.device.now random).reply reply.old }
 {
-    if legal.device.connections[PLACE].phase != SHUT {
-        return Outcome::AlreadyOpen;
+    if legal.device.connections[LOG_PLACE].phase != PHASE_CLOSED {
+        return EventOutcome::AlreadyOpen;
     }
     match calls::open(legal, random, reply) {
-        Ok(opened) => Outcome::Served(opened.length),
-        Err(refusal) => Outcome::Refused(refusal),
+        Ok(opened) => EventOutcome::Served(opened.length),
+        Err(refusal) => EventOutcome::Refused(refusal),
     }
 }
 
-fn receive(legal: &mut Legal<'_>, bytes: &[u8], reply: &mut [u8; REPLY_ROOM]) -> Outcome
+fn receive(legal: &mut Legal<'_>, bytes: &[u8], reply: &mut [u8; REPLY_ROOM]) -> EventOutcome
     ensures same_reference { legal.new.device.ghost_name ≡ legal.old.device.ghost_name }
     ensures within { IsReplyWithin result reply_room }
     ensures text { outcome_text result reply.new
@@ -63,29 +63,33 @@ fn receive(legal: &mut Legal<'_>, bytes: &[u8], reply: &mut [u8; REPLY_ROOM]) ->
     ensures device { legal.new.device.now ≡ (received_at legal.old.device.now log_place bytes.now reply_room).device }
     ensures reply { reply.new ≡ over (received_at legal.old.device.now log_place bytes.now reply_room).reply reply.old }
 {
-    match calls::receive(legal, PLACE, bytes, reply) {
-        Ok(received) => Outcome::Served(received.length),
-        Err(refusal) => Outcome::Refused(refusal),
+    match calls::receive(legal, LOG_PLACE, bytes, reply) {
+        Ok(received) => EventOutcome::Served(received.length),
+        Err(refusal) => EventOutcome::Refused(refusal),
     }
 }
 
 #[tactic(auto, using(device::proofs::EnoughRoom::closing_quiet, crate::proofs::Outcomes::served_text))]
-fn close(legal: &mut Legal<'_>) -> Outcome
+fn close(legal: &mut Legal<'_>) -> EventOutcome
     ensures same_reference { legal.new.device.ghost_name ≡ legal.old.device.ghost_name }
     ensures within { IsReplyWithin result reply_room }
     ensures text { (m : List ℕ) → outcome_text result m ≡ outcome (closed_by legal.old.device.now log_place) }
     ensures answer { answer_of result ≡ Some (closed_by legal.old.device.now log_place).number }
     ensures device { legal.new.device.now ≡ (closed_by legal.old.device.now log_place).device }
 {
-    match calls::close(legal, PLACE) {
-        Ok(()) => Outcome::Served(0),
-        Err(refusal) => Outcome::Refused(refusal),
+    match calls::close(legal, LOG_PLACE) {
+        Ok(()) => EventOutcome::Served(0),
+        Err(refusal) => EventOutcome::Refused(refusal),
     }
 }
 
 // An event on a legal record.
 #[tactic(auto, unfolding(crate::specs::Doing::event_result), using(device::proofs::EnoughRoom::closing_quiet))]
-fn call_legal(legal: &mut Legal<'_>, event: &Event<'_>, reply: &mut [u8; REPLY_ROOM]) -> Outcome
+fn call_legal(
+    legal: &mut Legal<'_>,
+    event: &Event<'_>,
+    reply: &mut [u8; REPLY_ROOM],
+) -> EventOutcome
     ensures same_reference { legal.new.device.ghost_name ≡ legal.old.device.ghost_name }
     ensures within { IsReplyWithin result reply_room }
     ensures text { outcome_text result reply.new
@@ -100,34 +104,34 @@ fn call_legal(legal: &mut Legal<'_>, event: &Event<'_>, reply: &mut [u8; REPLY_R
         Event::Receives(bytes) => receive(legal, bytes, reply),
         Event::Passes(seconds) => {
             pass::pass(legal, *seconds);
-            Outcome::Served(0)
+            EventOutcome::Served(0)
         }
         Event::Closes => close(legal),
-        Event::NoSuch => Outcome::NoSuch,
+        Event::NoSuch => EventOutcome::NoSuch,
     }
 }
 
 /// An event on any record; its reply stands at the front of the memory. A record that is not legal is refused where the
 /// line has a form.
-pub fn call(t: &mut Tested, event: &Event<'_>, reply: &mut [u8; REPLY_ROOM]) -> Outcome
+pub fn call(tested: &mut Tested, event: &Event<'_>, reply: &mut [u8; REPLY_ROOM]) -> EventOutcome
     ensures within { IsReplyWithin result reply_room }
     ensures text { outcome_text result reply.new
-        ≡ result_text (event_said event.now) (event_result t.old.device (event_said event.now)) }
+        ≡ result_text (event_said event.now) (event_result tested.old.device (event_said event.now)) }
     ensures answer { answer_of result
-        ≡ event_answer (event_said event.now) (event_result t.old.device (event_said event.now)) }
-    ensures device { t.new.device ≡ (event_result t.old.device (event_said event.now)).device }
-    ensures reply { reply.new ≡ over (event_result t.old.device (event_said event.now)).reply reply.old }
-    ensures places { Drives (seconds_of (event_said event.now)) t.old.device t.new.device }
+        ≡ event_answer (event_said event.now) (event_result tested.old.device (event_said event.now)) }
+    ensures device { tested.new.device ≡ (event_result tested.old.device (event_said event.now)).device }
+    ensures reply { reply.new ≡ over (event_result tested.old.device (event_said event.now)).reply reply.old }
+    ensures places { Drives (seconds_of (event_said event.now)) tested.old.device tested.new.device }
 {
-    if t.legal {
+    if tested.legal {
         let mut legal = Legal {
-            device: &mut t.device,
+            device: &mut tested.device,
         };
         return call_legal(&mut legal, event, reply);
     }
     match event {
-        Event::NoSuch => Outcome::NoSuch,
-        _ => Outcome::Refused(Refusal::NotLegal),
+        Event::NoSuch => EventOutcome::NoSuch,
+        _ => EventOutcome::Refused(Refusal::NotLegal),
     }
 }
 
@@ -144,15 +148,16 @@ pub fn seconds_of(event: &Event<'_>) -> u32
 /// An event, and its printed line. Returns the number that its call gives, 0 where it was served; none of a line of no
 /// form.
 #[tactic(auto, unfolding(crate::specs::Doing::printed_line))]
-pub fn print(t: &mut Tested, number: u64, event: &Event<'_>, out: &mut Printed) -> Option<u32>
+pub fn print(tested: &mut Tested, number: u64, event: &Event<'_>, out: &mut Printed) -> Option<u32>
     requires { out.old.items ≡ [] }
     ensures printed { out.new.items
-        ≡ printed_line number (event_said event.now) (event_result t.old.device (event_said event.now)) }
-    ensures answer { result ≡ event_answer (event_said event.now) (event_result t.old.device (event_said event.now)) }
-    ensures device { t.new.device ≡ (event_result t.old.device (event_said event.now)).device }
+        ≡ printed_line number (event_said event.now) (event_result tested.old.device (event_said event.now)) }
+    ensures answer { result
+        ≡ event_answer (event_said event.now) (event_result tested.old.device (event_said event.now)) }
+    ensures device { tested.new.device ≡ (event_result tested.old.device (event_said event.now)).device }
 {
     let mut reply = [0; REPLY_ROOM];
-    let outcome = call(t, event, &mut reply);
+    let outcome = call(tested, event, &mut reply);
     outcome.put_line(number, &reply, out);
     outcome.answer()
 }

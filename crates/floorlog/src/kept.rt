@@ -8,24 +8,24 @@ ghost use Rattle.floorlog.specs.Kept.{kept_most};
 
 use crate::event::Event;
 use crate::line;
-use crate::line::LINE_MOST;
+use crate::line::LOG_LINE_MOST;
 use textio::lines;
-use textio::lines::{Failure, Line};
-use textio::reader::{ByteSource, Reader};
+use textio::lines::{Failure, LineRead};
+use textio::reader::{BufferedReader, ByteSource};
 use textio::writer::ByteSink;
 
 // of a longer line one byte more is kept, which tells it from the others
-const KEPT_MOST: usize = LINE_MOST + 1;
+const KEPT_MOST: usize = LOG_LINE_MOST + 1;
 
 // that, and the CR with which a text is received
-const ROOM: usize = 4098;
+const KEPT_ROOM: usize = 4098;
 
 // The next line of a log, from the start of the memory: what is kept of it, if there is one.
 fn read_line<R: ByteSource, W: ByteSink>(
-    from: &mut Reader<R>,
+    from: &mut BufferedReader<R>,
     to: &mut W,
-    line: &mut [u8; ROOM],
-) -> Result<Option<Line>, Failure>
+    line: &mut [u8; KEPT_ROOM],
+) -> Result<Option<LineRead>, Failure>
     ensures next { IfOk result (λ next. IfSome next (λ l. IfSome (left_in R.remaining from.old) (λ log.
         IsLine log (left_in R.remaining from.new) kept_most (line_in line.new l)))) }
     ensures end { IfOk result (λ next. next ≡ None → IfSome (left_in R.remaining from.old) (λ log. log ≡ [])) }
@@ -41,7 +41,7 @@ fn read_line<R: ByteSource, W: ByteSink>(
 }
 
 // A CR behind the line that the memory holds.
-fn put_cr(line: &mut [u8; ROOM], held: usize)
+fn put_cr(line: &mut [u8; KEPT_ROOM], held: usize)
     requires { held ≤ kept_most }
     ensures line { take held line.new ≡ take held line.old }
     ensures with_cr { take (held + 1) line.new ≡ take held line.old ++ codes "\r" }
@@ -53,7 +53,7 @@ fn put_cr(line: &mut [u8; ROOM], held: usize)
 /// CR stands behind it, with which a text is received.
 #[derive(Drop)]
 pub struct KeptLine {
-    bytes: [u8; ROOM],
+    bytes: [u8; KEPT_ROOM],
     held: usize,
     ended: bool,
     ghost inside: { held ≤ 4097 },
@@ -69,7 +69,7 @@ impl KeptLine {
         ensures { kept_text result ≡ [] }
     {
         KeptLine {
-            bytes: [b'\r'; ROOM],
+            bytes: [b'\r'; KEPT_ROOM],
             held: 0,
             ended: false,
         }
@@ -99,7 +99,7 @@ impl KeptLine {
     /// The next line of a log in its place, if there is one.
     pub fn read<R: ByteSource, W: ByteSink>(
         &mut self,
-        from: &mut Reader<R>,
+        from: &mut BufferedReader<R>,
         to: &mut W,
     ) -> Result<bool, Failure>
         ensures next { IfOk result (λ more. more ≡ true → IfSome (left_in R.remaining from.old) (λ log.

@@ -12,7 +12,7 @@ use textio::writer::ByteSink;
 
 /// Of which kind a log is.
 #[derive(Clone, Copy)]
-pub enum Kind {
+pub enum LogKind {
     /// No line has come yet.
     Unbegun,
     /// The first kind: events at place 0, one a line.
@@ -28,7 +28,7 @@ pub struct ByKind<A, B> {
     pub events: A,
     /// The observer of a history.
     pub history: B,
-    kind: Kind,
+    kind: LogKind,
 }
 
 #[tactic(auto, unfolding(crate::specs::Kinds::begins_history))]
@@ -41,15 +41,15 @@ pub(crate) fn begins_history(line: &[u8]) -> bool
     }
 }
 
-impl Kind {
+impl LogKind {
     // Whether the log is a history, where this is its next line.
     fn is_history(self, line: &KeptLine) -> bool
         ensures { (ls : List LogLine) → result ≡ is_history_from self (kept_line line.now ∷ ls) }
     {
         match self {
-            Kind::Unbegun => begins_history(line.text()),
-            Kind::Events => false,
-            Kind::History => true,
+            LogKind::Unbegun => begins_history(line.text()),
+            LogKind::Events => false,
+            LogKind::History => true,
         }
     }
 }
@@ -58,12 +58,12 @@ impl<A: Observer, B: Observer> ByKind<A, B> {
     /// Before the first line.
     pub fn new(events: A, history: B) -> ByKind<A, B>
         ensures observers { (result.events ≡ events) × (result.history ≡ history) }
-        ensures kind { result.kind ≡ Kind.Unbegun }
+        ensures kind { result.kind ≡ LogKind.Unbegun }
     {
         ByKind {
             events,
             history,
-            kind: Kind::Unbegun,
+            kind: LogKind::Unbegun,
         }
     }
 
@@ -72,7 +72,7 @@ impl<A: Observer, B: Observer> ByKind<A, B> {
         ensures { result ≡ is_history_from self.now.kind [] }
     {
         match self.kind {
-            Kind::History => true,
+            LogKind::History => true,
             _ => false,
         }
     }
@@ -91,10 +91,10 @@ impl<A: Observer, B: Observer> Observer for ByKind<A, B> {
 
     fn line<W: ByteSink>(&mut self, line: &KeptLine, to: &mut W) -> Result<(), Failure> {
         if self.kind.is_history(line) {
-            self.kind = Kind::History;
+            self.kind = LogKind::History;
             self.history.line(line, to)
         } else {
-            self.kind = Kind::Events;
+            self.kind = LogKind::Events;
             self.events.line(line, to)
         }
     }

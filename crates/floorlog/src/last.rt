@@ -8,10 +8,10 @@ use record::types::Device;
 
 /// The last line for a device.
 #[tactic(auto, using(history::proofs::ShownFits::shown_lengths), unfolding(crate::specs::LastLine::last_line_of))]
-pub fn put_last(d: &Device, out: &mut Printed)
+pub fn put_last(device: &Device, out: &mut Printed)
     requires { out.old.items ≡ [] }
-    ensures { out.new.items ≡ last_device_line d.now }
+    ensures { out.new.items ≡ last_device_line device.now }
 {
-    shown::put_shown(d, out);
+    shown::put_shown(device, out);
     out.push(b'\n');
 }

@@ -30,7 +30,7 @@ use crate::playing::Player;
 use record::types::Device;
 use setup::wanted::Wanted;
 use textio::lines::Failure;
-use textio::reader::{ByteSource, Reader};
+use textio::reader::{BufferedReader, ByteSource};
 use textio::writer::ByteSink;
 
 /// The sample set-up, every place closed.
@@ -50,7 +50,7 @@ pub fn sample() -> Device
 /// read, which may wait.
 pub fn replay<R: ByteSource, W: ByteSink>(
     begun: Device,
-    from: &mut Reader<R>,
+    from: &mut BufferedReader<R>,
     to: &mut W,
 ) -> Result<Device, Failure>
     ensures whole { IfOk result (λ after. IfSome (left_in R.remaining from.old) (λ log.

@@ -2,12 +2,12 @@
 ghost use Rattle.std.specs.List.{list_all};
 ghost use Rattle.std.specs.Prelude.{ℕ, List, ◌≡◌, ◌++◌, codes, length, nat_le};
 ghost use Rattle.digest.specs.Hex.{is_hex_digit};
-ghost use Rattle.floorlog.specs.Events.{event_said, line_most, random_said, seconds_said, event};
+ghost use Rattle.floorlog.specs.Events.{event_said, log_line_most, random_said, seconds_said, event};
 
 use crate::event::Event;
 
 /// The most bytes of a line, without its LF.
-pub const LINE_MOST: usize = 4096;
+pub const LOG_LINE_MOST: usize = 4096;
 
 const SECONDS_MOST: u64 = 4294967295;
 
@@ -49,10 +49,10 @@ fn seconds_said(s: &[u8]) -> Event<'_>
 }
 
 // Whether it is no longer than a line can be.
-fn fits(l: &[u8]) -> bool
-    ensures { result ≡ nat_le (length l.now) line_most }
+fn is_short(l: &[u8]) -> bool
+    ensures { result ≡ nat_le (length l.now) log_line_most }
 {
-    l.len() <= LINE_MOST
+    l.len() <= LOG_LINE_MOST
 }
 
 /// The event of a line, without its LF, that is lent with a CR behind it: a text is received with that.
@@ -63,7 +63,7 @@ pub fn read(line: &[u8]) -> Event<'_>
     let [l @ .., _] = line else {
         return Event::NoSuch;
     };
-    if !fits(l) || !words::byte::no_cr(l) {
+    if !is_short(l) || !words::byte::is_cr_free(l) {
         return Event::NoSuch;
     }
     match line {

@@ -13,7 +13,7 @@ ghost use Rattle.floorlog.specs.Observing.{Observes, BreaksOff, FailsOn, CannotF
 use crate::kept::KeptLine;
 use std::io;
 use textio::lines::Failure;
-use textio::reader::{ByteSource, Reader};
+use textio::reader::{BufferedReader, ByteSource};
 use textio::writer::ByteSink;
 
 /// Who is told the lines of a log, and writes what comes of them.
@@ -57,7 +57,7 @@ fn end<W: ByteSink, O: Observer>(observer: &mut O, to: &mut W) -> io::Result<()>
 /// wait.
 pub fn follow<R: ByteSource, W: ByteSink, O: Observer>(
     observer: &mut O,
-    from: &mut Reader<R>,
+    from: &mut BufferedReader<R>,
     to: &mut W,
 ) -> Result<(), Failure>
     ensures whole { OnOk result (IfSome (left_in R.remaining from.old) (λ log. Appends (W.contents to.old)

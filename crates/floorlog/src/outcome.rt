@@ -19,7 +19,7 @@ pub type Printed = ArrayVec<u8, PRINTED_MOST>;
 
 /// What an event of a log comes to.
 #[derive(Clone, Copy)]
-pub enum Outcome {
+pub enum EventOutcome {
     /// It was served; its reply, CR included, has so many bytes: 0 where there is none.
     Served(usize),
     /// The call was refused.
@@ -59,16 +59,16 @@ fn put_refusal(number: u32, out: &mut Printed)
     numbers::put_number(number, out);
 }
 
-impl Outcome {
+impl EventOutcome {
     /// The number that its call gives, 0 where it was served; none of a line of no form.
     pub fn answer(self) -> Option<u32>
         ensures { result ≡ answer_of self }
     {
         match self {
-            Outcome::Served(_) => Some(0),
-            Outcome::Refused(refusal) => Some(refusal.number()),
-            Outcome::AlreadyOpen => Some(5),
-            Outcome::NoSuch => None,
+            EventOutcome::Served(_) => Some(0),
+            EventOutcome::Refused(refusal) => Some(refusal.number()),
+            EventOutcome::AlreadyOpen => Some(5),
+            EventOutcome::NoSuch => None,
         }
     }
 
@@ -79,10 +79,10 @@ impl Outcome {
         ensures { out.new.items ≡ out.old.items ++ outcome_text self memory.now }
     {
         match self {
-            Outcome::Served(length) => put_reply(&memory[..length], out),
-            Outcome::Refused(refusal) => put_refusal(refusal.number(), out),
-            Outcome::AlreadyOpen => put_refusal(5, out),
-            Outcome::NoSuch => out.push(b'?'),
+            EventOutcome::Served(length) => put_reply(&memory[..length], out),
+            EventOutcome::Refused(refusal) => put_refusal(refusal.number(), out),
+            EventOutcome::AlreadyOpen => put_refusal(5, out),
+            EventOutcome::NoSuch => out.push(b'?'),
         }
     }
     /// Puts the printed line with that number: the number, a space, what is printed for it, and LF.

@@ -3,7 +3,7 @@
 ghost use Rattle.std.specs.Prelude.{◌≡◌, ◌≢◌, ◌<◌, List, ℕ, true, false};
 ghost use Rattle.record.specs.Legal.{is_legal};
 ghost use Rattle.record.specs.Limits.{places_count};
-ghost use Rattle.record.specs.Places.{connection_at, is_shut};
+ghost use Rattle.record.specs.Places.{connection_at, is_closed};
 ghost use Rattle.record.specs.Record.{closed};
 ghost use Rattle.record.specs.declared.types.Device.{Device};
 ghost use Rattle.device.specs.Calls.{reply_room, place_taken, refused_by};
@@ -15,9 +15,9 @@ ghost use Rattle.floorlog.specs.Settled.{ArePrinted, log_rows};
 /// A log drives place 0 only (RULES, Floor log): where that is closed, an `O` takes it; where it is not, the `O` is
 /// refused with 5; and after any log on the sample set-up every other place is closed.
 pub fn a_log_drives_one_place()
-    ensures taken { (d : Device) → is_legal d ≡ true → is_shut (connection_at d log_place) ≡ true
+    ensures taken { (d : Device) → is_legal d ≡ true → is_closed (connection_at d log_place) ≡ true
         → place_taken d reply_room ≡ log_place }
-    ensures again { (d : Device) (random : ℕ) → is_legal d ≡ true → is_shut (connection_at d log_place) ≡ false
+    ensures again { (d : Device) (random : ℕ) → is_legal d ≡ true → is_closed (connection_at d log_place) ≡ false
         → opened_in_log d random ≡ refused_by 5 d }
     ensures elsewhere { (p : ℕ) → p ≢ log_place → (log : List ℕ) → p < places_count
         → connection_at (state_after sample_device (events log)) p ≡ closed }

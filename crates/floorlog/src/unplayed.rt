@@ -3,7 +3,8 @@
 ghost use Rattle.std.specs.Prelude.{◌≡◌, ◌+◌, ◌<◌, ◌≤◌, ◌++◌, [], length};
 ghost use Rattle.std.specs.Prelude.{IsTrue, ◌↔◌};
 ghost use Rattle.arrayvec.specs.ArrayVec.{array_vec_len};
-ghost use Rattle.floorlog.specs.Unplayed.{begins_opening, begins_stated, begins_as_history, has_mark, ends_with_cr};
+ghost use Rattle.floorlog.specs.Unplayed.{begins_opening, begins_stated, begins_as_history, has_byte_order_mark};
+ghost use Rattle.floorlog.specs.Unplayed.{ends_with_cr};
 ghost use Rattle.floorlog.specs.Unplayed.{why_of_letter, why_misread};
 ghost use Rattle.floorlog.specs.Unplayed.{misread_words, none_unplayed, is_of_history, line_noted};
 ghost use Rattle.floorlog.specs.Unplayed.{misread_text, refused_words, refused_calls_text, headless_text};
@@ -11,18 +12,18 @@ ghost use Rattle.floorlog.specs.Unplayed.{unplayed_text};
 
 use crate::kept::KeptLine;
 use crate::kinds;
-use crate::line::LINE_MOST;
+use crate::line::LOG_LINE_MOST;
 use arrayvec::ArrayVec;
 
 /// Why a line is not understood: the first of these that holds of it.
 #[derive(Clone, Copy)]
-pub enum Misread {
+pub enum LineError {
     /// It begins as a header, an opening or a stated line of a history, which a log of the first kind has not.
     OfHistory,
     /// It has more bytes than a line can have.
     TooLong,
     /// It begins with UTF-8's byte order mark.
-    OrderMark,
+    ByteOrderMark,
     /// It ends with CR.
     EndsWithCr,
     /// It has a CR elsewhere.
@@ -53,7 +54,7 @@ pub struct MisreadLine {
     /// Its number in the log, from 1.
     pub line: u64,
     /// Why.
-    pub why: Misread,
+    pub why: LineError,
 }
 
 /// A call that is refused.
@@ -110,8 +111,8 @@ fn begins_as_history(line: &[u8]) -> bool
     kinds::begins_history(line) || begins_opening(line) || begins_stated(line)
 }
 
-fn has_mark(line: &[u8]) -> bool
-    ensures { result ≡ has_mark line.now }
+fn has_byte_order_mark(line: &[u8]) -> bool
+    ensures { result ≡ has_byte_order_mark line.now }
 {
     match line {
         [239, 187, 191, ..] => true,
@@ -129,41 +130,41 @@ fn ends_with_cr(line: &[u8]) -> bool
 }
 
 #[tactic(auto, unfolding(crate::specs::Unplayed::why_of_letter))]
-fn why_of_letter(line: &[u8]) -> Misread
+fn why_of_letter(line: &[u8]) -> LineError
     ensures { result ≡ why_of_letter line.now }
 {
     match line {
-        [] => Misread::Empty,
-        [0, ..] => Misread::Nul,
-        [b'O', b' ', ..] => Misread::RandomWanted,
-        [b'T', b' ', ..] => Misread::SecondsWanted,
-        [b'M', b' ', ..] => Misread::Mark,
-        [b'X', ..] => Misread::NotAlone,
-        [b'O' | b'R' | b'T' | b'M', ..] => Misread::SpaceWanted,
-        [b'0'..=b'9' | b'[', ..] => Misread::Stamped,
-        _ => Misread::NoLetter,
+        [] => LineError::Empty,
+        [0, ..] => LineError::Nul,
+        [b'O', b' ', ..] => LineError::RandomWanted,
+        [b'T', b' ', ..] => LineError::SecondsWanted,
+        [b'M', b' ', ..] => LineError::Mark,
+        [b'X', ..] => LineError::NotAlone,
+        [b'O' | b'R' | b'T' | b'M', ..] => LineError::SpaceWanted,
+        [b'0'..=b'9' | b'[', ..] => LineError::Stamped,
+        _ => LineError::NoLetter,
     }
 }
 
 // Why a line that has no form has none.
 #[tactic(auto, unfolding(crate::specs::Unplayed::why_misread))]
-fn why_misread(line: &[u8]) -> Misread
+fn why_misread(line: &[u8]) -> LineError
     ensures { result ≡ why_misread line.now }
 {
     if begins_as_history(line) {
-        return Misread::OfHistory;
+        return LineError::OfHistory;
     }
-    if line.len() > LINE_MOST {
-        return Misread::TooLong;
+    if line.len() > LOG_LINE_MOST {
+        return LineError::TooLong;
     }
-    if has_mark(line) {
-        return Misread::OrderMark;
+    if has_byte_order_mark(line) {
+        return LineError::ByteOrderMark;
     }
     if ends_with_cr(line) {
-        return Misread::EndsWithCr;
+        return LineError::EndsWithCr;
     }
-    if !words::byte::no_cr(line) {
-        return Misread::HasCr;
+    if !words::byte::is_cr_free(line) {
+        return LineError::HasCr;
     }
     why_of_letter(line)
 }
@@ -176,34 +177,34 @@ fn put_text(text: &[u8], out: &mut UnplayedText)
     out.try_extend_from_slice(text).unwrap();
 }
 
-impl Misread {
+impl LineError {
     // What is said of it, behind the number of the line.
     fn words(self) -> &'static [u8]
         ensures words { result.now ≡ misread_words self }
         ensures short { length result.now ≤ 60 }
     {
         match self {
-            Misread::OfHistory => b" is of a history, and no header stands before it",
-            Misread::TooLong => b": longer than 4,096 bytes",
-            Misread::OrderMark => b": a byte order mark before it",
-            Misread::EndsWithCr => b" ends with CR: is this a file with CRLF line ends?",
-            Misread::HasCr => b": a CR in it",
-            Misread::Empty => b" is empty",
-            Misread::Nul => b" begins with a NUL: is this a text?",
-            Misread::RandomWanted => b": eight lowercase hex digits wanted",
-            Misread::SecondsWanted => b": one to ten digits wanted, at most 4,294,967,295",
-            Misread::Mark => b": M, a lamp 1 to 9, and 0 or 1, is for burnt alone",
-            Misread::NotAlone => b": X stands alone",
-            Misread::SpaceWanted => b": a space wanted behind the letter",
-            Misread::Stamped => b" begins with a digit: is it a time stamp?",
-            Misread::NoLetter => b" begins with none of O, R, T and X",
+            LineError::OfHistory => b" is of a history, and no header stands before it",
+            LineError::TooLong => b": longer than 4,096 bytes",
+            LineError::ByteOrderMark => b": a byte order mark before it",
+            LineError::EndsWithCr => b" ends with CR: is this a file with CRLF line ends?",
+            LineError::HasCr => b": a CR in it",
+            LineError::Empty => b" is empty",
+            LineError::Nul => b" begins with a NUL: is this a text?",
+            LineError::RandomWanted => b": eight lowercase hex digits wanted",
+            LineError::SecondsWanted => b": one to ten digits wanted, at most 4,294,967,295",
+            LineError::Mark => b": M, a lamp 1 to 9, and 0 or 1, is for burnt alone",
+            LineError::NotAlone => b": X stands alone",
+            LineError::SpaceWanted => b": a space wanted behind the letter",
+            LineError::Stamped => b" begins with a digit: is it a time stamp?",
+            LineError::NoLetter => b" begins with none of O, R, T and X",
         }
     }
 
     fn is_of_history(self) -> bool
         ensures { result ≡ is_of_history self }
     {
-        matches!(self, Misread::OfHistory)
+        matches!(self, LineError::OfHistory)
     }
 }
 

@@ -25,7 +25,7 @@ use stored::{loading, storing};
 
 // A byte more than the longest form that its counts, a byte each, can ask for, legal or not: a file that fills this has
 // bytes left over.
-const ROOM: u64 = 68867;
+const FILE_ROOM: u64 = 68867;
 
 /// What a log begins with.
 #[derive(Drop)]
@@ -110,7 +110,7 @@ pub fn read_from<R: Read + Drop>(mut from: R, alloc: Global) -> Result<Begun, No
     ensures by_form { IfSome (R.remaining from) (λ form. IsReadBy form result) }
 {
     let mut bytes = Vec::new(alloc);
-    (&mut from).take(ROOM).read_to_end(&mut bytes)?;
+    (&mut from).take(FILE_ROOM).read_to_end(&mut bytes)?;
     // a read that fails where these bytes end is reported too
     let mut more = [0u8; 1];
     from.read(&mut more)?;

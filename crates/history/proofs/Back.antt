@@ -20,7 +20,7 @@ use Rattle.words.specs.Codec.{◌>>=◌}
 use Rattle.words.specs.ErrorDigits.{errors_text, is_errors}
 use Rattle.words.specs.Laws.{errors_codec}
 use Rattle.words.specs.Combinations.{whole_says}
-use Rattle.history.specs.Calls.{LogCall, opens, receives, passes, closes, marks, reports, enables, is_sayable, IsTyped}
+use Rattle.history.specs.Calls.{LogCall, opens, receives, passes, closes, faults, reports, enables, is_sayable, IsTyped}
 use Rattle.history.specs.Calls.{received_most, is_byte, is_place_number, is_lamp_number}
 use Rattle.history.specs.Lines.{figure, switch_figure, is_plain, front, is_command_line, hex_text}
 use Rattle.history.specs.Lines.{hex_placed}
@@ -158,7 +158,7 @@ call_back (receives p bs) t h =
     (is_command_line bs) refl
 call_back (passes n) t h = passing_back n t
 call_back (closes p) t h = alone_back (code "X") p h
-call_back (marks true) t h = refl
-call_back (marks false) t h = refl
+call_back (faults true) t h = refl
+call_back (faults false) t h = refl
 call_back (reports ds) t h = errors_back ds h
 call_back (enables k m) t h = lamp_back k m h

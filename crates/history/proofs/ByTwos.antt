@@ -7,7 +7,7 @@ use Rattle.std.proofs.Common.{List, [], ◌∷◌, ◌++◌, append_assoc, slice
 use Rattle.numbers.specs.Decimal.{last_digit, digits}
 use Rattle.history.specs.Figures.{tens_of, ones_of, lowest}
 use Rattle.lent.specs.Puts.{Puts}
-use Rattle.lent.specs.declared.Writer.{Writer}
+use Rattle.lent.specs.declared.MemoryWriter.{MemoryWriter}
 use Rattle.history.proofs.Writing.{digits_low, digits_high}
 
 -- ---- the tables
@@ -55,7 +55,7 @@ abbrev pub last_of_ten : ℕ → List ℕ → List ℕ
 last_of_ten zero t = []
 last_of_ten (suc k) t = slice_index_or t (9 - k) 0 ∷ last_of_ten k t
 
-pub puts_lowest : (k n : ℕ) {a b : Writer} {s : List ℕ} → n < 2 ^ 32 → 10 ^ suc k ≤ n → n < 10 ^ suc (suc k)
+pub puts_lowest : (k n : ℕ) {a b : MemoryWriter} {s : List ℕ} → n < 2 ^ 32 → 10 ^ suc k ≤ n → n < 10 ^ suc (suc k)
     → s ≡ lowest (suc (suc k)) n → Puts a b s → Puts a b (digits n)
 puts_lowest k n {a} {b} f h g e p = subst (Puts a b) (e ∙ sym (digits_lowest k n f h g)) p
 

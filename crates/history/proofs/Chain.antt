@@ -11,7 +11,7 @@ use Rattle.crc32.specs.Crc.{crc32_on, crc32_of}
 use Rattle.crc32.proofs.GoesOn.{crc32_on-crc32_of}
 use Rattle.crc32.proofs.Changes.{AreBytes, crc32_on_within, crc32_of_within}
 use Rattle.history.specs.Entries.{LogEntry, is_sayable_entry, IsTypedEntry, entry_line}
-use Rattle.history.specs.Logs.{Sayable, log_text, LogPlace, begun_at, past, FitsAt, IsHistory}
+use Rattle.history.specs.Logs.{Sayable, log_text, LogPosition, begun_at, past, FitsAt, IsHistory}
 use Rattle.history.specs.Recording.{log_line_room, cannot_follow, recorded_by, advanced, recorder_after}
 use Rattle.history.specs.Recording.{stated_next, stated_by, stated_after}
 use Rattle.history.specs.Shown.{device_shown}
@@ -21,18 +21,18 @@ use Rattle.history.specs.declared.recorder.Recorder.{Recorder}
 use Rattle.history.proofs.Printable.{line_bytes}
 
 -- the recorder keeps where the log stands
-record KeptAt (r : Recorder) (p : LogPlace) : Type 0 where
+record KeptAt (r : Recorder) (p : LogPosition) : Type 0 where
   file : r.file ≡ p.file
   lines : r.lines ≡ p.lines
   sum : r.sum ≡ crc32_of p.before
   few : r.lines < 2 ^ 32
   within : r.sum < 2 ^ 32
 
-sum_goes_on : (p : LogPlace) (r : Recorder) (l : List ℕ) → r.sum ≡ crc32_of p.before
+sum_goes_on : (p : LogPosition) (r : Recorder) (l : List ℕ) → r.sum ≡ crc32_of p.before
     → crc32_on r.sum l ≡ crc32_of (p.before ++ l)
 sum_goes_on p r l e = ap (λ (c : ℕ). crc32_on c l) e ∙ crc32_on-crc32_of p.before l
 
-module _ (r : Recorder) (p : LogPlace) (k : KeptAt r p) where
+module _ (r : Recorder) (p : LogPosition) (k : KeptAt r p) where
   fits : (a : Asked) → cannot_follow r (asked_entry r a) ≡ false → FitsAt p (asked_entry r a)
   fits (begins t) h = (ap (λ (n : ℕ). n + 1) k.file, k.sum)
   fits (makes c) h = grind (arith, k.file)
@@ -109,12 +109,12 @@ stated_tried r d room = by (is_legal d) refl
     ]
     by false p = refused (simp p) (simp p) (simp p)
 
-pub record Recorded (p : LogPlace) (r : Recorder) (asked : List (Asked × ℕ)) : Type 0 where
+pub record Recorded (p : LogPosition) (r : Recorder) (asked : List (Asked × ℕ)) : Type 0 where
   pub history : IsHistory p (entries_recorded r asked)
   pub sayable : Sayable (entries_recorded r asked)
   pub written : bytes_recorded r asked ≡ log_text (entries_recorded r asked)
 
-recorded_from : (asked : List (Asked × ℕ)) (r : Recorder) (p : LogPlace) → KeptAt r p → AreTyped asked
+recorded_from : (asked : List (Asked × ℕ)) (r : Recorder) (p : LogPosition) → KeptAt r p → AreTyped asked
     → Recorded p r asked
 recorded_from [] r p k t = record { history = tt; sayable = tt; written = refl }
 recorded_from ((a, room) ∷ more) r p k (t, ts) =

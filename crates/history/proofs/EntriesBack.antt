@@ -16,7 +16,7 @@ use Rattle.numbers.proofs.Digits.{digits_without}
 use Rattle.digest.specs.Hex.{hex_digits, hex_value, is_hex_digit}
 use Rattle.digest.proofs.Laws.{length-hex_digits, hex_digits_are_digits, hex_value_back}
 use Rattle.words.specs.Codec.{◌>>=◌}
-use Rattle.history.specs.Calls.{LogCall, opens, receives, passes, closes, marks, reports, enables}
+use Rattle.history.specs.Calls.{LogCall, opens, receives, passes, closes, faults, reports, enables}
 use Rattle.history.specs.Lines.{is_plain, decimal_in, number_most, call_text, bytes_text, hex_placed, is_command_line}
 use Rattle.history.specs.Lines.{call_in}
 use Rattle.history.specs.Entries.{LogEntry, header, call, stated, is_sayable_entry, IsTypedEntry}
@@ -110,7 +110,7 @@ call_apart (opens p r) = refl
 call_apart (receives p bs) = if_all Apart (is_command_line bs) refl (hex_apart p bs)
 call_apart (passes n) = refl
 call_apart (closes p) = refl
-call_apart (marks m) = refl
+call_apart (faults m) = refl
 call_apart (reports ds) = refl
 call_apart (enables k m) = refl
 

@@ -16,7 +16,7 @@ use Rattle.digest.specs.Hex.{hex_digits, hex_value}
 use Rattle.digest.proofs.Laws.{length-hex_digits, hex_value_below}
 use Rattle.words.specs.ErrorDigits.{is_error_digit}
 use Rattle.words.specs.Inputs.{number_digit}
-use Rattle.history.specs.Calls.{LogCall, opens, receives, passes, closes, marks, reports, enables, is_sayable}
+use Rattle.history.specs.Calls.{LogCall, opens, receives, passes, closes, faults, reports, enables, is_sayable}
 use Rattle.history.specs.Calls.{received_most, is_place_number}
 use Rattle.history.specs.Entries.{LogEntry, header, call, stated, is_sayable_entry, is_time, is_time_if_any, time_text}
 use Rattle.history.specs.Entries.{summed_text}
@@ -54,7 +54,7 @@ call_fits (receives p bs) h =
     (leb-true (length bs) received_most (both_right (is_place_number p) (nat_le (length bs) received_most) h))
 call_fits (passes n) h = omega (arith, digits_at_most_10 n)
 call_fits (closes p) h = omega arith
-call_fits (marks m) h = omega arith
+call_fits (faults m) h = omega arith
 call_fits (reports ds) h =
     omega (
       arith,

@@ -23,7 +23,7 @@ use Rattle.words.specs.Combinations.{bind_some, cond_is, whole_says}
 use Rattle.words.specs.ErrorDigits.{errors_read}
 use Rattle.words.specs.Codec.{whole_value}
 use Rattle.words.specs.Laws.{errors_codec}
-use Rattle.history.specs.Calls.{LogCall, opens, receives, passes, closes, marks, reports, enables, is_sayable}
+use Rattle.history.specs.Calls.{LogCall, opens, receives, passes, closes, faults, reports, enables, is_sayable}
 use Rattle.history.specs.Calls.{received_most, is_place_number}
 use Rattle.history.specs.Lines.{figure, switch_figure, is_plain, front, is_command_line, hex_text, placed_text}
 use Rattle.history.specs.Lines.{place_head}
@@ -241,7 +241,7 @@ unfolding fault_in call_text
 fault_only [] c e = cc
 fault_only (m ∷ n ∷ s) c e = cc
 fault_only (m ∷ []) c e =
-    let (h, same) = cond_is _ (Some (marks (m is "1"))) e in
+    let (h, same) = cond_is _ (Some (faults (m is "1"))) e in
     subst (λ (c : LogCall). Only (code "F" ∷ code " " ∷ m ∷ []) c) (same_Some _ _ same)
     (ap (λ (n : ℕ). code "F" ∷ code " " ∷ n ∷ []) (sym (switch_only m h)), refl)
 

@@ -15,7 +15,7 @@ use Rattle.digest.specs.Hex.{hex_digits, is_hex_digit}
 use Rattle.digest.proofs.Laws.{hex_digits_are_digits}
 use Rattle.words.specs.ErrorDigits.{is_error_digit}
 use Rattle.words.specs.Inputs.{number_digit}
-use Rattle.history.specs.Calls.{LogCall, opens, receives, passes, closes, marks, reports, enables, is_sayable}
+use Rattle.history.specs.Calls.{LogCall, opens, receives, passes, closes, faults, reports, enables, is_sayable}
 use Rattle.history.specs.Calls.{is_place_number, is_lamp_number, received_most}
 use Rattle.history.specs.Lines.{figure, switch_figure, is_printable, is_plain, front, is_command_line}
 use Rattle.history.specs.Lines.{hex_placed}
@@ -84,7 +84,7 @@ call_printable (receives p bs) h =
     bytes_printable p bs (place_few p (both_left (is_place_number p) (nat_le (length bs) received_most) h))
 call_printable (passes n) h = digits_printable n
 call_printable (closes p) h = both (figure_printable p (place_few p h)) refl
-call_printable (marks m) h = both (switch_printable m) refl
+call_printable (faults m) h = both (switch_printable m) refl
 call_printable (reports ds) h =
     list_all-map is_error_digit is_printable number_digit digit_printable ds
     (both_right (length ds == 6) (list_all is_error_digit ds) h)

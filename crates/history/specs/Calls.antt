@@ -9,24 +9,24 @@
 use Rattle.std.specs.List.{list_all}
 use Rattle.std.specs.Prelude.{ℕ, ◌≡◌, ◌<◌, ◌^◌, ◌&&◌, Bool, true, List, length, nat_le, nat_lt}
 use Rattle.words.specs.ErrorDigits.{is_errors}
-use Rattle.history.specs.declared.call.Call.{Call}
-use Rattle.history.specs.declared.call.Call.TheVariants.{Opens, Receives, Passes, Closes, Fault, Errors, Mark}
+use Rattle.history.specs.declared.call.RecordedCall.{RecordedCall}
+use Rattle.history.specs.declared.call.RecordedCall.TheVariants.{Opens, Receives, Passes, Closes, Fault, Errors, Mark}
 
 pub data LogCall : Type 0 where
   opens : (place random : ℕ) → LogCall
   receives : (place : ℕ) (bytes : List ℕ) → LogCall
   passes : (seconds : ℕ) → LogCall
   closes : (place : ℕ) → LogCall
-  marks : (fault : Bool) → LogCall
+  faults : (fault : Bool) → LogCall
   reports : (errors : List ℕ) → LogCall
   enables : (lamp : ℕ) (mark : Bool) → LogCall
 
-abbrev pub call_seen : Call → LogCall
+abbrev pub call_seen : RecordedCall → LogCall
 call_seen (Opens p r) = opens p r
 call_seen (Receives p bs) = receives p bs.now
 call_seen (Passes n) = passes n
 call_seen (Closes p) = closes p
-call_seen (Fault m) = marks m
+call_seen (Fault m) = faults m
 call_seen (Errors ds) = reports ds
 call_seen (Mark k m) = enables k m
 
@@ -44,7 +44,7 @@ is_sayable (opens p r) = is_place_number p
 is_sayable (receives p bs) = is_place_number p && nat_le (length bs) received_most
 is_sayable (passes n) = true
 is_sayable (closes p) = is_place_number p
-is_sayable (marks m) = true
+is_sayable (faults m) = true
 is_sayable (reports ds) = is_errors ds
 is_sayable (enables k m) = is_lamp_number k
 

@@ -17,7 +17,7 @@ use Rattle.digest.specs.Hex.{hex_digits, hex_value, is_hex_digit}
 use Rattle.words.specs.Bytes.{◌at◌}
 use Rattle.words.specs.Codec.{whole_value, ◌>>=◌}
 use Rattle.words.specs.ErrorDigits.{errors_text, errors_read}
-use Rattle.history.specs.Calls.{LogCall, opens, receives, passes, closes, marks, reports, enables, received_most}
+use Rattle.history.specs.Calls.{LogCall, opens, receives, passes, closes, faults, reports, enables, received_most}
 
 abbrev pub figure : ℕ → ℕ
 figure n = code "0" + n
@@ -60,7 +60,7 @@ call_text (opens p r) = placed_text "O" p (hex_digits 8 r)
 call_text (receives p bs) = bytes_text p bs
 call_text (passes n) = code "T" ∷ code " " ∷ digits n
 call_text (closes p) = place_head (code "X") p
-call_text (marks m) = code "F" ∷ code " " ∷ switch_figure m ∷ []
+call_text (faults m) = code "F" ∷ code " " ∷ switch_figure m ∷ []
 call_text (reports ds) = code "E" ∷ code " " ∷ errors_text ds
 call_text (enables k m) = placed_text "M" (k + 1) (switch_figure m ∷ [])
 
@@ -126,7 +126,7 @@ placed_in k (p ∷ b ∷ s) = if p from "0" to "3" && b is " " then call_at k (p
 placed_in k s = None
 
 unfoldable pub fault_in : List ℕ → Option LogCall
-fault_in (m ∷ []) = if m from "0" to "1" then Some (marks (m is "1")) else None
+fault_in (m ∷ []) = if m from "0" to "1" then Some (faults (m is "1")) else None
 fault_in s = None
 
 unfoldable pub lamp_in : List ℕ → Option LogCall

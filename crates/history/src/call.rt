@@ -3,14 +3,14 @@ ghost use Rattle.std.specs.Prelude.{◌≡◌};
 ghost use Rattle.words.specs.ErrorDigits.{is_errors};
 ghost use Rattle.history.specs.Calls.{call_seen, is_sayable};
 
-use words::errors::Errors;
+use words::errors::ErrorStatus;
 
 /// The most bytes that one call of a log receives.
 pub const RECEIVED_MOST: usize = 2046;
 
 /// A call that can change a record. A place is 0 to 3, a lamp 0 to 7.
 #[derive(Clone, Copy)]
-pub enum Call<'a> {
+pub enum RecordedCall<'a> {
     /// A connection opened with this random number, and got this place.
     Opens(u8, u32),
     /// These bytes were received at this place, in one call.
@@ -22,19 +22,19 @@ pub enum Call<'a> {
     /// The fault mark was set, or cleared.
     Fault(bool),
     /// The six error digits were set.
-    Errors(Errors),
+    Errors(ErrorStatus),
     /// A lamp, counted from 0, was enabled, or disabled.
     Mark(u8, bool),
 }
 
-fn are_errors(digits: &Errors) -> bool
+fn are_errors(digits: &ErrorStatus) -> bool
     ensures { result ≡ is_errors digits.now }
 {
     let [fan, lamp, temperature, cover, filter, other] = *digits;
     fan <= 2 && lamp <= 2 && temperature <= 2 && cover <= 2 && filter <= 2 && other <= 2
 }
 
-impl Call<'_> {
+impl RecordedCall<'_> {
     /// Whether a line can say it: the place or lamp exists, at most 2,046 bytes are received, and the error digits are
     /// 0 to 2.
     #[inline(always)]
@@ -42,13 +42,13 @@ impl Call<'_> {
         ensures { result ≡ is_sayable (call_seen self.now) }
     {
         match self {
-            Call::Opens(place, _) => *place <= 3,
-            Call::Receives(place, bytes) => *place <= 3 && bytes.len() <= RECEIVED_MOST,
-            Call::Passes(_) => true,
-            Call::Closes(place) => *place <= 3,
-            Call::Fault(_) => true,
-            Call::Errors(digits) => are_errors(digits),
-            Call::Mark(lamp, _) => *lamp <= 7,
+            RecordedCall::Opens(place, _) => *place <= 3,
+            RecordedCall::Receives(place, bytes) => *place <= 3 && bytes.len() <= RECEIVED_MOST,
+            RecordedCall::Passes(_) => true,
+            RecordedCall::Closes(place) => *place <= 3,
+            RecordedCall::Fault(_) => true,
+            RecordedCall::Errors(digits) => are_errors(digits),
+            RecordedCall::Mark(lamp, _) => *lamp <= 7,
         }
     }
 }

@@ -3,7 +3,7 @@ ghost use Rattle.std.specs.Prelude.{◌≡◌};
 ghost use Rattle.std.specs.List.{list_all};
 ghost use Rattle.history.specs.Entries.{entry_seen, is_sayable_entry, is_visible, is_time};
 
-use crate::call::Call;
+use crate::call::RecordedCall;
 use crate::put;
 
 /// The most characters of a start time.
@@ -40,7 +40,7 @@ pub enum Entry<'a> {
     /// A file begins.
     Header(Header<'a>),
     /// A call was made.
-    Call(Call<'a>),
+    Call(RecordedCall<'a>),
     /// What the record shows.
     Stated(Stated<'a>),
 }
@@ -53,15 +53,16 @@ fn are_visible(s: &[u8]) -> bool
 
 /// Whether a header can have this start time: 1 to 35 characters `!` to `~`.
 #[tactic(auto, unfolding(crate::specs::Entries::is_time))]
-pub fn is_time(t: &[u8]) -> bool
-    ensures { result ≡ is_time t.now }
+pub fn is_time(text: &[u8]) -> bool
+    ensures { result ≡ is_time text.now }
 {
-    1 <= t.len() && t.len() <= TIME_MOST && are_visible(t)
+    1 <= text.len() && text.len() <= TIME_MOST && are_visible(text)
 }
 
 impl Entry<'_> {
     /// Whether a line can say it: a header of a file from 1 on, with a start time that it can have; a call that a line
-    /// can say ([`Call::is_sayable`]); of what a record shows 1 to 128 characters ` ` to `~`, the last of them no
+    /// can say ([`RecordedCall::is_sayable`]); of what a record shows 1 to 128 characters ` ` to `~`, the last of them
+    /// no
     /// space.
     #[inline(always)]
     pub fn is_sayable(&self) -> bool

@@ -31,15 +31,15 @@ fn two(n: u32, hundreds: u32) -> [u8; 2]
     [tens()[i], ones()[i]]
 }
 
-/// Returns the ten lowest digits of `n`, the highest first.
-pub fn ten(n: u32) -> [u8; 10]
-    ensures { result ≡ lowest 10 n }
+/// Returns the ten lowest digits of `number`, the highest first.
+pub fn ten(number: u32) -> [u8; 10]
+    ensures { result ≡ lowest 10 number }
 {
-    let q = n / 100;
+    let q = number / 100;
     let r = q / 100;
     let s = r / 100;
     let t = s / 100;
     let ([a, b], [c, d], [e, f]) = (two(t, 0), two(s, t), two(r, s));
-    let ([g, h], [i, j]) = (two(q, r), two(n, q));
+    let ([g, h], [i, j]) = (two(q, r), two(number, q));
     [a, b, c, d, e, f, g, h, i, j]
 }

@@ -49,15 +49,15 @@ fn are_sixteens(s: &[u8]) -> bool
 
 /// Whether each of these bytes is printable. The last eight or sixteen may be tested over those before them.
 #[inline(always)]
-pub fn are_printable(s: &[u8]) -> bool
-    ensures { result ≡ list_all is_printable s.now }
+pub fn are_printable(bytes: &[u8]) -> bool
+    ensures { result ≡ list_all is_printable bytes.now }
 {
-    let n = s.len();
+    let n = bytes.len();
     if n < 8 {
-        return are_few(s);
+        return are_few(bytes);
     }
     if n < 16 {
-        return are_eight(u8x8::from_slice(s)) & are_eight(u8x8::from_slice(&s[n - 8..]));
+        return are_eight(u8x8::from_slice(bytes)) & are_eight(u8x8::from_slice(&bytes[n - 8..]));
     }
-    are_sixteens(s) & are_sixteen(u8x16::from_slice(&s[n - 16..]))
+    are_sixteens(bytes) & are_sixteen(u8x16::from_slice(&bytes[n - 16..]))
 }

@@ -10,24 +10,24 @@ ghost use Rattle.history.specs.Lines.{switch_figure, call_text};
 ghost use Rattle.history.specs.Recording.{log_line_room};
 ghost use Rattle.history.specs.Entries.{summed_text, time_text, time_seen, entry_seen, entry_text, is_sayable_entry};
 
-use crate::call::Call;
+use crate::call::RecordedCall;
 use crate::entry::Entry;
 use crate::{figures, plain};
-use lent::Writer;
-use words::errors::Errors;
+use lent::MemoryWriter;
+use words::errors::ErrorStatus;
 use words::input;
 
 /// Whether a line can end with these bytes: printable, at least one, and the last of them no space.
 #[tactic(auto, unfolding(crate::specs::Lines::is_plain))]
 #[inline(always)]
-pub fn is_plain(s: &[u8]) -> bool
-    ensures { result ≡ is_plain s.now }
+pub fn is_plain(bytes: &[u8]) -> bool
+    ensures { result ≡ is_plain bytes.now }
 {
-    let n = s.len();
-    if n < 1 || s[n - 1] == b' ' {
+    let n = bytes.len();
+    if n < 1 || bytes[n - 1] == b' ' {
         return false;
     }
-    plain::are_printable(s)
+    plain::are_printable(bytes)
 }
 
 /// Whether the bytes are one line of a controller, which is written as text.
@@ -55,7 +55,7 @@ fn put_hex(out: &mut [u8], at: usize, s: &[u8])
 }
 
 #[inline(always)]
-fn hex(w: &mut Writer<'_>, s: &[u8])
+fn hex(w: &mut MemoryWriter<'_>, s: &[u8])
     requires { w.old.at + 2 * length s.now ≤ length w.old.out.now }
     ensures { Puts w.old w.new (hex_text s.now) }
 {
@@ -64,7 +64,7 @@ fn hex(w: &mut Writer<'_>, s: &[u8])
 }
 
 #[inline(always)]
-fn errors(w: &mut Writer<'_>, digits: &Errors)
+fn errors(w: &mut MemoryWriter<'_>, digits: &ErrorStatus)
     requires short { w.old.at ≤ 4 }
     ensures { Puts w.old w.new (errors_text digits.now) }
 {
@@ -81,7 +81,7 @@ fn errors(w: &mut Writer<'_>, digits: &Errors)
 
 // All digits. Inlined, since the compiler knows where it writes at its callers.
 #[inline(always)]
-fn number(w: &mut Writer<'_>, n: u32)
+fn number(w: &mut MemoryWriter<'_>, n: u32)
     requires short { w.old.at ≤ 100 }
     ensures { Puts w.old w.new (digits n) }
 {
@@ -117,7 +117,7 @@ fn switch_figure(mark: bool) -> u8
 
 // A letter and the number of a place or a lamp.
 #[inline(always)]
-fn head(w: &mut Writer<'_>, letter: u8, place: u8)
+fn head(w: &mut MemoryWriter<'_>, letter: u8, place: u8)
     requires first { w.old.at ≡ 0 }
     requires room { log_line_room ≤ length w.old.out.now }
     requires few { place ≤ 9 }
@@ -128,7 +128,7 @@ fn head(w: &mut Writer<'_>, letter: u8, place: u8)
 
 // The same, and something behind it.
 #[inline(always)]
-fn placed(w: &mut Writer<'_>, letter: u8, place: u8)
+fn placed(w: &mut MemoryWriter<'_>, letter: u8, place: u8)
     requires first { w.old.at ≡ 0 }
     requires room { log_line_room ≤ length w.old.out.now }
     requires few { place ≤ 9 }
@@ -139,7 +139,7 @@ fn placed(w: &mut Writer<'_>, letter: u8, place: u8)
 
 #[tactic(auto, unfolding(crate::specs::Lines::bytes_text), using(crate::proofs::Writing::steps))]
 #[inline(always)]
-fn bytes(w: &mut Writer<'_>, place: u8, bytes: &[u8])
+fn bytes(w: &mut MemoryWriter<'_>, place: u8, bytes: &[u8])
     requires first { w.old.at ≡ 0 }
     requires there { is_place_number place ≡ true }
     requires fits { length bytes.now ≤ received_most }
@@ -162,38 +162,38 @@ fn bytes(w: &mut Writer<'_>, place: u8, bytes: &[u8])
 /// Writes the line of a call, without its LF.
 #[tactic(auto, unfolding(crate::specs::Lines::call_text), using(crate::proofs::Writing::steps))]
 #[inline(always)]
-pub fn call(w: &mut Writer<'_>, call: &Call<'_>)
-    requires first { w.old.at ≡ 0 }
+pub fn call(writer: &mut MemoryWriter<'_>, call: &RecordedCall<'_>)
+    requires first { writer.old.at ≡ 0 }
     requires sayable { is_sayable (call_seen call.now) ≡ true }
-    requires room { log_line_room ≤ length w.old.out.now }
-    ensures { Puts w.old w.new (call_text (call_seen call.now)) }
+    requires room { log_line_room ≤ length writer.old.out.now }
+    ensures { Puts writer.old writer.new (call_text (call_seen call.now)) }
 {
     match call {
-        Call::Opens(place, random) => {
-            placed(w, b'O', *place);
-            w.bytes(&digest::hex8(*random));
+        RecordedCall::Opens(place, random) => {
+            placed(writer, b'O', *place);
+            writer.bytes(&digest::hex8(*random));
         }
-        Call::Receives(place, received) => bytes(w, *place, received),
-        Call::Passes(seconds) => {
-            w.bytes(b"T ");
-            number(w, *seconds);
+        RecordedCall::Receives(place, received) => bytes(writer, *place, received),
+        RecordedCall::Passes(seconds) => {
+            writer.bytes(b"T ");
+            number(writer, *seconds);
         }
-        Call::Closes(place) => head(w, b'X', *place),
-        Call::Fault(mark) => w.bytes(&[b'F', b' ', switch_figure(*mark)]),
-        Call::Errors(digits) => {
-            w.bytes(b"E ");
-            errors(w, digits);
+        RecordedCall::Closes(place) => head(writer, b'X', *place),
+        RecordedCall::Fault(mark) => writer.bytes(&[b'F', b' ', switch_figure(*mark)]),
+        RecordedCall::Errors(digits) => {
+            writer.bytes(b"E ");
+            errors(writer, digits);
         }
-        Call::Mark(lamp, mark) => {
-            placed(w, b'M', *lamp + 1);
-            w.byte(switch_figure(*mark));
+        RecordedCall::Mark(lamp, mark) => {
+            placed(writer, b'M', *lamp + 1);
+            writer.byte(switch_figure(*mark));
         }
     }
 }
 
 // A number, a space, a sum.
 #[tactic(auto, using(crate::proofs::Writing::steps))]
-fn summed(w: &mut Writer<'_>, n: u32, sum: u32)
+fn summed(w: &mut MemoryWriter<'_>, n: u32, sum: u32)
     requires short { w.old.at ≤ 6 }
     ensures written { Puts w.old w.new (summed_text n sum) }
     ensures bound { w.new.at ≤ w.old.at + 19 }
@@ -205,7 +205,7 @@ fn summed(w: &mut Writer<'_>, n: u32, sum: u32)
 
 // A space and the last part of a line.
 #[tactic(auto, using(crate::proofs::Writing::steps))]
-fn ending(w: &mut Writer<'_>, s: &[u8])
+fn ending(w: &mut MemoryWriter<'_>, s: &[u8])
     requires { w.old.at + 1 + length s.now < 2 ^ 64 }
     ensures { Puts w.old w.new (codes " " ++ s.now) }
 {
@@ -213,7 +213,7 @@ fn ending(w: &mut Writer<'_>, s: &[u8])
     w.bytes(s);
 }
 
-fn time(w: &mut Writer<'_>, time: Option<&[u8]>)
+fn time(w: &mut MemoryWriter<'_>, time: Option<&[u8]>)
     requires { w.old.at ≤ 25 }
     ensures { Puts w.old w.new (time_text (time_seen time.entry)) }
 {
@@ -225,23 +225,23 @@ fn time(w: &mut Writer<'_>, time: Option<&[u8]>)
 /// Writes the line of an entry, without its LF.
 #[tactic(auto, unfolding(crate::specs::Entries::entry_text), using(crate::proofs::Writing::steps))]
 #[inline(always)]
-pub fn entry(w: &mut Writer<'_>, entry: &Entry<'_>)
-    requires first { w.old.at ≡ 0 }
+pub fn entry(writer: &mut MemoryWriter<'_>, entry: &Entry<'_>)
+    requires first { writer.old.at ≡ 0 }
     requires sayable { is_sayable_entry (entry_seen entry.now) ≡ true }
-    requires room { log_line_room ≤ length w.old.out.now }
-    ensures { Puts w.old w.new (entry_text (entry_seen entry.now)) }
+    requires room { log_line_room ≤ length writer.old.out.now }
+    ensures { Puts writer.old writer.new (entry_text (entry_seen entry.now)) }
 {
     match entry {
         Entry::Header(header) => {
-            w.bytes(b"LOG 2 ");
-            summed(w, header.file, header.sum);
-            time(w, header.time);
+            writer.bytes(b"LOG 2 ");
+            summed(writer, header.file, header.sum);
+            time(writer, header.time);
         }
-        Entry::Call(made) => call(w, made),
+        Entry::Call(made) => call(writer, made),
         Entry::Stated(stated) => {
-            w.bytes(b"S ");
-            summed(w, stated.lines, stated.sum);
-            ending(w, stated.shown);
+            writer.bytes(b"S ");
+            summed(writer, stated.lines, stated.sum);
+            ending(writer, stated.shown);
         }
     }
 }

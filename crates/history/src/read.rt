@@ -12,12 +12,12 @@ ghost use Rattle.history.specs.Lines.{is_shortest, decimal_in, opening_in, comma
 ghost use Rattle.history.specs.Lines.{errors_in};
 ghost use Rattle.history.specs.Lines.{call_at, call_alone, placed_in, fault_in, lamp_in, kind_in, call_in};
 
-use crate::call::{Call, RECEIVED_MOST};
+use crate::call::{RECEIVED_MOST, RecordedCall};
 use crate::entry::{self, Entry, Header, SHOWN_MOST, Stated};
 use crate::put;
 use arrayvec::ArrayVec;
 use words::codec;
-use words::errors::Errors;
+use words::errors::ErrorStatus;
 
 /// Room for the bytes that a line says were received.
 pub type Bytes = ArrayVec<u8, RECEIVED_MOST>;
@@ -61,24 +61,24 @@ fn decimal_in(s: &[u8]) -> Option<u32>
 }
 
 #[tactic(auto, unfolding(crate::specs::Lines::opening_in))]
-fn opening_in(place: u8, s: &[u8]) -> Option<Call<'_>>
+fn opening_in(place: u8, s: &[u8]) -> Option<RecordedCall<'_>>
     ensures { option_map call_seen result ≡ opening_in place s.now }
 {
     if s.len() == 8 && are_hex_digits(s) {
-        return Some(Call::Opens(place, digest::hex_value(s)));
+        return Some(RecordedCall::Opens(place, digest::hex_value(s)));
     }
     None
 }
 
 #[tactic(auto, unfolding(crate::specs::Lines::command_in))]
-fn command_in<'a>(place: u8, s: &[u8], room: &'a mut Bytes) -> Option<Call<'a>>
+fn command_in<'a>(place: u8, s: &[u8], room: &'a mut Bytes) -> Option<RecordedCall<'a>>
     requires { room.old.items ≡ [] }
     ensures { option_map call_seen result ≡ command_in place s.now }
 {
     if s.len() < RECEIVED_MOST && put::is_plain(s) {
         room.try_extend_from_slice(s).unwrap();
         room.push(b'\r');
-        return Some(Call::Receives(place, room.as_slice()));
+        return Some(RecordedCall::Receives(place, room.as_slice()));
     }
     None
 }
@@ -101,35 +101,35 @@ fn put_bytes(s: &[u8], room: &mut Bytes)
 }
 
 #[tactic(auto, unfolding(crate::specs::Lines::hex_in))]
-fn hex_in<'a>(place: u8, s: &[u8], room: &'a mut Bytes) -> Option<Call<'a>>
+fn hex_in<'a>(place: u8, s: &[u8], room: &'a mut Bytes) -> Option<RecordedCall<'a>>
     requires { room.old.items ≡ [] }
     ensures { option_map call_seen result ≡ hex_in place s.now }
 {
     if 2 <= s.len() && s.len() <= 2 * RECEIVED_MOST && s.len() % 2 == 0 && are_hex_digits(s) {
         put_bytes(s, room);
         if !put::is_command_line(room.as_slice()) {
-            return Some(Call::Receives(place, room.as_slice()));
+            return Some(RecordedCall::Receives(place, room.as_slice()));
         }
     }
     None
 }
 
 #[tactic(auto, unfolding(crate::specs::Lines::passing_in))]
-fn passing_in(s: &[u8]) -> Option<Call<'_>>
+fn passing_in(s: &[u8]) -> Option<RecordedCall<'_>>
     ensures { option_map call_seen result ≡ passing_in s.now }
 {
     match decimal_in(s) {
-        Some(seconds) => Some(Call::Passes(seconds)),
+        Some(seconds) => Some(RecordedCall::Passes(seconds)),
         None => None,
     }
 }
 
 #[tactic(auto, unfolding(crate::specs::Lines::errors_in))]
-fn errors_in(s: &[u8]) -> Option<Call<'_>>
+fn errors_in(s: &[u8]) -> Option<RecordedCall<'_>>
     ensures { option_map call_seen result ≡ errors_in s.now }
 {
-    match codec::parse::<Errors>(s) {
-        Some(digits) => Some(Call::Errors(digits)),
+    match codec::parse::<ErrorStatus>(s) {
+        Some(digits) => Some(RecordedCall::Errors(digits)),
         None => None,
     }
 }
@@ -153,7 +153,7 @@ fn is_switch(b: u8) -> bool
 }
 
 #[tactic(auto, unfolding(crate::specs::Lines::call_at))]
-fn call_at<'a>(letter: u8, place: u8, s: &'a [u8], room: &'a mut Bytes) -> Option<Call<'a>>
+fn call_at<'a>(letter: u8, place: u8, s: &'a [u8], room: &'a mut Bytes) -> Option<RecordedCall<'a>>
     requires { room.old.items ≡ [] }
     ensures { option_map call_seen result ≡ call_at letter place s.now }
 {
@@ -166,18 +166,18 @@ fn call_at<'a>(letter: u8, place: u8, s: &'a [u8], room: &'a mut Bytes) -> Optio
 }
 
 #[tactic(auto, unfolding(crate::specs::Lines::call_alone))]
-fn call_alone<'a>(letter: u8, place: u8) -> Option<Call<'a>>
+fn call_alone<'a>(letter: u8, place: u8) -> Option<RecordedCall<'a>>
     ensures { option_map call_seen result ≡ call_alone letter place }
 {
     match letter {
-        b'X' => Some(Call::Closes(place)),
-        b'B' => Some(Call::Receives(place, &[])),
+        b'X' => Some(RecordedCall::Closes(place)),
+        b'B' => Some(RecordedCall::Receives(place, &[])),
         _ => None,
     }
 }
 
 #[tactic(auto, unfolding(crate::specs::Lines::placed_in))]
-fn placed_in<'a>(letter: u8, s: &'a [u8], room: &'a mut Bytes) -> Option<Call<'a>>
+fn placed_in<'a>(letter: u8, s: &'a [u8], room: &'a mut Bytes) -> Option<RecordedCall<'a>>
     requires { room.old.items ≡ [] }
     ensures { option_map call_seen result ≡ placed_in letter s.now }
 {
@@ -189,21 +189,21 @@ fn placed_in<'a>(letter: u8, s: &'a [u8], room: &'a mut Bytes) -> Option<Call<'a
 }
 
 #[tactic(auto, unfolding(crate::specs::Lines::fault_in))]
-fn fault_in(s: &[u8]) -> Option<Call<'_>>
+fn fault_in(s: &[u8]) -> Option<RecordedCall<'_>>
     ensures { option_map call_seen result ≡ fault_in s.now }
 {
     match s {
-        [mark] if is_switch(*mark) => Some(Call::Fault(*mark == b'1')),
+        [mark] if is_switch(*mark) => Some(RecordedCall::Fault(*mark == b'1')),
         _ => None,
     }
 }
 
 #[tactic(auto, unfolding(crate::specs::Lines::lamp_in))]
-fn lamp_in(s: &[u8]) -> Option<Call<'_>>
+fn lamp_in(s: &[u8]) -> Option<RecordedCall<'_>>
     ensures { option_map call_seen result ≡ lamp_in s.now }
 {
     match s {
-        [lamp, b' ', mark] if is_lamp(*lamp) && is_switch(*mark) => Some(Call::Mark(
+        [lamp, b' ', mark] if is_lamp(*lamp) && is_switch(*mark) => Some(RecordedCall::Mark(
             *lamp - b'1',
             *mark == b'1',
         )),
@@ -212,7 +212,7 @@ fn lamp_in(s: &[u8]) -> Option<Call<'_>>
 }
 
 #[tactic(auto, unfolding(crate::specs::Lines::kind_in))]
-fn kind_in<'a>(letter: u8, s: &'a [u8], room: &'a mut Bytes) -> Option<Call<'a>>
+fn kind_in<'a>(letter: u8, s: &'a [u8], room: &'a mut Bytes) -> Option<RecordedCall<'a>>
     requires { room.old.items ≡ [] }
     ensures { option_map call_seen result ≡ kind_in letter s.now }
 {
@@ -227,7 +227,7 @@ fn kind_in<'a>(letter: u8, s: &'a [u8], room: &'a mut Bytes) -> Option<Call<'a>>
 
 // The call of a line. The bytes that it says were received lie in the room.
 #[tactic(auto, unfolding(crate::specs::Lines::call_in))]
-fn call_in<'a>(line: &'a [u8], room: &'a mut Bytes) -> Option<Call<'a>>
+fn call_in<'a>(line: &'a [u8], room: &'a mut Bytes) -> Option<RecordedCall<'a>>
     requires { room.old.items ≡ [] }
     ensures { option_map call_seen result ≡ call_in line.now }
 {

@@ -14,16 +14,16 @@ ghost use Rattle.history.specs.Recording.{recorded_by, recorder_after, header_ne
 ghost use Rattle.history.specs.Recording.{stated_next, stated_by, stated_after};
 ghost use Rattle.history.specs.Shown.{device_shown};
 
-use crate::call::Call;
+use crate::call::RecordedCall;
 use crate::entry::{Entry, Header, SHOWN_MOST, Stated};
 use crate::{put, shown};
 use arrayvec::ArrayVec;
-use lent::Writer;
+use lent::MemoryWriter;
 use record::refusal::Refusal;
 use record::types::Device;
 
 /// The memory that any line fits in, its LF included, in bytes.
-pub const LINE_ROOM: usize = 4097;
+pub const LOG_LINE_ROOM: usize = 4097;
 
 /// The state from line to line: plain numbers, which a host may keep anywhere.
 #[repr(C)]
@@ -46,7 +46,7 @@ fn put_line(entry: &Entry<'_>, out: &mut [u8]) -> usize
     ensures count { result ≡ length (entry_line (entry_seen entry.now)) }
     ensures written { out.new ≡ over (entry_line (entry_seen entry.now)) out.old }
 {
-    let mut writer = Writer::new(out);
+    let mut writer = MemoryWriter::new(out);
     put::entry(&mut writer, entry);
     writer.byte(b'\n');
     writer.count()
@@ -113,7 +113,7 @@ impl Recorder {
         ensures memory { out.new ≡ over (recorded_by self.old (entry_seen entry.now) (length out.old)).bytes out.old }
         ensures kept { self.new ≡ recorder_after self.old (entry_seen entry.now) (length out.old) }
     {
-        if out.len() < LINE_ROOM {
+        if out.len() < LOG_LINE_ROOM {
             return Err(Refusal::NoRoom);
         }
         if !entry.is_sayable() {
@@ -140,7 +140,7 @@ impl Recorder {
         ensures kept { self.new
             ≡ recorder_after self.old (header_next self.old (time_seen time.entry)) (length out.old) }
     {
-        if out.len() < LINE_ROOM {
+        if out.len() < LOG_LINE_ROOM {
             return Err(Refusal::NoRoom);
         }
         if self.file == u32::MAX {
@@ -156,9 +156,10 @@ impl Recorder {
 
     /// Records a call. Returns the length of its line, which fills the start of `out`; the rest of `out` stays. Errors,
     /// in this order, with which the recorder and all of `out` stay: `NoRoom` under 4,097 bytes; `OutOfRange` for a
-    /// call that no line can say ([`Call::is_sayable`]), before the first file, and past 4,294,967,295 lines of a file.
+    /// call that no line can say ([`RecordedCall::is_sayable`]), before the first file, and past 4,294,967,295 lines
+    /// of a file.
     #[inline(always)]
-    pub fn call(&mut self, made: &Call<'_>, out: &mut [u8]) -> Result<usize, Refusal>
+    pub fn call(&mut self, made: &RecordedCall<'_>, out: &mut [u8]) -> Result<usize, Refusal>
         ensures told { written_told refusal_number result
             ≡ told_written (recorded_by self.old (call (call_seen made.now)) (length out.old)) }
         ensures memory { out.new

@@ -21,13 +21,16 @@ fn put_lamps<const N: usize>(lamps: &[u32], out: &mut ArrayVec<u8, N>)
 
 /// Writes what a device shows, as in the last line of `replay` and in a stated line: `power 1 lamps 3600`.
 #[tactic(auto, using(crate::proofs::ShownFits::shown_lengths))]
-pub fn put_shown<const N: usize>(d: &Device, out: &mut ArrayVec<u8, N>)
+pub fn put_shown<const N: usize>(device: &Device, out: &mut ArrayVec<u8, N>)
     requires { array_vec_len out.old + device_shown_most ≤ N }
-    ensures shown { out.new.items ≡ out.old.items ++ device_shown d.now }
+    ensures shown { out.new.items ≡ out.old.items ++ device_shown device.now }
     ensures bound { array_vec_len out.new ≤ array_vec_len out.old + device_shown_most }
 {
     out.try_extend_from_slice(b"power ").unwrap();
-    numbers::put_number(d.own.power as u32, out);
+    numbers::put_number(device.own.power as u32, out);
     out.try_extend_from_slice(b" lamps").unwrap();
-    put_lamps(rooms::first(&d.own.lamps, d.settings.lamp_count), out);
+    put_lamps(
+        rooms::first(&device.own.lamps, device.settings.lamp_count),
+        out,
+    );
 }

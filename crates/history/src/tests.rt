@@ -1,7 +1,7 @@
 // Lines as a reader of the log sees them, with sums that another program gave (zlib).
-use crate::call::Call;
+use crate::call::RecordedCall;
 use crate::read::{self, Bytes};
-use crate::recorder::{LINE_ROOM, Recorder};
+use crate::recorder::{LOG_LINE_ROOM, Recorder};
 
 fn is_line(written: Option<usize>, memory: &[u8], line: &[u8]) -> bool {
     match written {
@@ -10,8 +10,8 @@ fn is_line(written: Option<usize>, memory: &[u8], line: &[u8]) -> bool {
     }
 }
 
-fn records(recorder: &mut Recorder, call: &Call<'_>, line: &[u8]) -> bool {
-    let mut memory = [0u8; LINE_ROOM];
+fn records(recorder: &mut Recorder, call: &RecordedCall<'_>, line: &[u8]) -> bool {
+    let mut memory = [0u8; LOG_LINE_ROOM];
     let written = recorder.call(call, &mut memory).ok();
     is_line(written, &memory, line)
 }
@@ -23,40 +23,52 @@ fn says_something(line: &[u8]) -> bool {
 
 #[test]
 fn recorded_lines(rt: HostRuntime) {
-    let mut memory = [0u8; LINE_ROOM];
+    let mut memory = [0u8; LOG_LINE_ROOM];
     // the sum of the form is the check value
     let mut log = Recorder::new(b"123456789");
     let header = log.file(Some(b"2026-11-27T05:45:09Z"), &mut memory).ok();
     assert!(rt; is_line(header, &memory, b"LOG 2 1 cbf43926 2026-11-27T05:45:09Z\n"));
-    assert!(rt; records(&mut log, &Call::Opens(2, 0x0a1b2c3d), b"O 2 0a1b2c3d\n"));
     assert!(rt;
         records(
             &mut log,
-            &Call::Receives(2, b"%1POWR 1\r"),
+            &RecordedCall::Opens(2, 0x0a1b2c3d),
+            b"O 2 0a1b2c3d\n"
+        )
+    );
+    assert!(rt;
+        records(
+            &mut log,
+            &RecordedCall::Receives(2, b"%1POWR 1\r"),
             b"R 2 %1POWR 1\n"
         )
     );
     assert!(rt;
         records(
             &mut log,
-            &Call::Receives(2, b"%1POWR 1"),
+            &RecordedCall::Receives(2, b"%1POWR 1"),
             b"B 2 2531504f57522031\n"
         )
     );
     assert!(rt;
         records(
             &mut log,
-            &Call::Receives(2, b"%1POWR \r"),
+            &RecordedCall::Receives(2, b"%1POWR \r"),
             b"B 2 2531504f5752200d\n"
         )
     );
-    assert!(rt; records(&mut log, &Call::Receives(3, b""), b"B 3\n"));
-    assert!(rt; records(&mut log, &Call::Receives(0, b"\r"), b"B 0 0d\n"));
-    assert!(rt; records(&mut log, &Call::Passes(60), b"T 60\n"));
-    assert!(rt; records(&mut log, &Call::Closes(2), b"X 2\n"));
-    assert!(rt; records(&mut log, &Call::Fault(true), b"F 1\n"));
-    assert!(rt; records(&mut log, &Call::Errors([0, 1, 2, 0, 0, 0]), b"E 012000\n"));
-    assert!(rt; records(&mut log, &Call::Mark(1, false), b"M 2 0\n"));
+    assert!(rt; records(&mut log, &RecordedCall::Receives(3, b""), b"B 3\n"));
+    assert!(rt; records(&mut log, &RecordedCall::Receives(0, b"\r"), b"B 0 0d\n"));
+    assert!(rt; records(&mut log, &RecordedCall::Passes(60), b"T 60\n"));
+    assert!(rt; records(&mut log, &RecordedCall::Closes(2), b"X 2\n"));
+    assert!(rt; records(&mut log, &RecordedCall::Fault(true), b"F 1\n"));
+    assert!(rt;
+        records(
+            &mut log,
+            &RecordedCall::Errors([0, 1, 2, 0, 0, 0]),
+            b"E 012000\n"
+        )
+    );
+    assert!(rt; records(&mut log, &RecordedCall::Mark(1, false), b"M 2 0\n"));
     let stated = log.stated(&record::fresh::blank(), &mut memory).ok();
     assert!(rt; stated.is_none());
     assert!(rt; log.lines == 11);
@@ -66,17 +78,17 @@ fn recorded_lines(rt: HostRuntime) {
 }
 
 fn can_receive(bytes: &[u8]) -> bool {
-    Call::Receives(0, bytes).is_sayable()
+    RecordedCall::Receives(0, bytes).is_sayable()
 }
 
 #[test]
 fn unsayable_calls(rt: HostRuntime) {
     let long = [b'a'; 2047];
-    assert!(rt; !Call::Opens(4, 0).is_sayable());
+    assert!(rt; !RecordedCall::Opens(4, 0).is_sayable());
     assert!(rt; !can_receive(&long));
     assert!(rt; can_receive(&long[1..]));
-    assert!(rt; !Call::Errors([0, 3, 0, 0, 0, 0]).is_sayable());
-    assert!(rt; !Call::Mark(8, true).is_sayable());
+    assert!(rt; !RecordedCall::Errors([0, 3, 0, 0, 0, 0]).is_sayable());
+    assert!(rt; !RecordedCall::Mark(8, true).is_sayable());
 }
 
 #[test]

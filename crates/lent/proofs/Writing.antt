@@ -7,7 +7,7 @@ use Rattle.std.proofs.lemmas.List.Edits.{sets}
 use Rattle.text.specs.Words.{over}
 use Rattle.text.proofs.Stores.{sets_then, sets_over}
 use Rattle.lent.specs.Puts.{Puts}
-use Rattle.lent.specs.declared.Writer.{Writer}
+use Rattle.lent.specs.declared.MemoryWriter.{MemoryWriter}
 
 -- ---- past the end of the memory
 
@@ -22,7 +22,7 @@ sets_fit (x ∷ s) l i (suc n) h = grind (arith, sets_fit s (set l i x) (suc i) 
 
 -- ---- one after the other
 
-module _ {a b c : Writer} {s t : List ℕ} where
+module _ {a b c : MemoryWriter} {s t : List ℕ} where
   pub puts_as : {u : List ℕ} → u ≡ s ++ t → Puts a b s → Puts b c t → Puts a c u
   puts_as e p q = grind (arith, sets_then, length-append)
 
@@ -30,7 +30,7 @@ module _ {a b c : Writer} {s t : List ℕ} where
   puts_then = puts_as refl
 
 -- none
-pub puts_none : (w : Writer) → Puts w w []
+pub puts_none : (w : MemoryWriter) → Puts w w []
 puts_none w = record { lent = refl; memory = refl; count = omega arith }
 
 -- ---- all that is written

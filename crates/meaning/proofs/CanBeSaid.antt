@@ -7,7 +7,7 @@ use Rattle.std.proofs.Common.{length, slice_index_or, take, leb-true, le-leb, Op
 use Rattle.std.proofs.lemmas.Bool.{false≢true}
 use Rattle.std.proofs.Math.Bool.{or-true}
 use Rattle.text.proofs.Scanning.{list_all_by_place}
-use Rattle.words.specs.Bytes.{no_cr}
+use Rattle.words.specs.Bytes.{is_cr_free}
 use Rattle.words.specs.Inputs.{is_input}
 use Rattle.pjlink.specs.declared.body.Body.{Body}
 use Rattle.pjlink.specs.declared.body.AnswerKind.TheVariants as kind
@@ -33,12 +33,12 @@ use Rattle.record.specs.Legal.{is_settings, is_own}
 use Rattle.record.specs.declared.types.Settings.{Settings}
 use Rattle.record.specs.declared.types.Own.{Own}
 use Rattle.record.proofs.Kept.{kept_length}
-use Rattle.record.proofs.Rules.{errors_long, list_all-at_most, lamps_within}
+use Rattle.record.proofs.Rules.{errors_long, list_all-is_at_most, lamps_within}
 use Rattle.record.proofs.SettingsTold.{input_count_low, input_count_high, input_at, serial_told, version_told}
 use Rattle.record.proofs.NamesTold.{name_kept}
 use Rattle.record.specs.Facts.{IsOwn, IsSettings}
 use Rattle.record.proofs.FactsTold.{own_is, settings_is}
-use Rattle.meaning.specs.SetUpInputs.{no_input, pairs_of, inputs_of, place_of}
+use Rattle.meaning.specs.SetUpInputs.{no_input, pairs_of, inputs_of, listed_index}
 use Rattle.meaning.specs.Rules.{is_undefined, is_unlisted}
 use Rattle.meaning.proofs.LampsSaid.{length-lamps_said, list_all-lamps_said}
 use Rattle.meaning.specs.Meaning.{chosen_of, lamp_said, lamps_of, query_answer, table_answer, request_answer}
@@ -49,7 +49,7 @@ use Rattle.meaning.proofs.Cases.{Passes, meant_by}
 
 pub record Fits (m : Said) : Type 0 where
   pub short : length (said_bytes m) ≤ said_most
-  pub has_no_cr : no_cr (said_bytes m) ≡ true
+  pub has_no_cr : is_cr_free (said_bytes m) ≡ true
 
 fits : {c : Command} {m : Said} → CanSay c m → Fits m
 fits w = record { short = said_within_most w; has_no_cr = (said_plain w).1 }
@@ -119,7 +119,7 @@ module _ (s : Settings) (o : Own) (settings : is_settings s ≡ true) (own : is_
       (lamps_within _ kept.lamps.follows))
 
   errors_fit : IsOfKind kind.Errors (errors_are o.errors)
-  errors_fit = errors o.errors (errors_long _ kept.errors) (list_all-at_most _ kept.errors)
+  errors_fit = errors o.errors (errors_long _ kept.errors) (list_all-is_at_most _ kept.errors)
 
   -- the value of each body is one of its kind
   is_of_kind : (b : Body) → is_undefined s (Ok (Query b)) ≡ false → IsOfKind (kind_of b) (query_answer s o b)
@@ -151,7 +151,7 @@ module _ (s : Settings) (o : Own) (settings : is_settings s ≡ true) (own : is_
   told_can_be_said (FreezeSet wanted) e = done refl
   told_can_be_said (VolumeStep v up) e = done refl
   told_can_be_said (NameQuery i) e =
-      tells refl (text rule.InputName _ (name_kept _ s.names set_up.names (place_of s i)).follows)
+      tells refl (text rule.InputName _ (name_kept _ s.names set_up.names (listed_index s i)).follows)
   told_can_be_said (Query b) e = tells refl (is_of_kind b e)
 
   pub meant_can_be_said : (c : Command) → CanSay c (answer_for s o (Ok c))

@@ -4,10 +4,10 @@ use Rattle.std.proofs.Common.{ℕ, zero, suc, ◌+◌, ◌*◌, ◌<◌, ◌≡�
 use Rattle.std.proofs.Common.{◌/◌, ◌≤◌, map, slice_index_or, take, length-take, get_or-take, if◌then◌else◌, nat_lt}
 use Rattle.std.specs.Simd.{first_chunks}
 use Rattle.text.proofs.Choices.{if_by}
-use Rattle.words.specs.Sources.{same_input}
+use Rattle.words.specs.Sources.{is_same_input}
 use Rattle.words.specs.declared.input.Input.{Input}
 use Rattle.words.proofs.SourcesFollowed.{same_input_is_one}
-use Rattle.meaning.specs.SetUpInputs.{input_of_pair, pair_input, inputs_of_pairs, place_in}
+use Rattle.meaning.specs.SetUpInputs.{input_of_pair, pair_input, inputs_of_pairs, index_in}
 
 -- by pairs as std cuts them
 map-first_chunks : (k : ℕ) (l : List ℕ) → 2 * k ≤ length l → length l < 2 * k + 2
@@ -68,12 +68,12 @@ module _ (l : List ℕ) (count k : ℕ) (h : k < count) (room : 2 * k + 1 < leng
   input_in_use d = grind (arith, get_or-take, input_at_place, length-take)
 
 -- the input at the place that is found is the one sought
-pub found_at_place : (i d : Input) (is : List Input) → place_in i is < length is →
-    slice_index_or is (place_in i is) d ≡ i
-unfolding place_in
+pub found_at_place : (i d : Input) (is : List Input) → index_in i is < length is →
+    slice_index_or is (index_in i is) d ≡ i
+unfolding index_in
 found_at_place i d [] = λ h. absurd (omega arith)
 found_at_place i d (x ∷ is) =
-    if_by (λ (k : ℕ). k < length (x ∷ is) → slice_index_or (x ∷ is) k d ≡ i) (same_input x i)
+    if_by (λ (k : ℕ). k < length (x ∷ is) → slice_index_or (x ∷ is) k d ≡ i) (is_same_input x i)
     (λ e h. same_input_is_one x i e)
     (λ e h. found_at_place i d is (omega arith))
 

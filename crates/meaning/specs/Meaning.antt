@@ -25,8 +25,8 @@ use Rattle.pjlink.specs.declared.command.Command.TheVariants.{FreezeSet, VolumeS
 use Rattle.pjlink.specs.Requests.{Request}
 use Rattle.pjlink.specs.Said.{Said, okay, refused, power_is, chosen_is, mutes_are, errors_are, lamps_are, inputs_are}
 use Rattle.pjlink.specs.Said.{text_is, class_is, freeze_is, nothing}
-use Rattle.words.specs.declared.power.Power.{Power}
-use Rattle.words.specs.declared.power.Power.TheVariants.{Off, On, Cooling, WarmUp}
+use Rattle.words.specs.declared.power.PowerStatus.{PowerStatus}
+use Rattle.words.specs.declared.power.PowerStatus.TheVariants.{Off, On, Cooling, WarmUp}
 use Rattle.words.specs.declared.lamp.LampHours.{LampHours}
 use Rattle.record.specs.Limits.{off, on, cooling, warming, is_lit, volume_most}
 use Rattle.record.specs.Updates.{with_power_left, with_chosen, with_mutes, with_freeze, with_volumes}
@@ -40,11 +40,11 @@ use Rattle.record.specs.declared.types.Text.{Text}
 use Rattle.record.specs.declared.types.InputName.{InputName}
 use Rattle.record.specs.declared.types.Settings.{Settings}
 use Rattle.record.specs.declared.types.Own.{Own}
-use Rattle.meaning.specs.SetUpInputs.{no_input, inputs_of, place_of}
+use Rattle.meaning.specs.SetUpInputs.{no_input, inputs_of, listed_index}
 use Rattle.meaning.specs.Rules.{is_undefined, is_out_of_parameter, is_failure, is_unavailable}
 
 -- in PJLink's words: 0 off, 1 on, 2 cooling, 3 warm-up
-abbrev pub power_said : PowerSeen → Power
+abbrev pub power_said : PowerSeen → PowerStatus
 power_said SeenOff = Off
 power_said (SeenWarmUp left) = WarmUp
 power_said SeenOn = On
@@ -77,7 +77,7 @@ abbrev pub name_bytes : InputName → List ℕ
 name_bytes n = take n.len n.bytes
 
 abbrev pub input_name_of : Settings → Input → List ℕ
-input_name_of s i = name_bytes (slice_index_or s.names (place_of s i) blank_name)
+input_name_of s i = name_bytes (slice_index_or s.names (listed_index s i) blank_name)
 
 -- a body without a query is never asked one (Rules, `is_no_query`)
 abbrev pub query_answer : Settings → Own → Body → Said
@@ -132,7 +132,7 @@ after_step o Microphone up = with_volumes o o.speaker (level_after up o.micropho
 
 abbrev pub after_command : Settings → Own → Command → Own
 after_command s o (PowerSet wanted) = after_power s o wanted
-after_command s o (InputSet k i) = with_chosen o (place_of s i)
+after_command s o (InputSet k i) = with_chosen o (listed_index s i)
 after_command s o (MuteSet half wanted) = after_mute o half wanted
 after_command s o (Query b) = o
 after_command s o (FreezeSet wanted) = with_freeze o (flag_of wanted)

@@ -5,13 +5,13 @@
 --   pair_input p         the same of a pair as it lies there
 --   inputs_of_pairs cs   the inputs of pairs, in their order
 --   inputs_of s          the inputs in set-up order
---   place_in i is        the first place of the input i among the inputs is; where there is none, their number
---   place_of s i         the place of the input i
+--   index_in i is        the first place of the input i among the inputs is; where there is none, their number
+--   listed_index s i         the place of the input i
 --   is_listed s i        the input i is in the set-up
 -- Assumes nothing.
 use Rattle.std.specs.Prelude.{ℕ, suc, ◌*◌, Bool, List, [], ◌∷◌, take, unwrap_or, if◌then◌else◌}
 use Rattle.std.specs.Prelude.{slice_index_or, nat_lt}
-use Rattle.words.specs.Sources.{same_input, input_for}
+use Rattle.words.specs.Sources.{is_same_input, input_for}
 use Rattle.words.specs.declared.input.Source.TheVariants.{Rgb}
 use Rattle.words.specs.declared.input.Input.{Input}
 use Rattle.record.specs.declared.types.Settings.{Settings}
@@ -36,12 +36,12 @@ inputs_of_pairs (a ∷ b ∷ cs) = input_of_pair a b ∷ inputs_of_pairs cs
 abbrev pub inputs_of : Settings → List Input
 inputs_of s = inputs_of_pairs (pairs_of s)
 
-unfoldable pub place_in : Input → List Input → ℕ
-place_in i [] = 0
-place_in i (x ∷ xs) = if same_input x i then 0 else suc (place_in i xs)
+unfoldable pub index_in : Input → List Input → ℕ
+index_in i [] = 0
+index_in i (x ∷ xs) = if is_same_input x i then 0 else suc (index_in i xs)
 
-abbrev pub place_of : Settings → Input → ℕ
-place_of s i = place_in i (inputs_of s)
+abbrev pub listed_index : Settings → Input → ℕ
+listed_index s i = index_in i (inputs_of s)
 
 abbrev pub is_listed : Settings → Input → Bool
-is_listed s i = nat_lt (place_of s i) s.input_count
+is_listed s i = nat_lt (listed_index s i) s.input_count

@@ -62,15 +62,15 @@ fn set_level(o: &mut Own, v: Volume, up: bool)
 }
 
 /// The own part as the command leaves it; a query changes nothing.
-pub fn carry_out(s: &Settings, o: &mut Own, c: Command)
-    ensures { o.new ≡ after_command s.now o.old c }
+pub fn carry_out(settings: &Settings, own: &mut Own, command: Command)
+    ensures { own.new ≡ after_command settings.now own.old command }
 {
-    match c {
-        Command::PowerSet(wanted) => set_power(s, o, wanted),
-        Command::InputSet(_, i) => o.chosen = inputs::place_of(s, i),
-        Command::MuteSet(half, wanted) => mute(o, half, wanted),
-        Command::FreezeSet(wanted) => o.frozen = flag::of(wanted),
-        Command::VolumeStep(v, up) => set_level(o, v, up),
+    match command {
+        Command::PowerSet(wanted) => set_power(settings, own, wanted),
+        Command::InputSet(_, i) => own.chosen = inputs::listed_index(settings, i),
+        Command::MuteSet(half, wanted) => mute(own, half, wanted),
+        Command::FreezeSet(wanted) => own.frozen = flag::of(wanted),
+        Command::VolumeStep(v, up) => set_level(own, v, up),
         Command::Query(_) | Command::NameQuery(_) => (),
     }
 }

@@ -1,14 +1,14 @@
 //! The inputs of a set-up, which keeps them as pairs of characters (RULES, The legal record).
 ghost use Rattle.std.specs.Prelude.{◌≡◌, ◌≤◌, length, map, slice_index_or};
-ghost use Rattle.words.specs.Sources.{same_input};
+ghost use Rattle.words.specs.Sources.{is_same_input};
 ghost use Rattle.meaning.specs.SetUpInputs.{no_input, input_of_pair, pair_input, inputs_of};
-ghost use Rattle.meaning.specs.SetUpInputs.{place_of, is_listed};
+ghost use Rattle.meaning.specs.SetUpInputs.{listed_index, is_listed};
 
 use arrayvec::ArrayVec;
-use record::types::{INPUTS_MOST, Settings};
+use record::types::Settings;
 use text::rooms;
 use words::input;
-use words::input::{Input, Source};
+use words::input::{INPUTS_MOST, Input, Source};
 
 const NO_INPUT: Input = Input {
     source: Source::Rgb,
@@ -23,8 +23,8 @@ fn input_of_pair(a: u8, b: u8) -> Input
     input::read_input(a, b).unwrap_or(NO_INPUT)
 }
 
-fn same_input(i: Input, j: Input) -> bool
-    ensures { result ≡ same_input i j }
+fn is_same_input(i: Input, j: Input) -> bool
+    ensures { result ≡ is_same_input i j }
 {
     input::source_digit(i.source) == input::source_digit(j.source) && i.number == j.number
 }
@@ -40,11 +40,11 @@ fn pairs_of(s: &Settings) -> &[[u8; 2]]
 }
 
 /// The inputs, in set-up order.
-pub fn inputs_of(s: &Settings) -> ArrayVec<Input, INPUTS_MOST>
-    ensures { result.items ≡ inputs_of s.now }
+pub fn inputs_of(settings: &Settings) -> ArrayVec<Input, INPUTS_MOST>
+    ensures { result.items ≡ inputs_of settings.now }
 {
     let mut inputs = ArrayVec::new();
-    let pairs = pairs_of(s);
+    let pairs = pairs_of(settings);
     for [a, b] in pairs {
         inputs.push(input_of_pair(*a, *b));
     }
@@ -52,29 +52,29 @@ pub fn inputs_of(s: &Settings) -> ArrayVec<Input, INPUTS_MOST>
 }
 
 /// The first place of the input; where there is none, how many inputs there are.
-pub fn place_of(s: &Settings, i: Input) -> usize
-    ensures { result ≡ place_of s.now i }
+pub fn listed_index(settings: &Settings, input: Input) -> usize
+    ensures { result ≡ listed_index settings.now input }
 {
-    let pairs = pairs_of(s);
+    let pairs = pairs_of(settings);
     pairs
         .iter()
-        .position(|[a, b]| same_input(input_of_pair(*a, *b), i))
+        .position(|[a, b]| is_same_input(input_of_pair(*a, *b), input))
         .unwrap_or(pairs.len())
 }
 
 /// Whether the input is in the set-up.
-pub fn is_listed(s: &Settings, i: Input) -> bool
-    ensures { result ≡ is_listed s.now i }
+pub fn is_listed(settings: &Settings, input: Input) -> bool
+    ensures { result ≡ is_listed settings.now input }
 {
-    place_of(s, i) < s.input_count
+    listed_index(settings, input) < settings.input_count
 }
 
 /// The input at a place; past them none.
 #[tactic(auto, using(crate::proofs::InputsByPlace::paired_at))]
-pub fn input_at(s: &Settings, place: usize) -> Input
-    ensures { result ≡ slice_index_or (inputs_of s.now) place no_input }
+pub fn input_at(settings: &Settings, place: usize) -> Input
+    ensures { result ≡ slice_index_or (inputs_of settings.now) place no_input }
 {
-    match pairs_of(s).get(place) {
+    match pairs_of(settings).get(place) {
         Some([a, b]) => input_of_pair(*a, *b),
         None => NO_INPUT,
     }

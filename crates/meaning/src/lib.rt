@@ -15,7 +15,7 @@ use pjlink::answer::Reply;
 use pjlink::command::Command;
 use pjlink::request::Unasked;
 use record::types::{Own, Settings};
-use words::refusal::Refusal;
+use words::error_reply::ErrorReply;
 
 // A command: the first rule that applies refuses it; else it is answered, and then carried out.
 #[tactic(auto, unfolding(crate::specs::Meaning::answer_for, crate::specs::Meaning::after_request))]
@@ -24,20 +24,20 @@ fn answer<'a>(s: &'a Settings, o: &mut Own, c: Command) -> Reply<'a>
     ensures own { o.new ≡ after_request s.now o.old (Ok c) }
 {
     if rules::is_undefined(s, c) {
-        return Err(Refusal::Undefined);
+        return Err(ErrorReply::Undefined);
     }
     if rules::is_out_of_parameter(s, c) {
-        return Err(Refusal::OutOfParameter);
+        return Err(ErrorReply::OutOfParameter);
     }
     if rules::is_failure(o, c) {
-        return Err(Refusal::Failure);
+        return Err(ErrorReply::Failure);
     }
     if rules::is_unavailable(o, c) {
-        return Err(Refusal::Unavailable);
+        return Err(ErrorReply::Unavailable);
     }
     // rule 1 has refused a query that there is not
     let Some(answer) = table::answer(s, o, c) else {
-        return Err(Refusal::Undefined);
+        return Err(ErrorReply::Undefined);
     };
     change::carry_out(s, o, c);
     Ok(answer)
@@ -45,19 +45,23 @@ fn answer<'a>(s: &'a Settings, o: &mut Own, c: Command) -> Reply<'a>
 
 /// What a legal projector answers, and the own part that the request leaves.
 #[tactic(auto, unfolding(crate::specs::Meaning::answer_for, crate::specs::Meaning::after_request))]
-pub fn decide<'a>(s: &'a Settings, o: &mut Own, r: Result<Command, Unasked>) -> Reply<'a>
-    ensures said { said_by result ≡ answer_for s.now o.old r }
-    ensures own { o.new ≡ after_request s.now o.old r }
+pub fn decide<'a>(
+    settings: &'a Settings,
+    own: &mut Own,
+    request: Result<Command, Unasked>,
+) -> Reply<'a>
+    ensures said { said_by result ≡ answer_for settings.now own.old request }
+    ensures own { own.new ≡ after_request settings.now own.old request }
 {
-    match r {
-        Ok(c) => answer(s, o, c),
+    match request {
+        Ok(c) => answer(settings, own, c),
         Err(Unasked::Unlisted(b)) => {
             if b.has_parameters() {
-                Err(Refusal::OutOfParameter)
+                Err(ErrorReply::OutOfParameter)
             } else {
-                Err(Refusal::Undefined)
+                Err(ErrorReply::Undefined)
             }
         }
-        Err(Unasked::UnknownBody) => Err(Refusal::Undefined),
+        Err(Unasked::UnknownBody) => Err(ErrorReply::Undefined),
     }
 }

@@ -20,27 +20,27 @@ fn is_no_query(c: Command) -> bool
 }
 
 /// Rule 1: a query that there is not, or one of lamps where there are none.
-pub fn is_undefined(s: &Settings, c: Command) -> bool
-    ensures { result ≡ is_undefined s.now (Ok c) }
+pub fn is_undefined(settings: &Settings, command: Command) -> bool
+    ensures { result ≡ is_undefined settings.now (Ok command) }
 {
-    is_no_query(c) || (c.body().row().lamps && s.lamp_count == 0)
+    is_no_query(command) || (command.body().row().lamps && settings.lamp_count == 0)
 }
 
 /// Rule 2: an input that is not in the set-up.
-pub fn is_out_of_parameter(s: &Settings, c: Command) -> bool
-    ensures { result ≡ is_out_of_parameter s.now (Ok c) }
+pub fn is_out_of_parameter(settings: &Settings, command: Command) -> bool
+    ensures { result ≡ is_out_of_parameter settings.now (Ok command) }
 {
-    match c {
-        Command::InputSet(_, i) | Command::NameQuery(i) => !inputs::is_listed(s, i),
+    match command {
+        Command::InputSet(_, i) | Command::NameQuery(i) => !inputs::is_listed(settings, i),
         _ => false,
     }
 }
 
 /// Rule 3: a set, where the projector is at fault.
-pub fn is_failure(o: &Own, c: Command) -> bool
-    ensures { result ≡ is_failure o.now (Ok c) }
+pub fn is_failure(own: &Own, command: Command) -> bool
+    ensures { result ≡ is_failure own.now (Ok command) }
 {
-    c.body().has_set() && flag::is_raised(o.fault)
+    command.body().has_set() && flag::is_raised(own.fault)
 }
 
 fn is_untimely(power: Power, c: Command) -> bool
@@ -54,8 +54,8 @@ fn is_untimely(power: Power, c: Command) -> bool
 
 /// Rule 4: a command that the power does not allow now.
 #[tactic(auto, using(record::proofs::PowerSeen::power_tests))]
-pub fn is_unavailable(o: &Own, c: Command) -> bool
-    ensures { result ≡ is_unavailable o.now (Ok c) }
+pub fn is_unavailable(own: &Own, command: Command) -> bool
+    ensures { result ≡ is_unavailable own.now (Ok command) }
 {
-    is_untimely(o.power(), c)
+    is_untimely(own.power(), command)
 }

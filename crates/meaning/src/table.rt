@@ -11,24 +11,24 @@ use arrayvec::ArrayVec;
 use pjlink::answer::Answer;
 use pjlink::body::Body;
 use pjlink::command::Command;
-use record::types::{INPUTS_MOST, InputName, LAMPS_MOST, Own, Settings, Text};
+use record::types::{InputName, Own, Settings, Text};
 use record::views;
 use text::{flag, rooms};
-use words::input::Input;
-use words::lamp::LampHours;
+use words::input::{INPUTS_MOST, Input};
+use words::lamp::{LAMPS_MOST, LampHours};
 use words::mutes::Mutes;
-use words::power::Power;
+use words::power::PowerStatus;
 
 const HOUR: u32 = 3600;
 
-fn power_said(power: views::Power) -> Power
+fn power_said(power: views::Power) -> PowerStatus
     ensures { result ≡ power_said power }
 {
     match power {
-        views::Power::Off => Power::Off,
-        views::Power::WarmUp { .. } => Power::WarmUp,
-        views::Power::On => Power::On,
-        views::Power::Cooling { .. } => Power::Cooling,
+        views::Power::Off => PowerStatus::Off,
+        views::Power::WarmUp { .. } => PowerStatus::WarmUp,
+        views::Power::On => PowerStatus::On,
+        views::Power::Cooling { .. } => PowerStatus::Cooling,
     }
 }
 
@@ -113,12 +113,15 @@ fn query_answer<'a>(s: &'a Settings, o: &Own, b: Body) -> Option<Answer<'a>>
 }
 
 /// A set is answered OK; none is the answer of a query that there is not.
-pub fn answer<'a>(s: &'a Settings, o: &Own, c: Command) -> Option<Answer<'a>>
-    ensures { value_said result ≡ table_answer s.now o.now c }
+pub fn answer<'a>(settings: &'a Settings, own: &Own, command: Command) -> Option<Answer<'a>>
+    ensures { value_said result ≡ table_answer settings.now own.now command }
 {
-    match c {
-        Command::Query(b) => query_answer(s, o, b),
-        Command::NameQuery(i) => Some(Answer::Text(name_at(&s.names, inputs::place_of(s, i)))),
+    match command {
+        Command::Query(b) => query_answer(settings, own, b),
+        Command::NameQuery(i) => Some(Answer::Text(name_at(
+            &settings.names,
+            inputs::listed_index(settings, i),
+        ))),
         _ => Some(Answer::Done),
     }
 }

@@ -6,7 +6,7 @@ ghost use Rattle.words.specs.Inputs.{is_input};
 ghost use Rattle.words.specs.Powers.{power_code};
 ghost use Rattle.words.specs.declared.class.ClassNumber.{ClassNumber};
 ghost use Rattle.words.specs.declared.input.Input.{Input};
-ghost use Rattle.words.specs.declared.refusal.Refusal.{Refusal};
+ghost use Rattle.words.specs.declared.error_reply.ErrorReply.{ErrorReply};
 ghost use Rattle.pjlink.specs.declared.answer.Answer.{Answer};
 ghost use Rattle.pjlink.specs.declared.body.Body.TheVariants.{Inpt};
 ghost use Rattle.pjlink.specs.declared.command.Half.TheVariants.{VideoHalf, AudioHalf};
@@ -27,7 +27,7 @@ ghost use Rattle.meaning.specs.Meaning.{after_request};
 
 /// Two results that meet the promise of a call say the same, and leave the same.
 pub fn one_result()
-    ensures { (s : Settings) (o : Own) (r : Request) (m n : Result Answer Refusal) (k l : Own)
+    ensures { (s : Settings) (o : Own) (r : Request) (m n : Result Answer ErrorReply) (k l : Own)
         → (said_by m ≡ answer_for s o r) × (k ≡ after_request s o r)
         → (said_by n ≡ answer_for s o r) × (l ≡ after_request s o r)
         → (said_by m ≡ said_by n) × (k ≡ l) }

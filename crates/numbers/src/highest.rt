@@ -2,12 +2,12 @@
 ghost use Rattle.std.specs.Prelude.{◌≡◌, ◌+◌, ◌≤◌, length, take, drop};
 ghost use Rattle.numbers.specs.HighestFirst.{highest_first, number_in};
 
-/// Returns the number of the two bytes from the place `p` on, highest byte first.
-pub fn two_at(s: &[u8], p: usize) -> u32
-    requires { p + 2 ≤ length s.now }
-    ensures { result ≡ number_in (take 2 (drop p s.now)) }
+/// Returns the number of the two bytes from the place `index` on, highest byte first.
+pub fn two_at(bytes: &[u8], index: usize) -> u32
+    requires { index + 2 ≤ length bytes.now }
+    ensures { result ≡ number_in (take 2 (drop index bytes.now)) }
 {
-    u16::from_be_bytes([s[p], s[p + 1]]) as u32
+    u16::from_be_bytes([bytes[index], bytes[index + 1]]) as u32
 }
 
 /// Returns the number of four bytes, highest byte first.
@@ -19,17 +19,17 @@ pub fn four_of(bytes: &[u8; 4]) -> u32
 
 /// Returns the two lowest bytes of a number, the highest first.
 #[tactic(auto, unfolding(crate::specs::HighestFirst::highest_first))]
-pub fn two_bytes(x: u32) -> [u8; 2]
-    ensures { result ≡ highest_first 2 x }
+pub fn two_bytes(number: u32) -> [u8; 2]
+    ensures { result ≡ highest_first 2 number }
 {
-    let [_, _, high, low] = four_bytes(x);
+    let [_, _, high, low] = four_bytes(number);
     [high, low]
 }
 
 /// Returns the four bytes of a number, the highest first.
 #[tactic(auto, using(crate::proofs::HighestFirst::four_highest))]
-pub fn four_bytes(x: u32) -> [u8; 4]
-    ensures { result ≡ highest_first 4 x }
+pub fn four_bytes(number: u32) -> [u8; 4]
+    ensures { result ≡ highest_first 4 number }
 {
-    x.to_be_bytes()
+    number.to_be_bytes()
 }

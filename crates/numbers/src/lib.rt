@@ -30,42 +30,42 @@ fn put_figures(n: u64, out: &mut Figures)
     }
 }
 
-/// Writes the decimal digits of `n` to the end of `out`, with no leading zero (RULES, Commands).
+/// Writes the decimal digits of `number` to the end of `out`, with no leading zero (RULES, Commands).
 #[tactic(auto, using(crate::proofs::Digits::long_at_most_20))]
-pub fn put_long<const N: usize>(n: u64, out: &mut ArrayVec<u8, N>)
-    requires { array_vec_len out.old + length (long_digits n) ≤ N }
-    ensures { out.new.items ≡ out.old.items ++ long_digits n }
+pub fn put_long<const N: usize>(number: u64, out: &mut ArrayVec<u8, N>)
+    requires { array_vec_len out.old + length (long_digits number) ≤ N }
+    ensures { out.new.items ≡ out.old.items ++ long_digits number }
 {
     let mut figures = ArrayVec::new();
-    put_figures(n, &mut figures);
+    put_figures(number, &mut figures);
     for &b in figures.as_slice() {
         out.push(b);
     }
 }
 
-/// Writes the decimal digits of `n` to the end of `out`, with no leading zero.
+/// Writes the decimal digits of `number` to the end of `out`, with no leading zero.
 #[tactic(auto, using(crate::proofs::Digits::digits_long))]
-pub fn put_number<const N: usize>(n: u32, out: &mut ArrayVec<u8, N>)
-    requires { array_vec_len out.old + length (digits n) ≤ N }
-    ensures { out.new.items ≡ out.old.items ++ digits n }
+pub fn put_number<const N: usize>(number: u32, out: &mut ArrayVec<u8, N>)
+    requires { array_vec_len out.old + length (digits number) ≤ N }
+    ensures { out.new.items ≡ out.old.items ++ digits number }
 {
-    put_long(n as u64, out)
+    put_long(number as u64, out)
 }
 
 /// Whether b is one of `0` to `9`.
-pub fn is_digit(b: u8) -> bool
-    ensures { result ≡ is_digit b }
+pub fn is_digit(byte: u8) -> bool
+    ensures { result ≡ is_digit byte }
 {
-    b'0' <= b && b <= b'9'
+    b'0' <= byte && byte <= b'9'
 }
 
-/// Returns the number that all of `s` spells, in at most ten digits; `None` if a byte is no digit.
-pub fn read_digits(s: &[u8]) -> Option<u64>
-    requires { length s.now ≤ 10 }
-    ensures { result ≡ read_digits s.now }
+/// Returns the number that all of `bytes` spells, in at most ten digits; `None` if a byte is no digit.
+pub fn read_digits(bytes: &[u8]) -> Option<u64>
+    requires { length bytes.now ≤ 10 }
+    ensures { result ≡ read_digits bytes.now }
 {
     let mut v: u64 = 0;
-    for b in s {
+    for b in bytes {
         if !is_digit(*b) {
             return None;
         }
@@ -74,18 +74,18 @@ pub fn read_digits(s: &[u8]) -> Option<u64>
     Some(v)
 }
 
-/// Returns the number that all of `s` spells: 0 to 99999, in one to five digits, leading zeros included (RULES,
+/// Returns the number that all of `bytes` spells: 0 to 99999, in one to five digits, leading zeros included (RULES,
 /// Controller); else `None`.
 #[tactic(auto, unfolding(crate::specs::Decimal::read_number))]
-pub fn read_number(s: &[u8]) -> Option<u32>
-    ensures { result ≡ read_number s.now }
+pub fn read_number(bytes: &[u8]) -> Option<u32>
+    ensures { result ≡ read_number bytes.now }
 {
-    if s.len() < 1 {
+    if bytes.len() < 1 {
         return None;
     }
-    if MOST_DIGITS < s.len() {
+    if MOST_DIGITS < bytes.len() {
         return None;
     }
-    let n = read_digits(s)?;
+    let n = read_digits(bytes)?;
     Some(n as u32)
 }

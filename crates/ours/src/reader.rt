@@ -9,10 +9,10 @@ use pjlink::command::Command;
 use pjlink::greeting::Greeting;
 
 /// `reading::read_reply` gives what `ours.read_reply` says.
-pub fn read_reply(c: Command, line: &[u8]) -> Result<Reading<'_>, Misread>
-    ensures { read_as result ≡ ours.read_reply c line.now }
+pub fn read_reply(command: Command, line: &[u8]) -> Result<Reading<'_>, Misread>
+    ensures { read_as result ≡ ours.read_reply command line.now }
 {
-    reading::read_reply(c, line)
+    reading::read_reply(command, line)
 }
 
 /// `Greeting::read` gives what `ours.read_greeting` says.

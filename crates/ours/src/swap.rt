@@ -19,8 +19,8 @@ pub fn store(device: &Device, out: &mut [u8]) -> Result<usize, Refusal>
 }
 
 /// `loading::load` gives what `ours.load` says.
-pub fn load(s: &[u8]) -> Result<Device, LoadError>
-    ensures { loading_told result ≡ ours.load s.now }
+pub fn load(bytes: &[u8]) -> Result<Device, LoadError>
+    ensures { loading_told result ≡ ours.load bytes.now }
 {
-    loading::load(s)
+    loading::load(bytes)
 }

@@ -11,14 +11,14 @@ use pjlink::command::Command;
 
 /// `writing::write_command` gives and writes what `ours.write` says.
 pub fn write(
-    c: Command,
+    command: Command,
     secured: bool,
     random: u32,
     password: &[u8],
     out: &mut [u8],
 ) -> Result<usize, Unwritten>
     ensures { wrote_as (written_told unwritten_number result) out.new
-        ≡ ours.write c secured random password.now out.old }
+        ≡ ours.write command secured random password.now out.old }
 {
-    writing::write_command(c, secured, random, password, out)
+    writing::write_command(command, secured, random, password, out)
 }

@@ -17,7 +17,7 @@ use Rattle.panel.specs.Hearing.{HeardAs, line_heard}
 use Rattle.panel.specs.LegalPanels.{panel_most, is_panel}
 use Rattle.panel.specs.PanelCalls.{PanelAs, panel_kept, panel_made, entry_at, with_entry, grown_by}
 use Rattle.panel.specs.PanelCalls.{projector_rows, added_to, sent_at, command_at, stepped_at, told_at, lost_at}
-use Rattle.panel.specs.declared.types.Entry.{Entry}
+use Rattle.panel.specs.declared.types.PanelEntry.{PanelEntry}
 use Rattle.panel.specs.declared.types.Panel.{Panel}
 use Rattle.panel.proofs.PanelsTold.{panel_told}
 
@@ -76,7 +76,7 @@ module _ (p : Panel) (i : ℕ) where
     told_done legal there = grind arith
 
     -- of an entry that is read with any other in its place past the end
-    pub told_as : is_panel p ≡ true → i < p.count → (d : Entry) (h : HeardAs)
+    pub told_as : is_panel p ≡ true → i < p.count → (d : PanelEntry) (h : HeardAs)
         → h ≡ line_heard (slice_index_or p.entries i d) l → Some h ≡ told_at p i l
     told_as legal there d h heard =
         let told = panel_told p legal in

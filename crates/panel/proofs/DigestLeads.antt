@@ -14,7 +14,7 @@ use Rattle.panel.specs.Entries.{Talk, talk_of, ungreeted, greeted_open, greeted_
 use Rattle.panel.specs.Entries.{sent_on}
 use Rattle.panel.specs.Stepping.{with_talk, replied_to, heard_line}
 use Rattle.panel.specs.Talks.{Happens, is_sent, after_it, led_in_talk, is_first_led}
-use Rattle.panel.specs.declared.types.Entry.{Entry}
+use Rattle.panel.specs.declared.types.PanelEntry.{PanelEntry}
 use Rattle.panel.proofs.StepsByTable.{step_by}
 
 abbrev pub LedFrom : Bool → List Bool → Type 0
@@ -31,10 +31,10 @@ leads_next-sent_on : (t : Talk) (k : Coded) → leads_next (sent_on t k) ≡ fal
 leads_next-sent_on t k = grind arith
 
 -- a line ends the talk, or leaves open whether the digest leads next
-abbrev Goes : Entry → Entry → Type 0
+abbrev Goes : PanelEntry → PanelEntry → Type 0
 Goes e f = (f.greeting ≡ ungreeted) ⊎ (leads_next (talk_of f) ≡ leads_next (talk_of e))
 
-module _ (e : Entry) where
+module _ (e : PanelEntry) where
   reply_goes : (m : Option Command) (l : List ℕ) → Goes e (replied_to e m l)
   reply_goes m l = grind arith
 
@@ -43,23 +43,23 @@ module _ (e : Entry) where
       step_by e l (Goes e) (λ g. absurd (greeted g)) (λ g w. inr refl) (λ g w. reply_goes (coded_command e.command) l)
 
 -- where the talk has ended, nothing is sent in it
-ended_sends_none : (e : Entry) (xs : List Happens) → e.greeting ≡ ungreeted → led_in_talk e xs ≡ []
+ended_sends_none : (e : PanelEntry) (xs : List Happens) → e.greeting ≡ ungreeted → led_in_talk e xs ≡ []
 ended_sends_none e [] g = refl
 ended_sends_none e (x ∷ xs) g = if_yes _ _ (eq-eqb e.greeting ungreeted g)
 
-module _ (xs : List Happens) (rest : (f : Entry) → LedFrom (leads_next (talk_of f)) (led_in_talk f xs)) where
-  goes_on : (e f : Entry) → Goes e f → LedFrom (leads_next (talk_of e)) (led_in_talk f xs)
+module _ (xs : List Happens) (rest : (f : PanelEntry) → LedFrom (leads_next (talk_of f)) (led_in_talk f xs)) where
+  goes_on : (e f : PanelEntry) → Goes e f → LedFrom (leads_next (talk_of e)) (led_in_talk f xs)
   goes_on e f h = grind (arith, ended_sends_none)
 
-  one_more : (e : Entry) → (e.greeting ≡ ungreeted → ⊥) → (x : Happens) → LedFrom (leads_next (talk_of e))
+  one_more : (e : PanelEntry) → (e.greeting ≡ ungreeted → ⊥) → (x : Happens) → LedFrom (leads_next (talk_of e))
       ((if is_sent e x then leads_next (talk_of e) ∷ [] else []) ++ led_in_talk (after_it e x) xs)
   one_more e h x = grind (arith, one_sent, leads_next-sent_on, goes_on, line_goes)
 
-led_from : (xs : List Happens) (e : Entry) → LedFrom (leads_next (talk_of e)) (led_in_talk e xs)
+led_from : (xs : List Happens) (e : PanelEntry) → LedFrom (leads_next (talk_of e)) (led_in_talk e xs)
 led_from [] e = none_sent _
 led_from (x ∷ xs) e = grind (arith, none_sent, one_more, eqb-false, led_from xs)
 
-module _ (e : Entry) (xs : List Happens) where
+module _ (e : PanelEntry) (xs : List Happens) where
   pub digest_leads_the_first : (random : ℕ)
       → is_first_led (led_in_talk (with_talk e (greeted_by greeted_secured random)) xs) ≡ true
   digest_leads_the_first random = led_from xs (with_talk e (greeted_by greeted_secured random))

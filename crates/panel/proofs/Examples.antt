@@ -3,7 +3,7 @@
 -- Assumes nothing.
 use Rattle.std.proofs.Common.{arith, ℕ, ◌≡◌, refl, ap, false, List}
 use Rattle.text.specs.Flags.{is_raised}
-use Rattle.text.specs.Scans.{same_by, itself}
+use Rattle.text.specs.Scans.{is_same_by, itself}
 use Rattle.pjlink.specs.Computing.{computing as pjlink}
 use Rattle.pjlink.specs.Commands.{command_class}
 use Rattle.pjlink.specs.Forms.{erra_line, greeting_open, greeting_secured, is_reply_form}
@@ -14,10 +14,10 @@ use Rattle.pjlink.proofs.GreetingCases.{greeting_refused}
 use Rattle.panel.specs.Entries.{ungreeted}
 use Rattle.panel.specs.Stepping.{with_stray, heard_line}
 use Rattle.panel.specs.StepTable.{IsUnderWay, malformed}
-use Rattle.panel.specs.declared.types.Entry.{Entry}
+use Rattle.panel.specs.declared.types.PanelEntry.{PanelEntry}
 use Rattle.panel.proofs.StepsByTable.{stray_steps, step_late}
 
-module _ (e : Entry) where
+module _ (e : PanelEntry) where
   pub erra_before_greeting : e.greeting ≡ ungreeted → heard_line e erra_line ≡ with_stray e
   erra_before_greeting g = grind (arith, stray_steps, greeting_refused)
 
@@ -30,7 +30,8 @@ module _ (e : Entry) where
 
   module _ (c : Command) (waits : IsUnderWay e c) where
     -- neither the ERRA line nor of a reply's form
-    pub unformed_strays : (l : List ℕ) → same_by itself l erra_line ≡ false → is_reply_form (command_class c) l ≡ false
+    pub unformed_strays : (l : List ℕ) → is_same_by itself l erra_line ≡ false → is_reply_form (command_class c) l
+        ≡ false
         → heard_line e l ≡ with_stray e
     unformed_strays l line form =
         stray_steps e l

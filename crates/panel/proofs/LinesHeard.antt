@@ -11,7 +11,7 @@ use Rattle.controller.specs.Reading.{read_reply}
 use Rattle.panel.specs.Entries.{ungreeted}
 use Rattle.panel.specs.Hearing.{greets, no_greeting, too_late, replies, greeting_heard, line_heard}
 use Rattle.panel.specs.StepTable.{is_greeting, IsUnderWay}
-use Rattle.panel.specs.declared.types.Entry.{Entry}
+use Rattle.panel.specs.declared.types.PanelEntry.{PanelEntry}
 
 accepted_heard : (g : Option Greeting) → is_greeting g ≡ true → greeting_heard g ≡ greets
 accepted_heard g h = grind arith
@@ -19,7 +19,7 @@ accepted_heard g h = grind arith
 other_heard : (g : Option Greeting) → is_greeting g ≡ false → greeting_heard g ≡ no_greeting
 other_heard g h = grind arith
 
-module _ (e : Entry) (l : List ℕ) where
+module _ (e : PanelEntry) (l : List ℕ) where
   awaited_heard : e.greeting ≡ ungreeted → line_heard e l ≡ greeting_heard (read_greeting l)
   unfolding line_heard
   awaited_heard u = if_yes _ _ (eq-eqb e.greeting ungreeted u)

@@ -14,13 +14,13 @@ use Rattle.codes.proofs.CodesBack.{command_writable}
 use Rattle.panel.specs.Entries.{talk_of, password_in, leads_next}
 use Rattle.panel.specs.Stepping.{command_sent}
 use Rattle.panel.specs.LegalPanels.{is_entry}
-use Rattle.panel.specs.declared.types.Entry.{Entry}
+use Rattle.panel.specs.declared.types.PanelEntry.{PanelEntry}
 use Rattle.panel.proofs.PanelsTold.{is_password-password_in, few_projectors, is_entry-slice_index_or, fits_there}
 
 word_taken : (led : Bool) {word : Bool} → word ≡ true → (not led || word) ≡ true
 word_taken led h = grind arith
 
-module _ (e : Entry) where
+module _ (e : PanelEntry) where
   -- what the controller's writer gives
   pub sent_written : (c : Command) (room : ℕ) → command_sent e c room
       ≡ (written_command c (leads_next (talk_of e)) e.random (password_in e) room).bytes
@@ -46,12 +46,12 @@ module _ (e : Entry) where
     sent_plain plain = sent_by plain
 
 -- in the code's words: what is written is what is sent, and may be written
-pub sent_whole : (e : Entry) (c : Command) (room : ℕ) (led : Bool) (password : List ℕ) → is_entry e ≡ true
+pub sent_whole : (e : PanelEntry) (c : Command) (room : ℕ) (led : Bool) (password : List ℕ) → is_entry e ≡ true
     → is_command c ≡ true → command_room ≤ room → led ≡ leads_next (talk_of e) → password ≡ password_in e
     → led_by led e.random password ++ command_line c ≡ command_sent e c room
 sent_whole e c room led password legal writable enough same word = grind (arith, line_sent_whole, same, word)
 
-pub password_writable : (e : Entry) (c : Command) (led : Bool) (password : List ℕ) → is_entry e ≡ true
+pub password_writable : (e : PanelEntry) (c : Command) (led : Bool) (password : List ℕ) → is_entry e ≡ true
     → is_command c ≡ true → password ≡ password_in e → is_writable c led password ≡ true
 password_writable e c led password legal writable word =
     grind (arith, both, word_taken, is_password-password_in, word)

@@ -6,7 +6,7 @@ use Rattle.std.proofs.Common.{ℕ, ◌≡◌, refl, List, get_or-set_other}
 use Rattle.codes.specs.declared.command.Coded.{Coded}
 use Rattle.panel.specs.Entries.{blank_entry}
 use Rattle.panel.specs.PanelCalls.{entry_at, with_entry, added_to, command_at, stepped_at, lost_at}
-use Rattle.panel.specs.declared.types.Entry.{Entry}
+use Rattle.panel.specs.declared.types.PanelEntry.{PanelEntry}
 use Rattle.panel.specs.declared.types.Panel.{Panel}
 use Rattle.panel.proofs.Cases.{added_by, commanded_by, stepped_by, lost_by}
 
@@ -19,7 +19,7 @@ module _ (p : Panel) (i : ℕ) where
   nothing_touched : OnlyAt p i p
   nothing_touched = record { count = refl; others = λ j other. refl }
 
-  one_touched : (e : Entry) → OnlyAt p i (with_entry p i e)
+  one_touched : (e : PanelEntry) → OnlyAt p i (with_entry p i e)
   one_touched e = record { count = refl; others = λ j other. get_or-set_other p.entries i j e blank_entry other }
 
   pub step_touches_its_entry : (l : List ℕ) → OnlyAt p i (stepped_at p i l).panel

@@ -24,7 +24,7 @@ use Rattle.panel.specs.PanelCalls.{PanelAs, no_panel, entry_at, with_entry, grow
 use Rattle.panel.specs.PanelCalls.{lost_at}
 use Rattle.panel.specs.StepTable.{StepTo, greets_open, greets_secured, strays, answers, refuses}
 use Rattle.panel.specs.declared.talk.Greeted.TheVariants.{NotYet, Open, Secured}
-use Rattle.panel.specs.declared.types.Entry.{Entry}
+use Rattle.panel.specs.declared.types.PanelEntry.{PanelEntry}
 use Rattle.panel.specs.declared.types.Panel.{Panel}
 use Rattle.panel.proofs.PanelsTold.{EntryTold, entry_told, entry_legal, PanelTold, panel_told, panel_legal}
 use Rattle.panel.proofs.PanelsTold.{entry_at_legal}
@@ -34,7 +34,7 @@ use Rattle.panel.proofs.StepsByTable.{steps_by_the_table}
 use Rattle.panel.proofs.Cases.{added_by, stepped_by, lost_by}
 
 -- an entry that keeps its password
-module _ (e : Entry) (legal : is_entry e ≡ true) where
+module _ (e : PanelEntry) (legal : is_entry e ≡ true) where
   abbrev told : EntryTold e
   told = entry_told e legal
 
@@ -43,7 +43,7 @@ module _ (e : Entry) (legal : is_entry e ≡ true) where
   is_entry-entry_of t s n h k few =
       entry_legal _ (record { password = told.password; talk = h; shown = k; strays = few })
 
-  row_legal : (l : List ℕ) {f : Entry} → StepTo e l f → is_entry f ≡ true
+  row_legal : (l : List ℕ) {f : PanelEntry} → StepTo e l f → is_entry f ≡ true
   row_legal l (greets_open g r) = is_entry-entry_of _ _ _ (begun_legal Open) told.shown told.strays
   row_legal l (greets_secured random g r) =
       is_entry-entry_of _ _ _ (begun_legal (Secured random)) told.shown told.strays
@@ -98,7 +98,7 @@ module _ (p : Panel) (legal : is_panel p ≡ true) where
   known = panel_told p legal
 
   -- one entry replaced
-  placed : (i : ℕ) (e : Entry) → i < p.count → is_entry e ≡ true → is_panel (with_entry p i e) ≡ true
+  placed : (i : ℕ) (e : PanelEntry) → i < p.count → is_entry e ≡ true → is_panel (with_entry p i e) ≡ true
   placed i e there h =
       panel_legal _ (record {
         count = known.count;
@@ -108,7 +108,7 @@ module _ (p : Panel) (legal : is_panel p ≡ true) where
       })
 
   -- one entry more
-  grown : (e : Entry) → p.count < panel_most → is_entry e ≡ true → is_panel (grown_by p e) ≡ true
+  grown : (e : PanelEntry) → p.count < panel_most → is_entry e ≡ true → is_panel (grown_by p e) ≡ true
   grown e free h =
       let n = p.count in
       let size = known.long in

@@ -14,16 +14,16 @@ use Rattle.panel.specs.Entries.{talk_of, shown_of, password_in, blank_entry}
 use Rattle.panel.specs.Stepping.{strays_most}
 use Rattle.panel.specs.LegalPanels.{panel_most, is_talk, is_shown, is_entry, is_unused, is_panel}
 use Rattle.panel.specs.PanelCalls.{entry_at}
-use Rattle.panel.specs.declared.types.Entry.{Entry}
+use Rattle.panel.specs.declared.types.PanelEntry.{PanelEntry}
 use Rattle.panel.specs.declared.types.Panel.{Panel}
 
-pub record EntryTold (e : Entry) : Type 0 where
+pub record EntryTold (e : PanelEntry) : Type 0 where
   pub password : is_password_kept e.password ≡ true
   pub talk : is_talk (talk_of e) ≡ true
   pub shown : is_shown (shown_of e) ≡ true
   pub strays : e.strays ≤ strays_most
 
-module _ (e : Entry) where
+module _ (e : PanelEntry) where
   pub entry_told : is_entry e ≡ true → EntryTold e
   unfolding is_entry
   entry_told h = grind arith
@@ -68,11 +68,11 @@ module _ (p : Panel) where
 
   module _ (legal : is_panel p ≡ true) (i : ℕ) (there : i < p.count) where
     -- whatever stands for what is past the end
-    pub is_entry-slice_index_or : (d : Entry) → is_entry (slice_index_or p.entries i d) ≡ true
+    pub is_entry-slice_index_or : (d : PanelEntry) → is_entry (slice_index_or p.entries i d) ≡ true
     is_entry-slice_index_or d = grind (arith, panel_told, list_all_at)
 
     pub entry_at_legal : is_entry (entry_at p i) ≡ true
     entry_at_legal = is_entry-slice_index_or blank_entry
 
-    pub fits_there : (d : Entry) → (slice_index_or p.entries i d).password.len ≤ password_room
+    pub fits_there : (d : PanelEntry) → (slice_index_or p.entries i d).password.len ≤ password_room
     fits_there d = (password_uses (slice_index_or p.entries i d) (is_entry-slice_index_or d)).inside

@@ -15,7 +15,7 @@ use Rattle.words.specs.Inputs.{is_input}
 use Rattle.words.specs.declared.input.Source.{Source}
 use Rattle.words.specs.declared.input.Input.{Input}
 use Rattle.words.specs.Lamps.{is_lamp_hours}
-use Rattle.words.specs.declared.power.Power.{Power}
+use Rattle.words.specs.declared.power.PowerStatus.{PowerStatus}
 use Rattle.words.specs.declared.lamp.LampHours.{LampHours}
 use Rattle.pjlink.specs.declared.command.Command.{Command}
 use Rattle.pjlink.specs.Said.{Said, chosen_is}
@@ -23,7 +23,7 @@ use Rattle.pjlink.specs.Carried.{lamps_carried}
 use Rattle.pjlink.specs.declared.body.AnswerKind.{AnswerKind}
 use Rattle.pjlink.specs.CanSay.{CanSay, done, refuses, tells, IsOfKind}
 use Rattle.codes.specs.Commands.{source_number}
-use Rattle.codes.specs.Readings.{hours_of, lit_of, power_at_face}
+use Rattle.codes.specs.Readings.{hours_of, is_lit_lamp, power_at_face}
 use Rattle.panel.specs.Entries.{Shown, nothing_shown}
 use Rattle.panel.specs.Showing.{showing}
 use Rattle.panel.specs.LegalPanels.{is_power_shown, is_input_shown, is_lamp_count, is_hours, is_hours_room, is_lit_room}
@@ -46,7 +46,7 @@ module _ (s : Shown) where
   unfolding is_shown
   shown_legal k = grind (arith, k.power, k.input, k.lamps, k.flags)
 
-is_power_shown-power_at_face : (p : Power) → is_power_shown true (power_at_face p) ≡ true
+is_power_shown-power_at_face : (p : PowerStatus) → is_power_shown true (power_at_face p) ≡ true
 unfolding is_power_shown
 is_power_shown-power_at_face p = grind arith
 
@@ -84,7 +84,7 @@ module _ (n : ℕ) (few : n ≤ lamps_carried) where
 
 lamps_shown : (ls : List LampHours) → 1 ≤ length ls → length ls ≤ lamps_carried → list_all is_lamp_hours ls ≡ true
     → shows_lamps true (length ls) (filled_room 0 lamps_carried (map hours_of ls))
-    (map flag_of (filled_room false lamps_carried (map lit_of ls))) ≡ true
+    (map flag_of (filled_room false lamps_carried (map is_lit_lamp ls))) ≡ true
 unfolding shows_lamps is_lamp_count
 lamps_shown ls low high e = grind (arith, hours_shown, length-map, list_all-map, lit_shown)
 

@@ -9,7 +9,7 @@ use Rattle.text.proofs.Choices.{if_yes, if_no, if_by}
 use Rattle.pjlink.specs.declared.command.Command.{Command}
 use Rattle.pjlink.specs.Said.{Said}
 use Rattle.pjlink.specs.Greetings.{read_greeting}
-use Rattle.controller.specs.Reading.{ReadAs, read_reply, reading_outcome_number, Outcome, means_it, erra_said}
+use Rattle.controller.specs.Reading.{ReadAs, read_reply, reading_outcome_number, ReadingOutcome, means_it, erra_said}
 use Rattle.controller.specs.Reading.{not_a_line, other_command, disallowed}
 use Rattle.pjlink.specs.declared.greeting.Greeting.{Greeting}
 use Rattle.pjlink.specs.declared.greeting.Greeting.TheVariants.{Open, Secured}
@@ -21,12 +21,12 @@ use Rattle.panel.specs.Stepping.{with_stray, greeted_as, heard_as, heard_by, rep
 use Rattle.panel.specs.LegalPanels.{is_entry}
 use Rattle.panel.specs.StepTable.{is_greeting, IsUnderWay, IsStray, ungreeted_malformed, late, malformed, foreign}
 use Rattle.panel.specs.StepTable.{not_allowed, StepTo, greets_open, greets_secured, strays, answers, refuses}
-use Rattle.panel.specs.declared.types.Entry.{Entry}
+use Rattle.panel.specs.declared.types.PanelEntry.{PanelEntry}
 use Rattle.panel.proofs.TalksTold.{is_some-coded_command}
 
 -- the step, by where the talk stands
-module _ (e : Entry) (l : List ℕ) where
-  pub step_by : (P : Entry → Type 0)
+module _ (e : PanelEntry) (l : List ℕ) where
+  pub step_by : (P : PanelEntry → Type 0)
       → (e.greeting ≡ ungreeted → P (greeted_as e (read_greeting l)))
       → ((e.greeting ≡ ungreeted → ⊥) → is_raised e.under_way ≡ false → P (with_stray e))
       → ((e.greeting ≡ ungreeted → ⊥) → is_raised e.under_way ≡ true → P (replied_to e (coded_command e.command) l))
@@ -57,11 +57,11 @@ module _ (e : Entry) (l : List ℕ) where
   unfolding heard_line
   stray_steps h = grind (arith, step_greets, not_greeting, step_late, step_replied, numbered)
 
-  pub row_steps : {f : Entry} → StepTo e l f → heard_line e l ≡ f
+  pub row_steps : {f : PanelEntry} → StepTo e l f → heard_line e l ≡ f
   unfolding heard_line
   row_steps h = grind (arith, step_greets, stray_steps, step_replied, erra_read)
 
-  pub one_step : {f g : Entry} → StepTo e l f → StepTo e l g → f ≡ g
+  pub one_step : {f g : PanelEntry} → StepTo e l f → StepTo e l g → f ≡ g
   one_step p q = sym (row_steps p) ∙ row_steps q
 
   -- and every line has a row
@@ -70,7 +70,7 @@ module _ (e : Entry) (l : List ℕ) where
   greeting_row u (Some (Secured random)) r = greets_secured random u r
   greeting_row u g r = strays (ungreeted_malformed u (ap is_greeting r))
 
-  reply_row : (c : Command) → IsUnderWay e c → (o : Outcome) (m : Said) →
+  reply_row : (c : Command) → IsUnderWay e c → (o : ReadingOutcome) (m : Said) →
       read_reply c l ≡ record { outcome = o; said = m }
       → StepTo e l (heard_as e o m)
   reply_row c u means_it m r = answers c m u r

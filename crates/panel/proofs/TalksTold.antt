@@ -9,7 +9,7 @@ use Rattle.panel.specs.Entries.{Talk, talk_of, ungreeted, greeted_secured, is_se
 use Rattle.panel.specs.Awaited.{talk_begun}
 use Rattle.panel.specs.LegalPanels.{is_command_kept, is_talk, is_entry}
 use Rattle.panel.specs.declared.talk.Greeted.{Greeted}
-use Rattle.panel.specs.declared.types.Entry.{Entry}
+use Rattle.panel.specs.declared.types.PanelEntry.{PanelEntry}
 use Rattle.panel.proofs.PanelsTold.{entry_told}
 
 pub record TalkTold (t : Talk) : Type 0 where
@@ -38,7 +38,7 @@ unfolding is_talk is_command_kept
 begun_legal g = grind arith
 
 -- what is under way in a legal entry is a command
-pub is_some-coded_command : (e : Entry) → is_entry e ≡ true → is_raised e.under_way ≡ true
+pub is_some-coded_command : (e : PanelEntry) → is_entry e ≡ true → is_raised e.under_way ≡ true
     → is_some (coded_command e.command) ≡ true
 unfolding is_command_kept
 is_some-coded_command e legal waits =

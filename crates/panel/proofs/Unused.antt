@@ -15,7 +15,7 @@ use Rattle.panel.specs.Entries.{talk_of, shown_of, ungreeted, is_secured_talk, b
 use Rattle.panel.specs.LegalPanels.{is_command_kept, is_power_shown, is_input_shown, is_lamp_count, is_lit_room}
 use Rattle.panel.specs.LegalPanels.{is_hours_room, shows_lamps, is_entry, is_unused, is_panel}
 use Rattle.panel.specs.PanelCalls.{entry_at}
-use Rattle.panel.specs.declared.types.Entry.{Entry}
+use Rattle.panel.specs.declared.types.PanelEntry.{PanelEntry}
 use Rattle.panel.specs.declared.types.Panel.{Panel}
 use Rattle.panel.proofs.PanelsTold.{entry_told, password_uses, room_told, panel_told}
 use Rattle.panel.proofs.TalksTold.{talk_told}
@@ -31,7 +31,7 @@ module _ {A : Type 0} (blank : A → Bool) (x : A) (only : (y : A) → blank y �
       → s ≡ replicate room x
   unused_room s long clear none = grind (arith, all_blank)
 
-module _ (e : Entry) where
+module _ (e : PanelEntry) where
   record NoneKept : Type 0 where
     len : e.password.len ≡ 0
     greeting : e.greeting ≡ ungreeted

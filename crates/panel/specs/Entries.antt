@@ -21,7 +21,7 @@ use Rattle.codes.specs.Commands.{code_with}
 use Rattle.codes.specs.declared.command.Coded.{Coded}
 use Rattle.panel.specs.Passwords.{password_of, no_password}
 use Rattle.panel.specs.declared.types.Password.{Password}
-use Rattle.panel.specs.declared.types.Entry.{Entry}
+use Rattle.panel.specs.declared.types.PanelEntry.{PanelEntry}
 
 pub record Talk : Type 0 where
   pub greeting : ℕ
@@ -51,7 +51,7 @@ greeted_open = 1
 abbrev pub greeted_secured : ℕ
 greeted_secured = 2
 
-abbrev pub talk_of : Entry → Talk
+abbrev pub talk_of : PanelEntry → Talk
 talk_of e = record {
   greeting = e.greeting;
   random = e.random;
@@ -60,7 +60,7 @@ talk_of e = record {
   command = e.command;
 }
 
-abbrev pub shown_of : Entry → Shown
+abbrev pub shown_of : PanelEntry → Shown
 shown_of e = record {
   power_known = e.power_known;
   input_known = e.input_known;
@@ -73,10 +73,10 @@ shown_of e = record {
   lit = e.lit;
 }
 
-abbrev pub password_in : Entry → List ℕ
+abbrev pub password_in : PanelEntry → List ℕ
 password_in e = take e.password.len e.password.bytes
 
-abbrev pub entry_of : Password → Talk → Shown → ℕ → Entry
+abbrev pub entry_of : Password → Talk → Shown → ℕ → PanelEntry
 entry_of password talk shown strays = record {
   password = password;
   greeting = talk.greeting;
@@ -143,8 +143,8 @@ nothing_shown = record {
   lit = replicate lamps_carried 0;
 }
 
-abbrev pub fresh_entry : List ℕ → Entry
+abbrev pub fresh_entry : List ℕ → PanelEntry
 fresh_entry s = entry_of (password_of s) no_talk nothing_shown 0
 
-abbrev pub blank_entry : Entry
+abbrev pub blank_entry : PanelEntry
 blank_entry = entry_of no_password no_talk nothing_shown 0

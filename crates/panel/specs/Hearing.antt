@@ -18,13 +18,13 @@ use Rattle.pjlink.specs.declared.greeting.Greeting.TheVariants.{Open, Secured}
 use Rattle.pjlink.specs.declared.command.Command.{Command}
 use Rattle.pjlink.specs.Said.{said_bytes}
 use Rattle.controller.specs.Reading.{ReadAs, read_reply, read_as}
-use Rattle.controller.specs.Reading.{Outcome, means_it, erra_said, not_a_line, other_command, disallowed}
+use Rattle.controller.specs.Reading.{ReadingOutcome, means_it, erra_said, not_a_line, other_command, disallowed}
 use Rattle.codes.specs.Commands.{coded_command}
 use Rattle.codes.specs.Readings.{flat_reading, no_reading}
 use Rattle.codes.specs.declared.readings.FlatReading.{FlatReading}
 use Rattle.panel.specs.Entries.{ungreeted}
-use Rattle.panel.specs.declared.types.Entry.{Entry}
-use Rattle.panel.specs.declared.refusal.Refusal.{Refusal}
+use Rattle.panel.specs.declared.types.PanelEntry.{PanelEntry}
+use Rattle.panel.specs.declared.refusal.PanelRefusal.{PanelRefusal}
 use Rattle.panel.specs.declared.heard.Heard.{Heard}
 use Rattle.panel.specs.declared.heard.Heard.TheVariants as code
 
@@ -44,7 +44,7 @@ abbrev pub reply_heard : Option Command → List ℕ → HeardAs
 reply_heard (Some c) l = replies (read_reply c l)
 reply_heard None l = too_late
 
-unfoldable pub line_heard : Entry → List ℕ → HeardAs
+unfoldable pub line_heard : PanelEntry → List ℕ → HeardAs
 line_heard e l =
     if e.greeting == ungreeted then greeting_heard (read_greeting l)
     else if not (is_raised e.under_way) then too_late
@@ -56,7 +56,7 @@ heard_by_code code.NoGreeting = no_greeting
 heard_by_code code.Late = too_late
 heard_by_code (code.Reply r) = replies (read_as r)
 
-abbrev pub hearing_told : Result Heard Refusal → Option HeardAs
+abbrev pub hearing_told : Result Heard PanelRefusal → Option HeardAs
 hearing_told (Ok h) = Some (heard_by_code h)
 hearing_told (Err r) = None
 
@@ -64,7 +64,7 @@ abbrev pub heard_bytes : HeardAs → List ℕ
 heard_bytes (replies r) = said_bytes r.said
 heard_bytes h = []
 
-abbrev pub outcome_heard : Outcome → ℕ
+abbrev pub outcome_heard : ReadingOutcome → ℕ
 outcome_heard means_it = 2
 outcome_heard erra_said = 3
 outcome_heard other_command = 5

@@ -18,7 +18,7 @@ use Rattle.codes.specs.declared.command.Coded.{Coded}
 use Rattle.panel.specs.Entries.{Talk, Shown, talk_of, shown_of, ungreeted, greeted_secured, is_secured_talk}
 use Rattle.panel.specs.Passwords.{is_password_kept}
 use Rattle.panel.specs.Stepping.{strays_most}
-use Rattle.panel.specs.declared.types.Entry.{Entry}
+use Rattle.panel.specs.declared.types.PanelEntry.{PanelEntry}
 use Rattle.panel.specs.declared.types.Panel.{Panel}
 
 abbrev pub panel_most : ℕ
@@ -68,11 +68,11 @@ is_shown s =
     && shows_lamps (is_raised s.lamps_known) s.lamp_count s.hours s.lit
     && is_flag s.power_known && is_flag s.input_known && is_flag s.lamps_known
 
-unfoldable pub is_entry : Entry → Bool
+unfoldable pub is_entry : PanelEntry → Bool
 is_entry e =
     is_password_kept e.password && is_talk (talk_of e) && is_shown (shown_of e) && nat_le e.strays strays_most
 
-unfoldable pub is_unused : Entry → Bool
+unfoldable pub is_unused : PanelEntry → Bool
 is_unused e =
     e.password.len == 0 && e.greeting == ungreeted && is_lowered e.power_known && is_lowered e.input_known
     && is_lowered e.lamps_known && e.strays == 0

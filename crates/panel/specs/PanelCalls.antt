@@ -12,7 +12,7 @@
 -- Assumes nothing.
 use Rattle.std.specs.Prelude.{ℕ, ◌+◌, not, List, [], ◌∷◌, set, replicate, slice_index_or, nat_le, nat_lt, is_some}
 use Rattle.std.specs.Prelude.{Option, Some, None}
-use Rattle.text.specs.Rows.{Row, ◌when◌, by_rows}
+use Rattle.text.specs.Rows.{NumberRow, ◌when◌, by_rows}
 use Rattle.words.specs.Texts.{is_password}
 use Rattle.controller.specs.Writing.{command_room}
 use Rattle.codes.specs.Commands.{coded_command}
@@ -21,7 +21,7 @@ use Rattle.panel.specs.Entries.{fresh_entry, blank_entry}
 use Rattle.panel.specs.Stepping.{heard_line, lost_entry, sent_entry, is_unready, line_sent}
 use Rattle.panel.specs.Hearing.{HeardAs, line_heard}
 use Rattle.panel.specs.LegalPanels.{panel_most, is_panel}
-use Rattle.panel.specs.declared.types.Entry.{Entry}
+use Rattle.panel.specs.declared.types.PanelEntry.{PanelEntry}
 use Rattle.panel.specs.declared.types.Panel.{Panel}
 
 pub record PanelAs : Type 0 where
@@ -38,24 +38,24 @@ panel_made p = panel_kept p 0
 abbrev pub no_panel : Panel
 no_panel = record { count = 0; entries = replicate panel_most blank_entry }
 
-abbrev pub entry_at : Panel → ℕ → Entry
+abbrev pub entry_at : Panel → ℕ → PanelEntry
 entry_at p i = slice_index_or p.entries i blank_entry
 
-abbrev pub with_entry : Panel → ℕ → Entry → Panel
+abbrev pub with_entry : Panel → ℕ → PanelEntry → Panel
 with_entry p i e = record { count = p.count; entries = set p.entries i e }
 
-abbrev pub grown_by : Panel → Entry → Panel
+abbrev pub grown_by : Panel → PanelEntry → Panel
 grown_by p e = record { count = p.count + 1; entries = set p.entries p.count e }
 
-abbrev pub adding_rows : Panel → List ℕ → List Row
+abbrev pub adding_rows : Panel → List ℕ → List NumberRow
 adding_rows p s = (1 when not (is_panel p)) ∷ (3 when not (is_password s)) ∷ (3 when nat_le panel_most p.count) ∷ []
 
-abbrev pub commanding_rows : Panel → ℕ → Coded → ℕ → List Row
+abbrev pub commanding_rows : Panel → ℕ → Coded → ℕ → List NumberRow
 commanding_rows p i k room =
     (1 when not (is_panel p)) ∷ (2 when nat_lt room command_room) ∷ (3 when nat_le p.count i)
     ∷ (3 when not (is_some (coded_command k))) ∷ (9 when is_unready (entry_at p i)) ∷ []
 
-abbrev pub projector_rows : Panel → ℕ → List Row
+abbrev pub projector_rows : Panel → ℕ → List NumberRow
 projector_rows p i = (1 when not (is_panel p)) ∷ (3 when nat_le p.count i) ∷ []
 
 unfoldable pub added_to : Panel → List ℕ → PanelAs

@@ -2,10 +2,10 @@
 --   panel_refusal_number r       the number of a refusal
 -- Assumes nothing.
 use Rattle.std.specs.Prelude.{ℕ}
-use Rattle.panel.specs.declared.refusal.Refusal.{Refusal}
-use Rattle.panel.specs.declared.refusal.Refusal.TheVariants.{NotLegal, NoRoom, OutOfRange, NotReady}
+use Rattle.panel.specs.declared.refusal.PanelRefusal.{PanelRefusal}
+use Rattle.panel.specs.declared.refusal.PanelRefusal.TheVariants.{NotLegal, NoRoom, OutOfRange, NotReady}
 
-abbrev pub panel_refusal_number : Refusal → ℕ
+abbrev pub panel_refusal_number : PanelRefusal → ℕ
 panel_refusal_number NotLegal = 1
 panel_refusal_number NoRoom = 2
 panel_refusal_number OutOfRange = 3

@@ -9,7 +9,7 @@ use Rattle.pjlink.specs.Said.{Said, power_is, chosen_is, lamps_are}
 use Rattle.pjlink.specs.Carried.{lamps_carried}
 use Rattle.codes.specs.Commands.{source_number}
 use Rattle.text.specs.Rooms.{filled_room}
-use Rattle.codes.specs.Readings.{hours_of, lit_of, power_at_face}
+use Rattle.codes.specs.Readings.{hours_of, is_lit_lamp, power_at_face}
 use Rattle.panel.specs.Entries.{Shown}
 
 module _ (s : Shown) where
@@ -56,5 +56,5 @@ module _ (s : Shown) where
   showing (power_is p) = with_power_shown (power_at_face p)
   showing (chosen_is i) = with_input_shown (source_number i.source) i.number
   showing (lamps_are ls) = with_lamps_shown (length ls) (filled_room 0 lamps_carried (map hours_of ls))
-      (map flag_of (filled_room false lamps_carried (map lit_of ls)))
+      (map flag_of (filled_room false lamps_carried (map is_lit_lamp ls)))
   showing m = s

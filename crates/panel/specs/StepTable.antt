@@ -16,26 +16,26 @@ use Rattle.pjlink.specs.declared.greeting.Greeting.TheVariants.{Open, Secured}
 use Rattle.codes.specs.Commands.{coded_command}
 use Rattle.panel.specs.Entries.{ungreeted, greeted_open, greeted_secured, greeted_by}
 use Rattle.panel.specs.Stepping.{with_stray, with_talk, answered_entry, erra_entry}
-use Rattle.panel.specs.declared.types.Entry.{Entry}
+use Rattle.panel.specs.declared.types.PanelEntry.{PanelEntry}
 
 abbrev pub is_greeting : Option Greeting → Bool
 is_greeting (Some Open) = true
 is_greeting (Some (Secured random)) = true
 is_greeting g = false
 
-pub record IsUnderWay (e : Entry) (c : Command) : Type 0 where
+pub record IsUnderWay (e : PanelEntry) (c : Command) : Type 0 where
   pub greeted : e.greeting ≡ ungreeted → ⊥
   pub waits : is_raised e.under_way ≡ true
   pub asked : coded_command e.command ≡ Some c
 
-pub data IsStray (e : Entry) (l : List ℕ) : Type 0 where
+pub data IsStray (e : PanelEntry) (l : List ℕ) : Type 0 where
   ungreeted_malformed : e.greeting ≡ ungreeted → is_greeting (read_greeting l) ≡ false → IsStray e l
   late : (e.greeting ≡ ungreeted → ⊥) → is_raised e.under_way ≡ false → IsStray e l
   malformed : (c : Command) → IsUnderWay e c → reading_outcome_number (read_reply c l).outcome ≡ 10 → IsStray e l
   foreign : (c : Command) → IsUnderWay e c → reading_outcome_number (read_reply c l).outcome ≡ 11 → IsStray e l
   not_allowed : (c : Command) → IsUnderWay e c → reading_outcome_number (read_reply c l).outcome ≡ 12 → IsStray e l
 
-pub data StepTo (e : Entry) (l : List ℕ) : Entry → Type 0 where
+pub data StepTo (e : PanelEntry) (l : List ℕ) : PanelEntry → Type 0 where
   greets_open : e.greeting ≡ ungreeted → read_greeting l ≡ Some Open
       → StepTo e l (with_talk e (greeted_by greeted_open 0))
   greets_secured : (random : ℕ) → e.greeting ≡ ungreeted → read_greeting l ≡ Some (Secured random)

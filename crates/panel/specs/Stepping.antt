@@ -18,7 +18,7 @@ use Rattle.text.specs.Flags.{is_raised}
 use Rattle.pjlink.specs.declared.command.Command.{Command}
 use Rattle.pjlink.specs.Said.{Said}
 use Rattle.pjlink.specs.Greetings.{read_greeting}
-use Rattle.controller.specs.Reading.{ReadAs, read_reply, Outcome, means_it, erra_said}
+use Rattle.controller.specs.Reading.{ReadAs, read_reply, ReadingOutcome, means_it, erra_said}
 use Rattle.controller.specs.Writing.{written_command}
 use Rattle.pjlink.specs.declared.greeting.Greeting.{Greeting}
 use Rattle.pjlink.specs.declared.greeting.Greeting.TheVariants.{Open, Secured}
@@ -27,62 +27,62 @@ use Rattle.codes.specs.declared.command.Coded.{Coded}
 use Rattle.panel.specs.Entries.{Talk, Shown, talk_of, shown_of, password_in, entry_of, ungreeted, greeted_open}
 use Rattle.panel.specs.Entries.{greeted_secured, no_talk, greeted_by, leads_next, sent_on, rested_on, nothing_shown}
 use Rattle.panel.specs.Showing.{showing}
-use Rattle.panel.specs.declared.types.Entry.{Entry}
+use Rattle.panel.specs.declared.types.PanelEntry.{PanelEntry}
 
 abbrev pub strays_most : ℕ
 strays_most = 65535
 
-abbrev pub with_stray : Entry → Entry
+abbrev pub with_stray : PanelEntry → PanelEntry
 with_stray e = entry_of e.password (talk_of e) (shown_of e) (min strays_most (e.strays + 1))
 
-abbrev pub with_talk : Entry → Talk → Entry
+abbrev pub with_talk : PanelEntry → Talk → PanelEntry
 with_talk e t = entry_of e.password t (shown_of e) e.strays
 
-abbrev pub with_shown : Entry → Shown → Entry
+abbrev pub with_shown : PanelEntry → Shown → PanelEntry
 with_shown e s = entry_of e.password (talk_of e) s e.strays
 
-abbrev pub answered_entry : Entry → Said → Entry
+abbrev pub answered_entry : PanelEntry → Said → PanelEntry
 answered_entry e m = entry_of e.password (rested_on (talk_of e)) (showing (shown_of e) m) e.strays
 
-abbrev pub erra_entry : Entry → Entry
+abbrev pub erra_entry : PanelEntry → PanelEntry
 erra_entry e = entry_of e.password no_talk nothing_shown e.strays
 
-abbrev pub lost_entry : Entry → Entry
+abbrev pub lost_entry : PanelEntry → PanelEntry
 lost_entry e = with_talk e no_talk
 
-abbrev pub sent_entry : Entry → Coded → Entry
+abbrev pub sent_entry : PanelEntry → Coded → PanelEntry
 sent_entry e k = with_talk e (sent_on (talk_of e) k)
 
-abbrev pub greeted_as : Entry → Option Greeting → Entry
+abbrev pub greeted_as : PanelEntry → Option Greeting → PanelEntry
 greeted_as e (Some Open) = with_talk e (greeted_by greeted_open 0)
 greeted_as e (Some (Secured random)) = with_talk e (greeted_by greeted_secured random)
 greeted_as e g = with_stray e
 
-abbrev pub heard_as : Entry → Outcome → Said → Entry
+abbrev pub heard_as : PanelEntry → ReadingOutcome → Said → PanelEntry
 heard_as e means_it m = answered_entry e m
 heard_as e erra_said m = erra_entry e
 heard_as e o m = with_stray e
 
-abbrev pub heard_by : Entry → ReadAs → Entry
+abbrev pub heard_by : PanelEntry → ReadAs → PanelEntry
 heard_by e r = heard_as e r.outcome r.said
 
 -- the command under way is one, in a legal entry
-abbrev pub replied_to : Entry → Option Command → List ℕ → Entry
+abbrev pub replied_to : PanelEntry → Option Command → List ℕ → PanelEntry
 replied_to e (Some c) l = heard_by e (read_reply c l)
 replied_to e None l = with_stray e
 
-unfoldable pub heard_line : Entry → List ℕ → Entry
+unfoldable pub heard_line : PanelEntry → List ℕ → PanelEntry
 heard_line e l =
     if e.greeting == ungreeted then greeted_as e (read_greeting l)
     else if not (is_raised e.under_way) then with_stray e
     else replied_to e (coded_command e.command) l
 
-abbrev pub is_unready : Entry → Bool
+abbrev pub is_unready : PanelEntry → Bool
 is_unready e = e.greeting == ungreeted || is_raised e.under_way
 
-unfoldable pub command_sent : Entry → Command → ℕ → List ℕ
+unfoldable pub command_sent : PanelEntry → Command → ℕ → List ℕ
 command_sent e c room = (written_command c (leads_next (talk_of e)) e.random (password_in e) room).bytes
 
-abbrev pub line_sent : Entry → Option Command → ℕ → List ℕ
+abbrev pub line_sent : PanelEntry → Option Command → ℕ → List ℕ
 line_sent e (Some c) room = command_sent e c room
 line_sent e None room = []

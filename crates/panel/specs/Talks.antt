@@ -12,24 +12,24 @@ use Rattle.codes.specs.Commands.{coded_command}
 use Rattle.codes.specs.declared.command.Coded.{Coded}
 use Rattle.panel.specs.Entries.{talk_of, ungreeted, leads_next}
 use Rattle.panel.specs.Stepping.{heard_line, lost_entry, sent_entry, is_unready}
-use Rattle.panel.specs.declared.types.Entry.{Entry}
+use Rattle.panel.specs.declared.types.PanelEntry.{PanelEntry}
 
 pub data Happens : Type 0 where
   sends : Coded → Happens
   hears : List ℕ → Happens
   loses : Happens
 
-abbrev pub is_sent : Entry → Happens → Bool
+abbrev pub is_sent : PanelEntry → Happens → Bool
 is_sent e (sends k) = is_some (coded_command k) && not (is_unready e)
 is_sent e (hears l) = false
 is_sent e loses = false
 
-abbrev pub after_it : Entry → Happens → Entry
+abbrev pub after_it : PanelEntry → Happens → PanelEntry
 after_it e (sends k) = if is_sent e (sends k) then sent_entry e k else e
 after_it e (hears l) = heard_line e l
 after_it e loses = lost_entry e
 
-abbrev pub led_in_talk : Entry → List Happens → List Bool
+abbrev pub led_in_talk : PanelEntry → List Happens → List Bool
 led_in_talk e [] = []
 led_in_talk e (x ∷ xs) =
     if e.greeting == ungreeted then []

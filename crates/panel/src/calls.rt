@@ -10,19 +10,20 @@ ghost use Rattle.panel.specs.Refusals.{panel_refusal_number};
 ghost use Rattle.panel.specs.Hearing.{hearing_told, heard_by_code, heard_bytes};
 
 use crate::heard::Heard;
-use crate::refusal::Refusal;
+use crate::refusal::PanelRefusal;
 use crate::talk::Awaits;
-use crate::types::{Entry, LAMPS_MOST, NO_COMMAND, PANEL_MOST, Panel, Password};
+use crate::types::{NO_COMMAND, PANEL_MOST, Panel, PanelEntry, Password};
 use codes::command::Coded;
 use controller::writing::COMMAND_ROOM;
+use words::lamp::LAMPS_MOST;
 use words::texts;
 
-impl Entry {
+impl PanelEntry {
     /// Returns the entry of a projector with that password: its greeting is awaited, nothing is known, no strays.
-    pub fn new(password: Password) -> Entry
+    pub fn new(password: Password) -> PanelEntry
         ensures { result ≡ entry_of password no_talk nothing_shown 0 }
     {
-        Entry {
+        PanelEntry {
             password,
             greeting: 0,
             random: 0,
@@ -50,24 +51,24 @@ impl Panel {
     {
         Panel {
             count: 0,
-            entries: [Entry::new(Password::NONE); PANEL_MOST],
+            entries: [PanelEntry::new(Password::NONE); PANEL_MOST],
         }
     }
 
     /// Adds a projector, numbered by how many there were. Errors, in this order: `NotLegal`; `OutOfRange` for a
     /// password that is not 0 to 32 letters and digits, and for a ninth projector.
     #[tactic(auto, unfolding(crate::specs::PanelCalls::added_to), using(words::proofs::TextsTold::password_long))]
-    pub fn add(&mut self, password: &[u8]) -> Result<(), Refusal>
+    pub fn add(&mut self, password: &[u8]) -> Result<(), PanelRefusal>
         ensures number { outcome_number panel_refusal_number result ≡ (ours_panel.add self.old password.now).number }
         ensures panel { self.new ≡ (ours_panel.add self.old password.now).panel }
     {
         if !self.is_legal() {
-            return Err(Refusal::NotLegal);
+            return Err(PanelRefusal::NotLegal);
         }
         if !texts::is_password(password) || PANEL_MOST <= self.count {
-            return Err(Refusal::OutOfRange);
+            return Err(PanelRefusal::OutOfRange);
         }
-        self.entries[self.count] = Entry::new(Password::of(password));
+        self.entries[self.count] = PanelEntry::new(Password::of(password));
         self.count = self.count + 1;
         Ok(())
     }
@@ -76,7 +77,12 @@ impl Panel {
     /// this order: `NotLegal`; `NoRoom` for less than 168 bytes; `OutOfRange` for no such projector and for no command;
     /// `NotReady` before the greeting or over another command.
     #[tactic(auto, using(crate::proofs::LinesSent::entry_sends), unfolding(crate::specs::PanelCalls::command_at))]
-    pub fn send(&mut self, projector: usize, coded: Coded, out: &mut [u8]) -> Result<usize, Refusal>
+    pub fn send(
+        &mut self,
+        projector: usize,
+        coded: Coded,
+        out: &mut [u8],
+    ) -> Result<usize, PanelRefusal>
         ensures number { outcome_number panel_refusal_number result
             ≡ (ours_panel.command self.old projector coded (length out.old)).number }
         ensures length { length_written result
@@ -86,19 +92,19 @@ impl Panel {
             out.old }
     {
         if !self.is_legal() {
-            return Err(Refusal::NotLegal);
+            return Err(PanelRefusal::NotLegal);
         }
         if out.len() < COMMAND_ROOM {
-            return Err(Refusal::NoRoom);
+            return Err(PanelRefusal::NoRoom);
         }
         if self.count <= projector {
-            return Err(Refusal::OutOfRange);
+            return Err(PanelRefusal::OutOfRange);
         }
         let Some(command) = coded.command() else {
-            return Err(Refusal::OutOfRange);
+            return Err(PanelRefusal::OutOfRange);
         };
         let Awaits::Nothing = self.entries[projector].awaits() else {
-            return Err(Refusal::NotReady);
+            return Err(PanelRefusal::NotReady);
         };
         Ok(self.entries[projector].send(coded, command, out))
     }
@@ -106,7 +112,7 @@ impl Panel {
     /// Steps the entry of a projector on its line, with its CR, and returns what the line was. Errors, in this order:
     /// `NotLegal`; `OutOfRange` for no such projector.
     #[tactic(auto, using(crate::proofs::PanelsTold::few_projectors), unfolding(crate::specs::PanelCalls::stepped_at))]
-    pub fn hear<'a>(&mut self, projector: usize, line: &'a [u8]) -> Result<Heard<'a>, Refusal>
+    pub fn hear<'a>(&mut self, projector: usize, line: &'a [u8]) -> Result<Heard<'a>, PanelRefusal>
         ensures number { outcome_number panel_refusal_number result
             ≡ (ours_panel.hear self.old projector line.now).number }
         ensures panel { self.new ≡ (ours_panel.hear self.old projector line.now).panel }
@@ -114,10 +120,10 @@ impl Panel {
         ensures short { IfOk result (λ h. length (heard_bytes (heard_by_code h)) ≤ parameter_most) }
     {
         if !self.is_legal() {
-            return Err(Refusal::NotLegal);
+            return Err(PanelRefusal::NotLegal);
         }
         if self.count <= projector {
-            return Err(Refusal::OutOfRange);
+            return Err(PanelRefusal::OutOfRange);
         }
         Ok(self.entries[projector].hear(line))
     }
@@ -125,15 +131,15 @@ impl Panel {
     /// Records that the connection to a projector is gone. Errors, in this order: `NotLegal`; `OutOfRange` for no such
     /// projector.
     #[tactic(auto, using(crate::proofs::PanelsTold::few_projectors), unfolding(crate::specs::PanelCalls::lost_at))]
-    pub fn lose(&mut self, projector: usize) -> Result<(), Refusal>
+    pub fn lose(&mut self, projector: usize) -> Result<(), PanelRefusal>
         ensures number { outcome_number panel_refusal_number result ≡ (ours_panel.lose self.old projector).number }
         ensures panel { self.new ≡ (ours_panel.lose self.old projector).panel }
     {
         if !self.is_legal() {
-            return Err(Refusal::NotLegal);
+            return Err(PanelRefusal::NotLegal);
         }
         if self.count <= projector {
-            return Err(Refusal::OutOfRange);
+            return Err(PanelRefusal::OutOfRange);
         }
         self.entries[projector].lose();
         Ok(())

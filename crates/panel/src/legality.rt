@@ -9,9 +9,10 @@ ghost use Rattle.panel.specs.LegalPanels.{is_hours, is_hours_room, is_lit_room, 
 ghost use Rattle.panel.specs.LegalPanels.{is_entry, is_unused, is_panel};
 
 use crate::talk::{GREETED_SECURED, UNGREETED};
-use crate::types::{Entry, HOURS_MOST, LAMPS_MOST, Panel, STRAYS_MOST};
+use crate::types::{HOURS_MOST, Panel, PanelEntry, STRAYS_MOST};
 use text::rooms::Blank;
 use text::{flag, rooms};
+use words::lamp::LAMPS_MOST;
 
 fn are_hours(hours: &[u32]) -> bool
     ensures { result ≡ is_hours hours.now }
@@ -32,7 +33,7 @@ fn is_lit_room(lit: &[u8; LAMPS_MOST], count: usize) -> bool
     rooms::used(lit, count).is_some() && flag::are_flags(lit)
 }
 
-impl Entry {
+impl PanelEntry {
     // A command under way only after a greeting, and one that the writer takes; else none.
     #[tactic(auto, unfolding(crate::specs::LegalPanels::is_command_kept))]
     fn is_command_kept(&self) -> bool
@@ -123,7 +124,7 @@ impl Entry {
 }
 
 // Nothing is kept in the entry, where it is legal.
-impl Blank for Entry {
+impl Blank for PanelEntry {
     ghost blank = { is_unused };
 
     #[tactic(auto, unfolding(crate::specs::LegalPanels::is_unused))]
@@ -137,7 +138,7 @@ impl Blank for Entry {
     }
 }
 
-fn are_legal(entries: &[Entry]) -> bool
+fn are_legal(entries: &[PanelEntry]) -> bool
     ensures { result ≡ list_all is_entry entries.now }
 {
     entries.iter().all(|e| e.is_legal())

@@ -9,7 +9,7 @@ use text::numbered::Numbered;
 
 /// Why a call on a panel is refused. The panel, and the buffer for a line, are then as they were.
 #[derive(Clone, Copy, Debug, PartialEq, Eq)]
-pub enum Refusal {
+pub enum PanelRefusal {
     /// 1: the panel is not legal.
     NotLegal,
     /// 2: the buffer is too short for a command's line.
@@ -20,26 +20,26 @@ pub enum Refusal {
     NotReady,
 }
 
-impl Numbered for Refusal {
+impl Numbered for PanelRefusal {
     ghost number = { panel_refusal_number };
 
     ghost refuses = { λ why. Prim.grind arith };
 
     fn number(self) -> u32 {
         match self {
-            Refusal::NotLegal => 1,
-            Refusal::NoRoom => 2,
-            Refusal::OutOfRange => 3,
-            Refusal::NotReady => 9,
+            PanelRefusal::NotLegal => 1,
+            PanelRefusal::NoRoom => 2,
+            PanelRefusal::OutOfRange => 3,
+            PanelRefusal::NotReady => 9,
         }
     }
 }
 
 /// What its number says.
-impl fmt::Display for Refusal {
+impl fmt::Display for PanelRefusal {
     fn fmt<W: fmt::Write>(&self, f: &mut fmt::Formatter<W>) -> fmt::Result {
         f.write_str(numbers::number_text(self.number()))
     }
 }
 
-impl Error for Refusal {}
+impl Error for PanelRefusal {}

@@ -7,13 +7,13 @@ ghost use Rattle.panel.specs.LegalPanels.{is_entry};
 ghost use Rattle.panel.specs.Passwords.{password_room};
 ghost use Rattle.panel.specs.Stepping.{sent_entry, command_sent};
 
-use crate::types::Entry;
+use crate::types::PanelEntry;
 use codes::command::Coded;
 use controller::writing;
 use pjlink::command::Command;
 use text::flag;
 
-impl Entry {
+impl PanelEntry {
     /// Writes the line of the command, which has this code, to the start of `out`, led by the digest if it is the first
     /// after a secured greeting. The command is then under way. Returns the length of the line.
     #[tactic(auto, using(crate::proofs::LinesSent::sent_whole, crate::proofs::LinesSent::password_writable))]

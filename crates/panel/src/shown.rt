@@ -6,16 +6,16 @@ ghost use Rattle.panel.specs.Entries.{shown_of, nothing_shown};
 ghost use Rattle.panel.specs.Showing.{showing};
 ghost use Rattle.panel.specs.Stepping.{with_shown};
 
-use crate::types::{Entry, LAMPS_MOST};
+use crate::types::PanelEntry;
 use codes::lists::FlatLamps;
 use codes::readings;
 use pjlink::answer::{Answer, Reply};
 use text::flag;
 use words::input::Input;
-use words::lamp::LampHours;
-use words::power::Power;
+use words::lamp::{LAMPS_MOST, LampHours};
+use words::power::PowerStatus;
 
-impl Entry {
+impl PanelEntry {
     /// Makes all readings unknown.
     pub(crate) fn show_nothing(&mut self)
         ensures { self.new ≡ with_shown self.old nothing_shown }
@@ -31,7 +31,7 @@ impl Entry {
         self.lit = [0; LAMPS_MOST];
     }
 
-    fn show_power(&mut self, power: Power)
+    fn show_power(&mut self, power: PowerStatus)
         ensures { self.new ≡ with_shown self.old (showing (shown_of self.old) (power_is power)) }
     {
         self.power_known = 1;

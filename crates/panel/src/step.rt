@@ -12,7 +12,7 @@ ghost use Rattle.panel.specs.Hearing.{greeting_heard, reply_heard, line_heard, h
 
 use crate::heard::Heard;
 use crate::talk::{Awaits, Greeted};
-use crate::types::{Entry, NO_COMMAND, STRAYS_MOST};
+use crate::types::{NO_COMMAND, PanelEntry, STRAYS_MOST};
 use codes::command::Coded;
 use controller::reading;
 use controller::reading::{Misread, Reading};
@@ -28,7 +28,7 @@ fn one_more(strays: u32) -> u32
     strays + 1
 }
 
-impl Entry {
+impl PanelEntry {
     // A late, foreign or malformed line changes nothing but the count of such lines.
     fn stray(&mut self)
         ensures { self.new ≡ with_stray self.old }

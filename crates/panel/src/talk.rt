@@ -4,17 +4,17 @@ ghost use Rattle.panel.specs.Entries.{talk_of, is_secured_talk};
 ghost use Rattle.panel.specs.Stepping.{with_talk};
 ghost use Rattle.panel.specs.Awaited.{awaits_of, talk_begun};
 
-use crate::types::{Entry, NO_COMMAND};
+use crate::types::{NO_COMMAND, PanelEntry};
 use codes::command::Coded;
 use text::flag;
 
-/// `Entry::greeting`: none yet.
+/// `PanelEntry::greeting`: none yet.
 pub const UNGREETED: u8 = 0;
 
 // It was `PJLINK 0`.
 const GREETED_OPEN: u8 = 1;
 
-/// `Entry::greeting`: it was `PJLINK 1`.
+/// `PanelEntry::greeting`: it was `PJLINK 1`.
 pub const GREETED_SECURED: u8 = 2;
 
 /// How a projector greeted.
@@ -39,7 +39,7 @@ pub enum Awaits {
     Reply(Coded),
 }
 
-impl Entry {
+impl PanelEntry {
     /// Whether the projector asks for a digest.
     pub fn is_secured(&self) -> bool
         ensures { result ≡ is_secured_talk (talk_of self.now) }

@@ -4,7 +4,7 @@ ghost use Rattle.std.specs.Prelude.{[], ◌≡◌, ◌≢◌, ◌≤◌, ◌<◌
 ghost use Rattle.std.specs.List.{list_all};
 ghost use Rattle.text.specs.Flags.{is_raised};
 ghost use Rattle.text.specs.Rows.{first_of};
-ghost use Rattle.text.specs.Scans.{same_by, itself};
+ghost use Rattle.text.specs.Scans.{is_same_by, itself};
 ghost use Rattle.text.specs.Words.{over};
 ghost use Rattle.digest.specs.Hex.{leading_digest};
 ghost use Rattle.pjlink.specs.Commands.{command_line, command_class};
@@ -25,14 +25,14 @@ ghost use Rattle.panel.specs.StepTable.{IsUnderWay, IsStray, StepTo};
 ghost use Rattle.panel.specs.Talks.{Happens, is_first_led, led_in_talk};
 ghost use Rattle.panel.specs.PanelCalls.{no_panel, entry_at, adding_rows, commanding_rows, projector_rows};
 ghost use Rattle.panel.specs.PanelCalls.{added_to, command_at, stepped_at, lost_at};
-ghost use Rattle.panel.specs.declared.types.Entry.{Entry};
+ghost use Rattle.panel.specs.declared.types.PanelEntry.{PanelEntry};
 ghost use Rattle.panel.specs.declared.types.Panel.{Panel};
 
 /// A legal entry steps by the table of lines, and the table's result is the step's: so the table gives one entry.
 pub fn a_line_steps_by_the_table()
-    ensures steps_by_the_table { (e : Entry) (l : List ℕ) → is_entry e ≡ true → StepTo e l (heard_line e l) }
-    ensures row_steps { (e : Entry) (l : List ℕ) (f : Entry) → StepTo e l f → heard_line e l ≡ f }
-    ensures one_step { (e : Entry) (l : List ℕ) (f g : Entry) → StepTo e l f → StepTo e l g → f ≡ g }
+    ensures steps_by_the_table { (e : PanelEntry) (l : List ℕ) → is_entry e ≡ true → StepTo e l (heard_line e l) }
+    ensures row_steps { (e : PanelEntry) (l : List ℕ) (f : PanelEntry) → StepTo e l f → heard_line e l ≡ f }
+    ensures one_step { (e : PanelEntry) (l : List ℕ) (f g : PanelEntry) → StepTo e l f → StepTo e l g → f ≡ g }
 {}
 
 /// Lines that the rules do not list one by one (RULES, Panel) change nothing but the count of strays: the ERRA line
@@ -40,37 +40,37 @@ pub fn a_line_steps_by_the_table()
 /// ERRA line nor of a reply's form, so a second greeting too, with any random number.
 #[tactic(auto, using(crate::proofs::Examples::counted_strays))]
 pub fn strays_are_counted()
-    ensures erra_before_greeting { (e : Entry) → e.greeting ≡ ungreeted → heard_line e erra_line ≡ with_stray e }
-    ensures erra_late { (e : Entry) → e.greeting ≢ ungreeted → is_raised e.under_way ≡ false
+    ensures erra_before_greeting { (e : PanelEntry) → e.greeting ≡ ungreeted → heard_line e erra_line ≡ with_stray e }
+    ensures erra_late { (e : PanelEntry) → e.greeting ≢ ungreeted → is_raised e.under_way ≡ false
         → heard_line e erra_line ≡ with_stray e }
-    ensures greeting_late { (e : Entry) → e.greeting ≢ ungreeted → is_raised e.under_way ≡ false
+    ensures greeting_late { (e : PanelEntry) → e.greeting ≢ ungreeted → is_raised e.under_way ≡ false
         → heard_line e greeting_open ≡ with_stray e }
-    ensures unformed { (e : Entry) (c : Command) → IsUnderWay e c → (l : List ℕ)
-        → same_by itself l erra_line ≡ false → is_reply_form (command_class c) l ≡ false
+    ensures unformed { (e : PanelEntry) (c : Command) → IsUnderWay e c → (l : List ℕ)
+        → is_same_by itself l erra_line ≡ false → is_reply_form (command_class c) l ≡ false
         → heard_line e l ≡ with_stray e }
-    ensures greeting_malformed { (e : Entry) (c : Command) → IsUnderWay e c
+    ensures greeting_malformed { (e : PanelEntry) (c : Command) → IsUnderWay e c
         → heard_line e greeting_open ≡ with_stray e }
-    ensures secured_greeting_malformed { (e : Entry) (c : Command) → IsUnderWay e c → (digits : List ℕ)
+    ensures secured_greeting_malformed { (e : PanelEntry) (c : Command) → IsUnderWay e c → (digits : List ℕ)
         → heard_line e (greeting_secured digits) ≡ with_stray e }
 {}
 
 /// Of the commands sent on one connection, for any commands and any lines, the digest leads the first and no other;
 /// after a greeting without security it leads none.
 pub fn the_digest_leads_the_first()
-    ensures secured { (e : Entry) (xs : List Happens) (random : ℕ)
+    ensures secured { (e : PanelEntry) (xs : List Happens) (random : ℕ)
         → is_first_led (led_in_talk (with_talk e (greeted_by greeted_secured random)) xs) ≡ true }
-    ensures unsecured { (e : Entry) (xs : List Happens)
+    ensures unsecured { (e : PanelEntry) (xs : List Happens)
         → list_all not (led_in_talk (with_talk e (greeted_by greeted_open 0)) xs) ≡ true }
 {}
 
 /// What is sent is what the controller's writer gives: the digest and the command's line if it is led, else the line.
 pub fn the_line_is_the_writers()
-    ensures by_the_writer { (e : Entry) (c : Command) (room : ℕ) → command_sent e c room
+    ensures by_the_writer { (e : PanelEntry) (c : Command) (room : ℕ) → command_sent e c room
         ≡ (written_command c (leads_next (talk_of e)) e.random (password_in e) room).bytes }
-    ensures led { (e : Entry) (k : Coded) (c : Command) (room : ℕ)
+    ensures led { (e : PanelEntry) (k : Coded) (c : Command) (room : ℕ)
         → is_entry e ≡ true → coded_command k ≡ Some c → command_room ≤ room → leads_next (talk_of e) ≡ true
         → command_sent e c room ≡ leading_digest e.random (password_in e) ++ command_line c }
-    ensures plain { (e : Entry) (k : Coded) (c : Command) (room : ℕ)
+    ensures plain { (e : PanelEntry) (k : Coded) (c : Command) (room : ℕ)
         → is_entry e ≡ true → coded_command k ≡ Some c → command_room ≤ room → leads_next (talk_of e) ≡ false
         → command_sent e c room ≡ command_line c }
 {}
@@ -78,14 +78,14 @@ pub fn the_line_is_the_writers()
 /// What is shown changes by an accepted reply with a reading, and by ERRA: by no stray, no OK, no error, no command and
 /// no loss. At first nothing is known.
 pub fn only_a_reading_is_shown()
-    ensures stray_keeps { (e : Entry) (l : List ℕ) → IsStray e l
+    ensures stray_keeps { (e : PanelEntry) (l : List ℕ) → IsStray e l
         → (talk_of (heard_line e l) ≡ talk_of e) × (shown_of (heard_line e l) ≡ shown_of e) }
-    ensures reply_shows { (e : Entry) (l : List ℕ) (c : Command) (m : Said)
+    ensures reply_shows { (e : PanelEntry) (l : List ℕ) (c : Command) (m : Said)
         → IsUnderWay e c → read_reply c l ≡ meaning m → heard_line e l ≡ answered_entry e m }
     ensures okay_keeps { (s : Shown) → showing s okay ≡ s }
     ensures error_keeps { (s : Shown) (n : ℕ) → showing s (refused n) ≡ s }
-    ensures loss_keeps { (e : Entry) → shown_of (lost_entry e) ≡ shown_of e }
-    ensures sending_keeps { (e : Entry) (k : Coded) → shown_of (sent_entry e k) ≡ shown_of e }
+    ensures loss_keeps { (e : PanelEntry) → shown_of (lost_entry e) ≡ shown_of e }
+    ensures sending_keeps { (e : PanelEntry) (k : Coded) → shown_of (sent_entry e k) ≡ shown_of e }
     ensures unknown_at_first { (s : List ℕ) → shown_of (fresh_entry s) ≡ nothing_shown }
 {}
 

@@ -2,15 +2,13 @@
 // bytes of it are a panel; a flag is 0 or 1 in a legal panel, and raised where it is not 0 (`text::flag`). What is
 // not known, not under way or past a count is zero. `talk` says what its numbers mean.
 use codes::command::Coded;
+use words::lamp::LAMPS_MOST;
 
 /// The room of a password (`pj_text`).
 pub const PASSWORD_ROOM: usize = 64;
 
 /// The most projectors of a panel.
 pub const PANEL_MOST: usize = 8;
-
-/// The most lamps that are shown of a projector.
-pub const LAMPS_MOST: usize = 8;
 
 /// The most hours of a lamp.
 pub const HOURS_MOST: u32 = 99_999;
@@ -31,7 +29,7 @@ pub struct Password {
 /// One projector (`pj_entry`).
 #[repr(C)]
 #[derive(Clone, Copy)]
-pub struct Entry {
+pub struct PanelEntry {
     /// The password that the projector was set up with; 1 to 7 characters are taken too.
     pub password: Password,
     /// The greeting that it has sent: 0 none yet, 1 `PJLINK 0`, 2 `PJLINK 1` (`enum pj_awaited`).
@@ -73,7 +71,7 @@ pub struct Panel {
     /// How many projectors it drives, 0 to 8.
     pub count: usize,
     /// The projectors, in the order in which they were added; all zero past the count.
-    pub entries: [Entry; PANEL_MOST],
+    pub entries: [PanelEntry; PANEL_MOST],
 }
 
 /// The value of a command if none is under way.

@@ -3,19 +3,19 @@
 -- Assumes nothing.
 use Rattle.std.proofs.Common.{arith, ℕ, ◌≡◌, true, ◌&&◌, List, ◌==◌, find, Option, Some}
 use Rattle.std.specs.Option.{option_map}
-use Rattle.text.specs.Scans.{same_by, itself}
+use Rattle.text.specs.Scans.{is_same_by, itself}
 use Rattle.text.proofs.Sameness.{same_turned}
 use Rattle.words.specs.Classes.{class_as_number}
 use Rattle.pjlink.specs.Bodies.{body_rows, class_of, body_named, is_body}
 use Rattle.pjlink.specs.Commands.{body_text}
-use Rattle.pjlink.specs.declared.body.Row.{Row}
+use Rattle.pjlink.specs.declared.body.BodyRow.{BodyRow}
 use Rattle.pjlink.specs.declared.body.Body.{Body}
 
 -- the body of Class k whose text is exactly s
 abbrev exactly : ℕ → List ℕ → Option Body
 exactly k s =
-    option_map (λ (r : Row). r.body)
-    (find (λ (r : Row). k == class_as_number r.class && same_by itself s r.letters) body_rows)
+    option_map (λ (r : BodyRow). r.body)
+    (find (λ (r : BodyRow). k == class_as_number r.class && is_same_by itself s r.letters) body_rows)
 
 pub record Named (b : Body) : Type 0 where
   pub own : is_body (class_of b) (body_text b) b ≡ true

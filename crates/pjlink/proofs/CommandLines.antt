@@ -7,7 +7,7 @@ use Rattle.std.proofs.Common.{ℕ, ◌+◌, ◌≤◌, ◌<◌, ◌≡◌, sym, 
 use Rattle.std.proofs.Common.{◌∷◌, ◌++◌, arith, length, length-append, nat_le, le-leb, ne_eqb, codes}
 use Rattle.std.proofs.lemmas.Bool.{lt-leb}
 use Rattle.text.proofs.Scanning.{list_all_implies}
-use Rattle.words.specs.Bytes.{is_alnum, not_cr, no_cr}
+use Rattle.words.specs.Bytes.{is_alnum, is_not_cr, is_cr_free}
 use Rattle.words.specs.Inputs.{input_text}
 use Rattle.pjlink.specs.Commands.{body_text, body_of, command_class, class_digit, parameter_of}
 use Rattle.pjlink.specs.Commands.{command_text, command_line}
@@ -23,10 +23,10 @@ pub spelt : (c : Command) {h : ℕ} {s p : List ℕ} → h ≡ class_digit (comm
     → codes "%" ++ (h ∷ four s) ++ codes " " ++ p ++ codes "\r" ≡ command_line c
 spelt c k e f = grind arith
 
-pub input_no_cr : (i : Input) → list_all not_cr (input_text i) ≡ true
-input_no_cr i = list_all_implies is_alnum not_cr alnum_not_cr (input_text i) (input_alnum i)
+pub input_no_cr : (i : Input) → list_all is_not_cr (input_text i) ≡ true
+input_no_cr i = list_all_implies is_alnum is_not_cr alnum_not_cr (input_text i) (input_alnum i)
 
-list_all-parameter_of : (c : Command) → list_all not_cr (parameter_of c) ≡ true
+list_all-parameter_of : (c : Command) → list_all is_not_cr (parameter_of c) ≡ true
 list_all-parameter_of c = grind (arith, input_no_cr)
 
 module _ (c : Command) where
@@ -75,7 +75,7 @@ module _ (c : Command) where
     pub command_of_higher_class : k < command_class c → is_command_form k (command_text c) ≡ false
     command_of_higher_class h = form_by_class ∙ lt-leb (command_class c) k h
 
-  pub command_no_cr : no_cr (command_text c) ≡ true
+  pub command_no_cr : is_cr_free (command_text c) ≡ true
   command_no_cr = grind (arith, ne_eqb, no_cr_of, list_all-parameter_of)
 
 -- a line of the form has its head

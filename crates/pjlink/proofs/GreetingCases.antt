@@ -2,7 +2,7 @@
 -- Assumes nothing.
 use Rattle.std.proofs.Common.{arith, ℕ, ◌≡◌, refl, ◌∙◌, true, false, List, ◌++◌, length, append_assoc, codes}
 use Rattle.std.specs.Prelude.{Option, None, Some}
-use Rattle.text.specs.Scans.{same_by, itself}
+use Rattle.text.specs.Scans.{is_same_by, itself}
 use Rattle.text.proofs.Choices.{if_yes, if_no}
 use Rattle.text.proofs.Scanning.{long_differs}
 use Rattle.digest.specs.Hex.{hex_digits}
@@ -22,24 +22,24 @@ secured_put out e f g h = grind (arith, append_assoc)
 
 module _ (l : List ℕ) where
   pub greeting_by : (P : Option Greeting → Type 0)
-      → (same_by itself l greeting_open ≡ true → P (Some Open))
-      → (same_by itself l erra_line ≡ true → P (Some Refused))
+      → (is_same_by itself l greeting_open ≡ true → P (Some Open))
+      → (is_same_by itself l erra_line ≡ true → P (Some Refused))
       → (greets l (random_in l) ≡ true → P (Some (Secured (random_in l))))
       → P None
       → P (read_greeting l)
   unfolding read_greeting
   greeting_by P opens erra secured none = grind arith
 
-  pub greeting_open_lem : same_by itself l greeting_open ≡ true → read_greeting l ≡ Some Open
+  pub greeting_open_lem : is_same_by itself l greeting_open ≡ true → read_greeting l ≡ Some Open
   unfolding read_greeting
   greeting_open_lem e = if_yes _ _ e
 
-  module _ (closed : same_by itself l greeting_open ≡ false) where
-    pub greeting_refused : same_by itself l erra_line ≡ true → read_greeting l ≡ Some Refused
+  module _ (closed : is_same_by itself l greeting_open ≡ false) where
+    pub greeting_refused : is_same_by itself l erra_line ≡ true → read_greeting l ≡ Some Refused
     unfolding read_greeting
     greeting_refused e = if_no _ _ closed ∙ if_yes _ _ e
 
-    module _ (line : same_by itself l erra_line ≡ false) where
+    module _ (line : is_same_by itself l erra_line ≡ false) where
       pub greeting_secured_lem : greets l (random_in l) ≡ true → read_greeting l ≡ Some (Secured (random_in l))
       unfolding read_greeting
       greeting_secured_lem e = if_no _ _ closed ∙ if_no _ _ line ∙ if_yes _ _ e

@@ -4,7 +4,7 @@
 use Rattle.std.proofs.Common.{ℕ, ◌^◌, ◌≤◌, ◌<◌, ◌≡◌, refl, sym, ap, ◌∙◌, true, List, map-id, arith, length, take, drop}
 use Rattle.std.proofs.Common.{length-take, None, Some}
 use Rattle.std.proofs.Math.Nat.{pow-le-pow_right}
-use Rattle.text.specs.Scans.{same_by, itself}
+use Rattle.text.specs.Scans.{is_same_by, itself}
 use Rattle.text.proofs.Sameness.{same_is, turned_same}
 use Rattle.digest.specs.Hex.{hex_digits}
 use Rattle.digest.proofs.Laws.{hex_value_back, hex_value_below}
@@ -31,7 +31,7 @@ module _ (r : ℕ) (word : r < 2 ^ 32) where
 
   pub secured_heard : read_greeting line ≡ Some (Secured r)
   secured_heard =
-      let same : same_by itself line line ≡ true = turned_same itself line line (map-id line) in
+      let same : is_same_by itself line line ≡ true = turned_same itself line line (map-id line) in
       greeting_secured_lem line refl refl (ap (greets line) random_back ∙ same)
       ∙ ap (λ (n : ℕ). Some (Secured n)) random_back
 

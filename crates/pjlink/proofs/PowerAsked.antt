@@ -9,7 +9,7 @@ use Rattle.text.proofs.Choices.{both_right}
 use Rattle.words.specs.Codec.{◌>>=◌, value_at_end}
 use Rattle.words.specs.Powers.{switch_read, switch_text}
 use Rattle.pjlink.specs.Bodies.{row_of, body_rows, is_named, is_body}
-use Rattle.pjlink.specs.declared.body.Row.{Row}
+use Rattle.pjlink.specs.declared.body.BodyRow.{BodyRow}
 use Rattle.pjlink.specs.Requests.{name_query_of, set_of, Request, or_unlisted, asked_of, body_request, request_of}
 use Rattle.words.specs.declared.class.ClassNumber.{ClassNumber}
 use Rattle.pjlink.specs.declared.body.Body.{Body}
@@ -60,10 +60,10 @@ module _ (p : List ℕ) where
   unfolding asked_of
   named_none b n = grind (arith, set_none)
 
-  abbrev NoIn : Option Row → Type 0
-  NoIn m = No (body_request (option_map (λ (r : Row). r.body) m) p)
+  abbrev NoIn : Option BodyRow → Type 0
+  NoIn m = No (body_request (option_map (λ (r : BodyRow). r.body) m) p)
 
-  others_none : (rs : List Row) (k : ℕ) (h : List ℕ) → list_all (λ (r : Row). sets_other r.body) rs ≡ true
+  others_none : (rs : List BodyRow) (k : ℕ) (h : List ℕ) → list_all (λ (r : BodyRow). sets_other r.body) rs ≡ true
       → NoIn (find (is_named k h) rs)
   others_none [] k h e = refl
   others_none (r ∷ rs) k h e = grind (arith, named_none, others_none rs k h (both_right (sets_other r.body) _ e))

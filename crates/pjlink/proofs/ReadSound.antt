@@ -19,9 +19,9 @@ use Rattle.words.specs.Lamps.{is_lamp_hours, lamp_read}
 use Rattle.words.specs.Laws.{power_codec, input_codec, mutes_codec, errors_codec, lamp_codec, class_codec, switch_codec}
 use Rattle.words.specs.Muting.{mutes_read}
 use Rattle.words.specs.Powers.{power_read, switch_read}
-use Rattle.words.specs.Refusing.{refusal_digit, refusal_read}
+use Rattle.words.specs.Refusing.{error_reply_digit, error_reply_read}
 use Rattle.words.specs.declared.input.Input.{Input}
-use Rattle.words.specs.declared.refusal.Refusal.{Refusal}
+use Rattle.words.specs.declared.error_reply.ErrorReply.{ErrorReply}
 use Rattle.pjlink.specs.declared.command.Command.{Command}
 use Rattle.pjlink.specs.declared.body.AnswerKind.{AnswerKind}
 use Rattle.pjlink.specs.declared.body.AnswerKind.TheVariants as kind
@@ -140,16 +140,17 @@ value_sound c p =
     if_by (CanRead c p) (is_set c) (λ set. ok_sound c p set)
     (λ asks. queried_sound c p asks (kind_sound (kind_of (body_of c)) p))
 
-refusal_range : (r : Refusal) → (1 ≤ refusal_digit r) × (refusal_digit r ≤ 4)
+refusal_range : (r : ErrorReply) → (1 ≤ error_reply_digit r) × (error_reply_digit r ≤ 4)
 refusal_range r = grind arith
 
-by_refusal : (c : Command) (p : List ℕ) (o : Option Refusal) → whole_value refusal_read p ≡ o
+by_refusal : (c : Command) (p : List ℕ) (o : Option ErrorReply) → whole_value error_reply_read p ≡ o
     → CanRead c p (refusal_or c o (read_value c p))
 by_refusal c p None e = value_sound c p
 by_refusal c p (Some r) e =
     let n = refusal_range r in
-    guarded (is_refusal_to c (refusal_digit r)) (λ t. by_row (refuses (refusal_digit r) n.0 n.1 t) (refusal_is p r e))
+    guarded (is_refusal_to c (error_reply_digit r)) (λ t. by_row (refuses (error_reply_digit r) n.0 n.1 t) (refusal_is
+    p r e))
 
 pub read_sound : (c : Command) (p : List ℕ) → CanRead c p (read_parameter c p)
 unfolding read_parameter
-read_sound c p = by_refusal c p (whole_value refusal_read p) refl
+read_sound c p = by_refusal c p (whole_value error_reply_read p) refl

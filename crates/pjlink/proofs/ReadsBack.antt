@@ -18,12 +18,12 @@ use Rattle.words.specs.Lamps.{WritesLampHours}
 use Rattle.words.specs.Laws.{power_codec, input_codec, mutes_codec, errors_codec, lamp_codec, class_codec, switch_codec}
 use Rattle.words.specs.Muting.{halves_text, mutes_of}
 use Rattle.words.specs.Powers.{power_text, switch_code}
-use Rattle.words.specs.Refusing.{refusal_digit, refusal_read}
+use Rattle.words.specs.Refusing.{error_reply_digit, error_reply_read}
 use Rattle.words.specs.Texts.{name_most, info_most, input_name_most}
 use Rattle.words.specs.declared.input.Input.{Input}
 use Rattle.words.specs.declared.lamp.LampHours.{LampHours}
-use Rattle.words.specs.declared.refusal.Refusal.{Refusal}
-use Rattle.words.specs.declared.refusal.Refusal.TheVariants.{Undefined, OutOfParameter, Unavailable, Failure}
+use Rattle.words.specs.declared.error_reply.ErrorReply.{ErrorReply}
+use Rattle.words.specs.declared.error_reply.ErrorReply.TheVariants.{Undefined, OutOfParameter, Unavailable, Failure}
 use Rattle.words.proofs.TextsTold.{name_is_text}
 use Rattle.pjlink.specs.Bodies.{kind_of}
 use Rattle.pjlink.specs.Commands.{body_of}
@@ -44,7 +44,7 @@ use Rattle.pjlink.proofs.SaidRows.{said_row}
 use Rattle.pjlink.proofs.Written.{list_legal, said_is_written}
 
 -- the value is read once no refusal is found
-value : (c : Command) (p : List ℕ) {m : Said} → whole_value refusal_read p ≡ None → read_value c p ≡ m →
+value : (c : Command) (p : List ℕ) {m : Said} → whole_value error_reply_read p ≡ None → read_value c p ≡ m →
     read_parameter c p ≡ m
 unfolding read_parameter
 value c p z e = ap (λ o. refusal_or c o (read_value c p)) z ∙ e
@@ -57,7 +57,7 @@ by c m same e = ap (read_parameter c) (same ∙ said_row m) ∙ e
 ok_back : (c : Command) → is_set c ≡ true → read_value c (codes "OK") ≡ okay
 ok_back c e = if_yes okay (read_queried (kind_of (body_of c)) (codes "OK")) e
 
-refusal_numbered : (n : ℕ) → 1 ≤ n → n ≤ 4 → (r : Refusal) × (n ≡ refusal_digit r)
+refusal_numbered : (n : ℕ) → 1 ≤ n → n ≤ 4 → (r : ErrorReply) × (n ≡ error_reply_digit r)
 refusal_numbered zero l h = absurd (omega arith)
 refusal_numbered (suc zero) l h = (Undefined, refl)
 refusal_numbered (suc (suc zero)) l h = (OutOfParameter, refl)
@@ -65,8 +65,8 @@ refusal_numbered (suc (suc (suc zero))) l h = (Unavailable, refl)
 refusal_numbered (suc (suc (suc (suc zero)))) l h = (Failure, refl)
 refusal_numbered (suc (suc (suc (suc (suc n))))) l h = absurd (omega arith)
 
-read_parameter-said_text : (c : Command) (r : Refusal) → is_refusal_to c (refusal_digit r) ≡ true
-    → read_parameter c (said_text (refused (refusal_digit r))) ≡ refused (refusal_digit r)
+read_parameter-said_text : (c : Command) (r : ErrorReply) → is_refusal_to c (error_reply_digit r) ≡ true
+    → read_parameter c (said_text (refused (error_reply_digit r))) ≡ refused (error_reply_digit r)
 unfolding read_parameter
 read_parameter-said_text c r t = grind arith
 
@@ -98,14 +98,14 @@ module _
 
 -- what is read of a writing: no refusal, and by its kind the value
 record BackBy (k : AnswerKind) (p : List ℕ) (m : Said) : Type 0 where
-  pub unrefused : whole_value refusal_read p ≡ None
+  pub unrefused : whole_value error_reply_read p ≡ None
   pub value : read_queried k p ≡ m
 
 -- from the bytes that these are
 own_by : (k : AnswerKind) {p : List ℕ} (m : Said) → p ≡ said_bytes m → BackBy k (said_text m) m → BackBy k p m
 own_by k m same back = subst (λ (q : List ℕ). BackBy k q m) (sym (same ∙ said_row m)) back
 
-rule_unrefused : (r : TextRule) (s : List ℕ) → is_text_by r s ≡ true → whole_value refusal_read s ≡ None
+rule_unrefused : (r : TextRule) (s : List ℕ) → is_text_by r s ≡ true → whole_value error_reply_read s ≡ None
 rule_unrefused rule.Name s e = text_no_refusal name_most s (name_is_text s e)
 rule_unrefused rule.Info s e = text_no_refusal info_most s e
 rule_unrefused rule.InputName s e = text_no_refusal input_name_most s e

@@ -7,11 +7,11 @@ use Rattle.std.proofs.Common.{arith, length, take, length-append, nat_le, ◌==�
 use Rattle.std.proofs.Math.Seq.{take-append_seam, get_or-append_seam}
 use Prim.Native.Char.{code}
 use Rattle.text.specs.Words.{◌is◌}
-use Rattle.text.specs.Scans.{same_by, itself}
+use Rattle.text.specs.Scans.{is_same_by, itself}
 use Rattle.text.proofs.Choices.{both_left, both_right}
 use Rattle.text.proofs.Scanning.{no_more}
 use Rattle.text.proofs.Sameness.{same_is}
-use Rattle.words.specs.Bytes.{◌at◌, is_alnum, no_cr}
+use Rattle.words.specs.Bytes.{◌at◌, is_alnum, is_cr_free}
 use Rattle.pjlink.specs.Commands.{class_digit}
 use Rattle.pjlink.specs.Forms.{is_headed, head_body, reply_most, is_reply_form, reply_parameter, reply_line, erra_line}
 use Rattle.pjlink.specs.Forms.{IsLetters}
@@ -50,14 +50,14 @@ module _ (a b c d : ℕ) (letters : list_all is_alnum (a ∷ b ∷ c ∷ d ∷ [
         let n : length line - 1 ≡ length before = omega (arith, length-append p (codes "\r")) in
         ap (λ (k : ℕ). line at k) n ∙ get_or-append_seam before (code "\r") [] 0
 
-    by_class : length p ≤ parameter_most → no_cr p ≡ true → (k : ℕ) → is_reply_form k line ≡ (h == class_digit k)
+    by_class : length p ≤ parameter_most → is_cr_free p ≡ true → (k : ℕ) → is_reply_form k line ≡ (h == class_digit k)
     unfolding is_reply_form
     by_class short plain k =
         let from = le-leb 8 (length line) (omega (arith, line_long)) in
         let most = le-leb (length line) reply_most (omega (arith, line_long)) in
         let head = headed h (code "=") (p ++ codes "\r") in
         let last = eq-eqb _ (code "\r") ends in
-        let rest = ap no_cr line_parameter ∙ plain in
+        let rest = ap is_cr_free line_parameter ∙ plain in
         (λ i. from i && most i && head i && h == class_digit k && last i && rest i)
         ∙ simp no_more
 
@@ -74,10 +74,10 @@ pub record ReplyShows (h : ℕ) (s p : List ℕ) : Type 0 where
   pub form : (k : ℕ) → is_reply_form k (reply_line h s p) ≡ (h == class_digit k)
   pub body : head_body (reply_line h s p) ≡ s
   pub parameter : reply_parameter (reply_line h s p) ≡ p
-  pub not_erra : same_by itself (reply_line h s p) erra_line ≡ false
+  pub not_erra : is_same_by itself (reply_line h s p) erra_line ≡ false
 
 module _ {s : List ℕ} (letters : IsLetters s) where
-  pub reply_shows : (h : ℕ) (p : List ℕ) → length p ≤ parameter_most → no_cr p ≡ true → ReplyShows h s p
+  pub reply_shows : (h : ℕ) (p : List ℕ) → length p ≤ parameter_most → is_cr_free p ≡ true → ReplyShows h s p
   reply_shows h p short plain =
       by_four (λ (s : List ℕ). list_all is_alnum s ≡ true → ReplyShows h s p) s letters.four
       (λ a b c d each. record {
@@ -88,13 +88,13 @@ module _ {s : List ℕ} (letters : IsLetters s) where
       })
       letters.each
 
-  pub reply_form : (k : ℕ) (p : List ℕ) → length p ≤ parameter_most → no_cr p ≡ true
+  pub reply_form : (k : ℕ) (p : List ℕ) → length p ≤ parameter_most → is_cr_free p ≡ true
       → is_reply_form k (reply_line (class_digit k) s p) ≡ true
   reply_form k p short plain =
       (reply_shows (class_digit k) p short plain).form k ∙ eq-eqb (class_digit k) (class_digit k) refl
 
   -- a reply of one class is no reply of another
-  pub reply_other_class : (j k : ℕ) (p : List ℕ) → (j ≡ k → ⊥) → length p ≤ parameter_most → no_cr p ≡ true
+  pub reply_other_class : (j k : ℕ) (p : List ℕ) → (j ≡ k → ⊥) → length p ≤ parameter_most → is_cr_free p ≡ true
       → is_reply_form k (reply_line (class_digit j) s p) ≡ false
   reply_other_class j k p other short plain =
       (reply_shows (class_digit j) p short plain).form k
@@ -112,10 +112,10 @@ reply_long k l e =
     (both_left enough _ (both_left short _ (both_left headed _ (both_left classed _ (both_left ended _ e)))))
 
 -- no reply of the form is the ERRA line
-pub form_not_erra : (k : ℕ) (l : List ℕ) → is_reply_form k l ≡ true → same_by itself l erra_line ≡ false
+pub form_not_erra : (k : ℕ) (l : List ℕ) → is_reply_form k l ≡ true → is_same_by itself l erra_line ≡ false
 unfolding is_reply_form
-form_not_erra k l formed = by (same_by itself l erra_line) refl
+form_not_erra k l formed = by (is_same_by itself l erra_line) refl
   where
-    by : (t : Bool) → same_by itself l erra_line ≡ t → t ≡ false
+    by : (t : Bool) → is_same_by itself l erra_line ≡ t → t ≡ false
     by true e = sym formed ∙ ap (is_reply_form k) (same_is l erra_line e)
     by false e = refl

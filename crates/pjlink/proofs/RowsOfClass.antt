@@ -8,35 +8,35 @@ use Rattle.std.specs.Option.{option_map}
 use Prim.Native.Char.{code}
 use Rattle.text.specs.Words.{◌is◌}
 use Rattle.words.specs.Bytes.{◌at◌, command_most}
-use Rattle.pjlink.specs.declared.body.Row.{Row}
+use Rattle.pjlink.specs.declared.body.BodyRow.{BodyRow}
 use Rattle.pjlink.specs.Bodies.{is_named, body_rows}
 use Rattle.pjlink.specs.Forms.{is_command_form, is_headed}
 use Rattle.pjlink.specs.Requests.{body_request, request_of}
 use Rattle.pjlink.specs.RowsOfClass.{is_row_of_class, rows_of_class, known_in_class, request_by}
 
 module _ (k : ℕ) (s : List ℕ) where
-  abbrev found : List Row → Option Row
+  abbrev found : List BodyRow → Option BodyRow
   found rows = find (is_named k s) rows
 
-  found_in_class : (rows : List Row) → found (rows_of_class k rows) ≡ found rows
+  found_in_class : (rows : List BodyRow) → found (rows_of_class k rows) ≡ found rows
   found_in_class [] = refl
   found_in_class (r ∷ rows) = grind (arith, found_in_class rows)
 
-  none_in_others : (more : List Row) → list_all (λ r. not (is_row_of_class k r)) more ≡ true → found more ≡ found []
+  none_in_others : (more : List BodyRow) → list_all (λ r. not (is_row_of_class k r)) more ≡ true → found more ≡ found []
   none_in_others [] others = refl
   none_in_others (r ∷ more) others = grind (arith, none_in_others more)
 
-  found_beside : (rows more : List Row) → list_all (λ r. not (is_row_of_class k r)) more ≡ true
+  found_beside : (rows more : List BodyRow) → list_all (λ r. not (is_row_of_class k r)) more ≡ true
       → found (rows ++ more) ≡ found rows
   found_beside [] more others = none_in_others more others
   found_beside (r ∷ rows) more others = grind (arith, found_beside rows more)
 
   -- the rows of the class and any of others are as good as all
-  pub asked_by_class : (p : List ℕ) (more : List Row) → list_all (λ r. not (is_row_of_class k r)) more ≡ true
+  pub asked_by_class : (p : List ℕ) (more : List BodyRow) → list_all (λ r. not (is_row_of_class k r)) more ≡ true
       → request_by (rows_of_class k body_rows ++ more) k s p ≡ known_in_class k (request_of k s p)
   unfolding request_by request_of
   asked_by_class p more others =
-      ap (λ (m : Option Row). known_in_class k (body_request (option_map (λ (r : Row). r.body) m) p))
+      ap (λ (m : Option BodyRow). known_in_class k (body_request (option_map (λ (r : BodyRow). r.body) m) p))
       (found_beside (rows_of_class k body_rows) more others ∙ found_in_class body_rows)
 
 -- a set-up of Class 1 takes lines of Class 1

@@ -9,7 +9,7 @@ use Rattle.text.proofs.Choices.{both}
 use Rattle.text.proofs.Scanning.{list_all-append, list_all_implies}
 use Rattle.numbers.specs.Decimal.{digits}
 use Rattle.numbers.proofs.Digits.{digits_at_most_5, digits_without}
-use Rattle.words.specs.Bytes.{not_cr, no_cr}
+use Rattle.words.specs.Bytes.{is_not_cr, is_cr_free}
 use Rattle.words.specs.Inputs.{is_input, input_text, number_digit}
 use Rattle.words.specs.Texts.{is_text, name_most, info_most, input_name_most}
 use Rattle.words.specs.Powers.{switch_code, power_text}
@@ -26,7 +26,7 @@ use Rattle.pjlink.specs.declared.body.TextRule.{TextRule}
 use Rattle.pjlink.specs.declared.body.TextRule.TheVariants as rule
 use Rattle.pjlink.specs.CanSay.{CanSay, done, refuses, tells, IsOfKind, power, input, mutes, errors, lamps, inputs}
 use Rattle.pjlink.specs.CanSay.{text, class_said, freeze, is_text_by}
-use Rattle.words.specs.declared.power.Power.{Power}
+use Rattle.words.specs.declared.power.PowerStatus.{PowerStatus}
 use Rattle.words.specs.Classes.{class_text}
 use Rattle.words.specs.declared.class.ClassNumber.{ClassNumber}
 use Rattle.words.specs.declared.lamp.LampHours.{LampHours}
@@ -74,56 +74,56 @@ most_within h = grind (arith, name_long, info_long, input_name_long)
 pub said_within_most : {c : Command} {m : Said} → CanSay c m → length (said_bytes m) ≤ said_most
 said_within_most w = omega (arith, said_long w, most_within w)
 
-not_cr-number_digit : (d : ℕ) → not_cr (number_digit d) ≡ true
-not_cr-number_digit d = ap not (ne_eqb (number_digit d) (code "\r") (omega arith))
+is_not_cr-number_digit : (d : ℕ) → is_not_cr (number_digit d) ≡ true
+is_not_cr-number_digit d = ap not (ne_eqb (number_digit d) (code "\r") (omega arith))
 
-class_plain : (k : ClassNumber) → list_all not_cr (class_text k) ≡ true
+class_plain : (k : ClassNumber) → list_all is_not_cr (class_text k) ≡ true
 class_plain k = grind arith
 
-list_all-errors_text : (ds : List ℕ) → list_all not_cr (errors_text ds) ≡ true
+list_all-errors_text : (ds : List ℕ) → list_all is_not_cr (errors_text ds) ≡ true
 list_all-errors_text [] = refl
-list_all-errors_text (d ∷ ds) = both (not_cr-number_digit d) (list_all-errors_text ds)
+list_all-errors_text (d ∷ ds) = both (is_not_cr-number_digit d) (list_all-errors_text ds)
 
-text_no_cr : (n : ℕ) (s : List ℕ) → is_text n s ≡ true → list_all not_cr s ≡ true
+text_no_cr : (n : ℕ) (s : List ℕ) → is_text n s ≡ true → list_all is_not_cr s ≡ true
 text_no_cr n s e = grind (arith, list_all_implies, text_bytes)
 
-list_all-lamp_text : (x : LampHours) → list_all not_cr (lamp_text x) ≡ true
+list_all-lamp_text : (x : LampHours) → list_all is_not_cr (lamp_text x) ≡ true
 list_all-lamp_text x =
-    list_all-append not_cr (digits x.hours) (code " " ∷ switch_code x.lit ∷ [])
+    list_all-append is_not_cr (digits x.hours) (code " " ∷ switch_code x.lit ∷ [])
     (digits_without "\r" (omega arith) x.hours) (flag x.lit)
   where
-    flag : (on : Bool) → list_all not_cr (code " " ∷ switch_code on ∷ []) ≡ true
+    flag : (on : Bool) → list_all is_not_cr (code " " ∷ switch_code on ∷ []) ≡ true
     flag true = refl
     flag false = refl
 
-list_all-power_text : (p : Power) → list_all not_cr (power_text p) ≡ true
+list_all-power_text : (p : PowerStatus) → list_all is_not_cr (power_text p) ≡ true
 list_all-power_text p = grind arith
 
-list_all-halves_text : (v a : Bool) → list_all not_cr (halves_text v a) ≡ true
+list_all-halves_text : (v a : Bool) → list_all is_not_cr (halves_text v a) ≡ true
 list_all-halves_text v a = grind arith
 
-kind_has_no_cr : {k : AnswerKind} {m : Said} → IsOfKind k m → list_all not_cr (said_bytes m) ≡ true
+kind_has_no_cr : {k : AnswerKind} {m : Said} → IsOfKind k m → list_all is_not_cr (said_bytes m) ≡ true
 unfolding said_bytes
 kind_has_no_cr (power p) = list_all-power_text p
 kind_has_no_cr (input i e) = input_no_cr i
 kind_has_no_cr (mutes v a) = list_all-halves_text v a
 kind_has_no_cr (errors ds h e) = list_all-errors_text ds
 kind_has_no_cr (lamps ls l h e) =
-    list_all-list_text lamp_text is_lamp_hours not_cr (λ x t. list_all-lamp_text x) refl ls e
-kind_has_no_cr (inputs is l h e) = list_all-list_text input_text is_input not_cr (λ x t. input_no_cr x) refl is e
+    list_all-list_text lamp_text is_lamp_hours is_not_cr (λ x t. list_all-lamp_text x) refl ls e
+kind_has_no_cr (inputs is l h e) = list_all-list_text input_text is_input is_not_cr (λ x t. input_no_cr x) refl is e
 kind_has_no_cr (text r s e) = text_no_cr (rule_most r) s (rule_is_text r s e)
 kind_has_no_cr (class_said k) = class_plain k
 kind_has_no_cr (freeze true) = refl
 kind_has_no_cr (freeze false) = refl
 
-has_no_cr : {c : Command} {m : Said} → CanSay c m → list_all not_cr (said_bytes m) ≡ true
+has_no_cr : {c : Command} {m : Said} → CanSay c m → list_all is_not_cr (said_bytes m) ≡ true
 unfolding said_bytes
 has_no_cr (done s) = refl
-has_no_cr (refuses n l h t) = both (not_cr-number_digit n) refl
+has_no_cr (refuses n l h t) = both (is_not_cr-number_digit n) refl
 has_no_cr (tells asks of) = kind_has_no_cr of
 
 pub said_plain : {c : Command} {m : Said} → CanSay c m
-    → (length (said_bytes m) ≤ parameter_most) × (no_cr (said_bytes m) ≡ true)
+    → (length (said_bytes m) ≤ parameter_most) × (is_cr_free (said_bytes m) ≡ true)
 said_plain {c} {m} w = (said_within_most w, no_cr_of (said_bytes m) (has_no_cr w))
 
 -- a text is its own parameter

@@ -15,12 +15,12 @@
 -- Assumes nothing.
 use Rattle.std.specs.Prelude.{ℕ, Bool, true, false, ◌&&◌, List, [], ◌∷◌, map, find, Option, ◌==◌, codes}
 use Rattle.std.specs.Option.{option_map}
-use Rattle.text.specs.Scans.{same_by}
+use Rattle.text.specs.Scans.{is_same_by}
 use Rattle.words.specs.Bytes.{upper_of}
 use Rattle.words.specs.Classes.{class_as_number}
 use Rattle.words.specs.declared.class.ClassNumber.{ClassNumber}
 use Rattle.words.specs.declared.class.ClassNumber.TheVariants.{One, Two}
-use Rattle.pjlink.specs.declared.body.Row.{Row}
+use Rattle.pjlink.specs.declared.body.BodyRow.{BodyRow}
 use Rattle.pjlink.specs.declared.body.Body.{Body}
 use Rattle.pjlink.specs.declared.body.Body.TheVariants.{Powr, Inpt, Avmt, Erst, Lamp, Inst, Name, Inf1, Inf2, Info}
 use Rattle.pjlink.specs.declared.body.Body.TheVariants.{Clss, Frez, Svol, Mvol, Snum, Sver, Innm}
@@ -31,12 +31,12 @@ use Rattle.pjlink.specs.declared.body.Sets.{Sets}
 use Rattle.pjlink.specs.declared.body.Sets.TheVariants.{SetsPower, SetsInput, SetsMute, SetsFreeze}
 use Rattle.pjlink.specs.declared.body.Sets.TheVariants.{StepsSpeaker, StepsMicrophone, NamesInput, QueryOnly}
 
-abbrev row : Body → ClassNumber → List ℕ → Sets → AnswerKind → Bool → Bool → Row
+abbrev row : Body → ClassNumber → List ℕ → Sets → AnswerKind → Bool → Bool → BodyRow
 row b k s set answer lamps on =
     record { body = b; class = k; letters = s; set = set; kind = answer; lamps = lamps; on = on }
 
 -- class, letters, what is set, the kind of answer, lamps only, on only
-abbrev pub row_of : Body → Row
+abbrev pub row_of : Body → BodyRow
 row_of Powr = row Powr One (codes "POWR") SetsPower kind.Power false false
 row_of (Inpt k) = row (Inpt k) k (codes "INPT") SetsInput kind.Input false true
 row_of Avmt = row Avmt One (codes "AVMT") SetsMute kind.Mutes false true
@@ -60,7 +60,7 @@ bodies =
     Powr ∷ Inpt One ∷ Avmt ∷ Erst ∷ Lamp ∷ Inst One ∷ Name ∷ Inf1 ∷ Inf2 ∷ Info ∷ Clss
     ∷ Frez ∷ Svol ∷ Mvol ∷ Snum ∷ Sver ∷ Innm ∷ Inpt Two ∷ Inst Two ∷ []
 
-abbrev pub body_rows : List Row
+abbrev pub body_rows : List BodyRow
 body_rows = map row_of bodies
 
 abbrev pub class_of : Body → ℕ
@@ -69,14 +69,14 @@ class_of b = class_as_number (row_of b).class
 abbrev pub kind_of : Body → AnswerKind
 kind_of b = (row_of b).kind
 
-abbrev pub is_named : ℕ → List ℕ → Row → Bool
-is_named k s r = k == class_as_number r.class && same_by upper_of s r.letters
+abbrev pub is_named : ℕ → List ℕ → BodyRow → Bool
+is_named k s r = k == class_as_number r.class && is_same_by upper_of s r.letters
 
 abbrev pub is_body : ℕ → List ℕ → Body → Bool
 is_body k s b = is_named k s (row_of b)
 
 abbrev pub body_named : ℕ → List ℕ → Option Body
-body_named k s = option_map (λ (r : Row). r.body) (find (is_named k s) body_rows)
+body_named k s = option_map (λ (r : BodyRow). r.body) (find (is_named k s) body_rows)
 
 abbrev pub is_setting : Sets → Bool
 is_setting NamesInput = false

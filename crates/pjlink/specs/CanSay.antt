@@ -25,7 +25,7 @@ use Rattle.pjlink.specs.Bodies.{kind_of}
 use Rattle.pjlink.specs.Said.{Said, okay, refused, power_is, chosen_is, mutes_are, errors_are, lamps_are, inputs_are}
 use Rattle.pjlink.specs.Said.{text_is, class_is, freeze_is}
 use Rattle.pjlink.specs.Carried.{lamps_carried, inputs_carried, errors_carried}
-use Rattle.words.specs.declared.power.Power.{Power}
+use Rattle.words.specs.declared.power.PowerStatus.{PowerStatus}
 use Rattle.words.specs.declared.lamp.LampHours.{LampHours}
 
 abbrev pub is_set : Command → Bool
@@ -47,7 +47,7 @@ is_text_by rule.Info s = is_info s
 is_text_by rule.InputName s = is_input_name s
 
 pub data IsOfKind : AnswerKind → Said → Type 0 where
-  power : (p : Power) → IsOfKind kind.Power (power_is p)
+  power : (p : PowerStatus) → IsOfKind kind.Power (power_is p)
   input : (i : Input) → is_input i ≡ true → IsOfKind kind.Input (chosen_is i)
   mutes : (video audio : Bool) → IsOfKind kind.Mutes (mutes_are video audio)
   errors : (ds : List ℕ) → length ds ≡ errors_carried → list_all is_error_digit ds ≡ true

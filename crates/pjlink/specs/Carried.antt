@@ -11,8 +11,8 @@
 use Rattle.std.specs.Prelude.{ℕ, Option, Some, None, Result, Ok, Err}
 use Rattle.pjlink.specs.Said.{Said, okay, refused, power_is, chosen_is, mutes_are, errors_are, lamps_are, inputs_are}
 use Rattle.pjlink.specs.Said.{text_is, class_is, freeze_is, nothing}
-use Rattle.words.specs.declared.refusal.Refusal.{Refusal}
-use Rattle.words.specs.Refusing.{refusal_digit}
+use Rattle.words.specs.declared.error_reply.ErrorReply.{ErrorReply}
+use Rattle.words.specs.Refusing.{error_reply_digit}
 use Rattle.pjlink.specs.declared.answer.Answer.{Answer}
 use Rattle.pjlink.specs.declared.answer.Answer.TheVariants as an
 
@@ -37,14 +37,14 @@ answer_said (an.Text text) = text_is text.now
 answer_said (an.Class class) = class_is class
 answer_said (an.Freeze on) = freeze_is on
 
-abbrev pub said_by : Result Answer Refusal → Said
+abbrev pub said_by : Result Answer ErrorReply → Said
 said_by (Ok a) = answer_said a
-said_by (Err r) = refused (refusal_digit r)
+said_by (Err r) = refused (error_reply_digit r)
 
 abbrev pub value_said : Option Answer → Said
 value_said None = nothing
 value_said (Some a) = answer_said a
 
-abbrev pub parameter_said : Option (Result Answer Refusal) → Said
+abbrev pub parameter_said : Option (Result Answer ErrorReply) → Said
 parameter_said None = nothing
 parameter_said (Some r) = said_by r

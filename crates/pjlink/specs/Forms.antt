@@ -21,7 +21,7 @@ use Rattle.std.specs.Prelude.{◌==◌, codes}
 use Rattle.std.specs.List.{list_all}
 use Prim.Native.Char.{code}
 use Rattle.text.specs.Words.{◌is◌}
-use Rattle.words.specs.Bytes.{◌at◌, is_alnum, no_cr, command_most}
+use Rattle.words.specs.Bytes.{◌at◌, is_alnum, is_cr_free, command_most}
 use Rattle.pjlink.specs.Commands.{class_digit}
 
 abbrev pub head_body : List ℕ → List ℕ
@@ -61,7 +61,7 @@ reply_parameter l = take (length l - 8) (drop 7 l)
 unfoldable pub is_reply_form : ℕ → List ℕ → Bool
 is_reply_form k l =
     nat_le 8 (length l) && nat_le (length l) reply_most && is_headed (code "=") l && (l at 1) == class_digit k
-    && l at (length l - 1) is "\r" && no_cr (reply_parameter l)
+    && l at (length l - 1) is "\r" && is_cr_free (reply_parameter l)
 
 -- the parts of a line of the form
 pub record IsCommandOf (k : ℕ) (l : List ℕ) (j : ℕ) (s p : List ℕ) : Type 0 where

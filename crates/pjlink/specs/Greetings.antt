@@ -8,7 +8,7 @@
 --   greeting_number g   the number of this in the table of numbers
 -- Assumes nothing.
 use Rattle.std.specs.Prelude.{ℕ, ◌^◌, ◌<◌, ◌≡◌, Bool, List, take, drop, if◌then◌else◌, Option, None, Some}
-use Rattle.text.specs.Scans.{same_by, itself}
+use Rattle.text.specs.Scans.{is_same_by, itself}
 use Rattle.digest.specs.Hex.{hex_digits, hex_value}
 use Rattle.pjlink.specs.Forms.{erra_line, greeting_open, greeting_secured}
 use Rattle.pjlink.specs.declared.greeting.Greeting.{Greeting}
@@ -24,13 +24,13 @@ greeting_line (Secured r) = greeting_secured (hex_digits 8 r)
 greeting_line Refused = erra_line
 
 abbrev pub greets : List ℕ → ℕ → Bool
-greets l r = same_by itself l (greeting_line (Secured r))
+greets l r = is_same_by itself l (greeting_line (Secured r))
 
 -- the digits of the number read are compared with the line's, so that no other digits pass for it
 unfoldable pub read_greeting : List ℕ → Option Greeting
 read_greeting l =
-    if same_by itself l (greeting_line Open) then Some Open
-    else if same_by itself l (greeting_line Refused) then Some Refused
+    if is_same_by itself l (greeting_line Open) then Some Open
+    else if is_same_by itself l (greeting_line Refused) then Some Refused
     else if greets l (random_in l) then Some (Secured (random_in l))
     else None
 

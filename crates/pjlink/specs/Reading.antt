@@ -10,7 +10,7 @@
 --   read_parameter c p     what p says to c
 -- Assumes nothing.
 use Rattle.std.specs.Prelude.{ℕ, Bool, List, Option, Some, None, if◌then◌else◌, codes}
-use Rattle.text.specs.Scans.{same_by, itself}
+use Rattle.text.specs.Scans.{is_same_by, itself}
 use Rattle.words.specs.Codec.{whole_value}
 use Rattle.words.specs.Joined.{list_read}
 use Rattle.words.specs.Powers.{power_read, switch_read}
@@ -19,8 +19,8 @@ use Rattle.words.specs.Muting.{mutes_read}
 use Rattle.words.specs.ErrorDigits.{errors_read}
 use Rattle.words.specs.Lamps.{lamp_read}
 use Rattle.words.specs.Classes.{class_read}
-use Rattle.words.specs.Refusing.{refusal_digit, refusal_read}
-use Rattle.words.specs.declared.refusal.Refusal.{Refusal}
+use Rattle.words.specs.Refusing.{error_reply_digit, error_reply_read}
+use Rattle.words.specs.declared.error_reply.ErrorReply.{ErrorReply}
 use Rattle.pjlink.specs.Commands.{body_of}
 use Rattle.pjlink.specs.declared.command.Command.{Command}
 use Rattle.pjlink.specs.declared.body.AnswerKind.{AnswerKind}
@@ -33,7 +33,7 @@ use Rattle.pjlink.specs.CanSay.{is_set, is_refusal_to, is_text_by}
 
 infix 40 ◌spells◌
 abbrev pub ◌spells◌ : List ℕ → List ℕ → Bool
-p spells t = same_by itself p t
+p spells t = is_same_by itself p t
 
 abbrev pub said_or : {A : Type 0} → (A → Said) → Option A → Said
 said_or says None = nothing
@@ -60,9 +60,9 @@ read_queried kind.Nothing p = nothing
 abbrev pub read_value : Command → List ℕ → Said
 read_value c p = if is_set c then read_ok p else read_queried (kind_of (body_of c)) p
 
-abbrev pub refusal_or : Command → Option Refusal → Said → Said
+abbrev pub refusal_or : Command → Option ErrorReply → Said → Said
 refusal_or c None m = m
-refusal_or c (Some r) m = if is_refusal_to c (refusal_digit r) then refused (refusal_digit r) else nothing
+refusal_or c (Some r) m = if is_refusal_to c (error_reply_digit r) then refused (error_reply_digit r) else nothing
 
 unfoldable pub read_parameter : Command → List ℕ → Said
-read_parameter c p = refusal_or c (whole_value refusal_read p) (read_value c p)
+read_parameter c p = refusal_or c (whole_value error_reply_read p) (read_value c p)

@@ -15,7 +15,7 @@ use Rattle.words.specs.Bytes.{◌at◌}
 use Rattle.words.specs.Classes.{class_as_number}
 use Rattle.words.specs.Inputs.{is_input_text, input_text}
 use Rattle.words.specs.declared.input.Input.{Input}
-use Rattle.pjlink.specs.declared.body.Row.{Row}
+use Rattle.pjlink.specs.declared.body.BodyRow.{BodyRow}
 use Rattle.pjlink.specs.Bodies.{is_named}
 use Rattle.pjlink.specs.Commands.{body_of}
 use Rattle.pjlink.specs.declared.command.Command.{Command}
@@ -23,10 +23,10 @@ use Rattle.pjlink.specs.declared.command.Command.TheVariants.{InputSet}
 use Rattle.pjlink.specs.declared.request.Unasked.TheVariants.{Unlisted}
 use Rattle.pjlink.specs.Requests.{Request, body_request}
 
-abbrev pub is_row_of_class : ℕ → Row → Bool
+abbrev pub is_row_of_class : ℕ → BodyRow → Bool
 is_row_of_class k r = k == class_as_number r.class
 
-abbrev pub rows_of_class : ℕ → List Row → List Row
+abbrev pub rows_of_class : ℕ → List BodyRow → List BodyRow
 rows_of_class k rows = filter (is_row_of_class k) rows
 
 abbrev pub is_input_of_class : ℕ → Input → Bool
@@ -40,6 +40,6 @@ abbrev pub known_in_class : ℕ → Request → Request
 known_in_class k (Ok c) = if is_foreign k c then Err (Unlisted (body_of c)) else Ok c
 known_in_class k (Err e) = Err e
 
-unfoldable pub request_by : List Row → ℕ → List ℕ → List ℕ → Request
+unfoldable pub request_by : List BodyRow → ℕ → List ℕ → List ℕ → Request
 request_by rows k s p =
-    known_in_class k (body_request (option_map (λ (r : Row). r.body) (find (is_named k s) rows)) p)
+    known_in_class k (body_request (option_map (λ (r : BodyRow). r.body) (find (is_named k s) rows)) p)

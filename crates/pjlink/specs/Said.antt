@@ -20,13 +20,13 @@ use Rattle.words.specs.ErrorDigits.{errors_text}
 use Rattle.words.specs.Lamps.{lamp_text}
 use Rattle.words.specs.declared.class.ClassNumber.{ClassNumber}
 use Rattle.words.specs.declared.input.Input.{Input}
-use Rattle.words.specs.declared.power.Power.{Power}
+use Rattle.words.specs.declared.power.PowerStatus.{PowerStatus}
 use Rattle.words.specs.declared.lamp.LampHours.{LampHours}
 
 pub data Said : Type 0 where
   okay : Said
   refused : ℕ → Said
-  power_is : Power → Said
+  power_is : PowerStatus → Said
   chosen_is : Input → Said
   mutes_are : Bool → Bool → Said
   errors_are : List ℕ → Said

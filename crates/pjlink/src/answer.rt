@@ -2,18 +2,12 @@
 
 use arrayvec::ArrayVec;
 use words::class::ClassNumber;
-use words::errors::Errors;
-use words::input::Input;
-use words::lamp::LampHours;
+use words::error_reply::ErrorReply;
+use words::errors::ErrorStatus;
+use words::input::{INPUTS_MOST, Input};
+use words::lamp::{LAMPS_MOST, LampHours};
 use words::mutes::Mutes;
-use words::power::Power;
-use words::refusal::Refusal;
-
-/// The most lamps that a reply tells of (RULES, Controller).
-pub const LAMPS_MOST: usize = 8;
-
-/// The most inputs that a reply tells of (RULES, Controller).
-pub const INPUTS_MOST: usize = 32;
+use words::power::PowerStatus;
 
 /// What a command is answered where no rule refuses it.
 #[derive(Drop)]
@@ -21,13 +15,13 @@ pub enum Answer<'a> {
     /// OK to a set.
     Done,
     /// The power.
-    Power(Power),
+    Power(PowerStatus),
     /// The input that is chosen.
     Input(Input),
     /// What is muted.
     Mutes(Mutes),
     /// Fan, lamp, temperature, cover, filter, other: 0 no error or not known, 1 a warning, 2 an error.
-    Errors(Errors),
+    Errors(ErrorStatus),
     /// The lamps, in order.
     Lamps(ArrayVec<LampHours, LAMPS_MOST>),
     /// The inputs, in order.
@@ -41,4 +35,4 @@ pub enum Answer<'a> {
 }
 
 /// An answer, or a refusal.
-pub type Reply<'a> = Result<Answer<'a>, Refusal>;
+pub type Reply<'a> = Result<Answer<'a>, ErrorReply>;

@@ -111,7 +111,7 @@ pub enum AnswerKind {
 
 /// What is so of a body: rules 1 to 4, its reader and its writer ask nothing else of it.
 #[derive(Clone, Copy)]
-pub struct Row {
+pub struct BodyRow {
     /// The body whose row it is.
     pub body: Body,
     /// The class of the lines that ask for it.
@@ -131,44 +131,55 @@ pub struct Row {
 /// Every body: those of Class 1 in the order of RULES, then those of Class 2. It is a static, since a constant would be
 /// put together on the stack at each look-up.
 #[rattlefmt::skip]
-pub static BODIES: [Row; 19] = [
-    Row { body: Body::Powr, class: One, letters: *b"POWR", set: SetsPower, kind: Power, lamps: false, on: false },
-    Row { body: Body::Inpt(One), class: One, letters: *b"INPT", set: SetsInput, kind: Input, lamps: false, on: true },
-    Row { body: Body::Avmt, class: One, letters: *b"AVMT", set: SetsMute, kind: Mutes, lamps: false, on: true },
-    Row { body: Body::Erst, class: One, letters: *b"ERST", set: QueryOnly, kind: Errors, lamps: false, on: false },
-    Row { body: Body::Lamp, class: One, letters: *b"LAMP", set: QueryOnly, kind: Lamps, lamps: true, on: false },
-    Row { body: Body::Inst(One), class: One, letters: *b"INST", set: QueryOnly, kind: Inputs, lamps: false, on: false },
-    Row { body: Body::Name, class: One, letters: *b"NAME", set: QueryOnly, kind: Text(Name), lamps: false, on: false },
-    Row { body: Body::Inf1, class: One, letters: *b"INF1", set: QueryOnly, kind: Text(Info), lamps: false, on: false },
-    Row { body: Body::Inf2, class: One, letters: *b"INF2", set: QueryOnly, kind: Text(Info), lamps: false, on: false },
-    Row { body: Body::Info, class: One, letters: *b"INFO", set: QueryOnly, kind: Text(Info), lamps: false, on: false },
-    Row { body: Body::Clss, class: One, letters: *b"CLSS", set: QueryOnly, kind: Class, lamps: false, on: false },
-    Row { body: Body::Frez, class: Two, letters: *b"FREZ", set: SetsFreeze, kind: Freeze, lamps: false, on: true },
-    Row { body: Body::Svol, class: Two, letters: *b"SVOL", set: StepsSpeaker, kind: Nothing, lamps: false, on: true },
-    Row { body: Body::Mvol, class: Two, letters: *b"MVOL", set: StepsMicrophone, kind: Nothing, lamps: false,
+pub static BODIES: [BodyRow; 19] = [
+    BodyRow { body: Body::Powr, class: One, letters: *b"POWR", set: SetsPower, kind: Power, lamps: false, on: false },
+    BodyRow { body: Body::Inpt(One), class: One, letters: *b"INPT", set: SetsInput, kind: Input, lamps: false, on: true
+        },
+    BodyRow { body: Body::Avmt, class: One, letters: *b"AVMT", set: SetsMute, kind: Mutes, lamps: false, on: true },
+    BodyRow { body: Body::Erst, class: One, letters: *b"ERST", set: QueryOnly, kind: Errors, lamps: false, on: false },
+    BodyRow { body: Body::Lamp, class: One, letters: *b"LAMP", set: QueryOnly, kind: Lamps, lamps: true, on: false },
+    BodyRow { body: Body::Inst(One), class: One, letters: *b"INST", set: QueryOnly, kind: Inputs, lamps: false, on:
+        false },
+    BodyRow { body: Body::Name, class: One, letters: *b"NAME", set: QueryOnly, kind: Text(Name), lamps: false, on:
+        false },
+    BodyRow { body: Body::Inf1, class: One, letters: *b"INF1", set: QueryOnly, kind: Text(Info), lamps: false, on:
+        false },
+    BodyRow { body: Body::Inf2, class: One, letters: *b"INF2", set: QueryOnly, kind: Text(Info), lamps: false, on:
+        false },
+    BodyRow { body: Body::Info, class: One, letters: *b"INFO", set: QueryOnly, kind: Text(Info), lamps: false, on:
+        false },
+    BodyRow { body: Body::Clss, class: One, letters: *b"CLSS", set: QueryOnly, kind: Class, lamps: false, on: false },
+    BodyRow { body: Body::Frez, class: Two, letters: *b"FREZ", set: SetsFreeze, kind: Freeze, lamps: false, on: true },
+    BodyRow { body: Body::Svol, class: Two, letters: *b"SVOL", set: StepsSpeaker, kind: Nothing, lamps: false, on: true
+        },
+    BodyRow { body: Body::Mvol, class: Two, letters: *b"MVOL", set: StepsMicrophone, kind: Nothing, lamps: false,
           on: true },
-    Row { body: Body::Snum, class: Two, letters: *b"SNUM", set: QueryOnly, kind: Text(Info), lamps: false, on: false },
-    Row { body: Body::Sver, class: Two, letters: *b"SVER", set: QueryOnly, kind: Text(Info), lamps: false, on: false },
-    Row { body: Body::Innm, class: Two, letters: *b"INNM", set: NamesInput, kind: Text(InputName), lamps: false,
+    BodyRow { body: Body::Snum, class: Two, letters: *b"SNUM", set: QueryOnly, kind: Text(Info), lamps: false, on:
+        false },
+    BodyRow { body: Body::Sver, class: Two, letters: *b"SVER", set: QueryOnly, kind: Text(Info), lamps: false, on:
+        false },
+    BodyRow { body: Body::Innm, class: Two, letters: *b"INNM", set: NamesInput, kind: Text(InputName), lamps: false,
           on: false },
-    Row { body: Body::Inpt(Two), class: Two, letters: *b"INPT", set: SetsInput, kind: Input, lamps: false, on: true },
-    Row { body: Body::Inst(Two), class: Two, letters: *b"INST", set: QueryOnly, kind: Inputs, lamps: false, on: false },
+    BodyRow { body: Body::Inpt(Two), class: Two, letters: *b"INPT", set: SetsInput, kind: Input, lamps: false, on: true
+        },
+    BodyRow { body: Body::Inst(Two), class: Two, letters: *b"INST", set: QueryOnly, kind: Inputs, lamps: false, on:
+        false },
 ];
 
-fn same_class(a: ClassNumber, b: ClassNumber) -> bool
+fn is_same_class(a: ClassNumber, b: ClassNumber) -> bool
     ensures { result ≡ (class_as_number a == class_as_number b) }
 {
     a.number() == b.number()
 }
 
-impl Row {
+impl BodyRow {
     /// Whether four letters name its body in a line of the class, whatever their case.
     fn is_named(&self, class: ClassNumber, letters: [u8; 4]) -> bool
         ensures { result ≡ is_named (class_as_number class) letters self.now }
     {
         let [a, b, c, d] = letters;
         let [w, x, y, z] = self.letters;
-        same_class(class, self.class)
+        is_same_class(class, self.class)
             && byte::upper(a) == w
             && byte::upper(b) == x
             && byte::upper(c) == y
@@ -178,7 +189,7 @@ impl Row {
 
 impl Body {
     /// Its row of the table.
-    pub fn row(self) -> Row
+    pub fn row(self) -> BodyRow
         ensures { result ≡ row_of self }
     {
         match self {

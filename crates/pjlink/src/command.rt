@@ -9,7 +9,7 @@ ghost use Rattle.pjlink.specs.Laws.{half_codec};
 
 use crate::body::Body;
 use words::class::ClassNumber;
-use words::codec::{LINE_MOST, Line, Wire};
+use words::codec::{LINE_MOST, LineBytes, Wire};
 use words::input::Input;
 use words::{codec, input};
 
@@ -87,7 +87,7 @@ impl Command {
         }
     }
 
-    fn put_parameter(self, out: &mut Line)
+    fn put_parameter(self, out: &mut LineBytes)
         requires { array_vec_len out.old + 3 ≤ LINE_MOST }
         ensures { out.new.items ≡ out.old.items ++ parameter_of self }
     {
@@ -109,7 +109,7 @@ impl Command {
     }
 
     /// Puts its line at the end of `out`, with its CR: eleven bytes at most.
-    pub fn put(self, out: &mut Line)
+    pub fn put(self, out: &mut LineBytes)
         requires { array_vec_len out.old + 11 ≤ LINE_MOST }
         ensures { out.new.items ≡ out.old.items ++ command_line self }
     {
@@ -162,12 +162,12 @@ impl Wire for Half {
 
     ghost read = { half_read };
 
-    fn put(self, out: &mut Line) {
+    fn put(self, out: &mut LineBytes) {
         out.push(half_code(self));
     }
 
-    fn take(s: &[u8]) -> Option<(Half, &[u8])> {
-        codec::letter(s, half_named)
+    fn take(bytes: &[u8]) -> Option<(Half, &[u8])> {
+        codec::letter(bytes, half_named)
     }
 
     ghost codec = { half_codec };

@@ -34,19 +34,19 @@ fn class_for(k: ClassNumber, h: u8) -> Option<ClassNumber>
 /// A line as received, without its CR, that a set-up of Class k takes: `%`, the class, four letters or digits, a space,
 /// 0 to 128 bytes. None of any other.
 #[tactic(auto, unfolding(crate::specs::Forms::is_command_form))]
-pub fn command(k: ClassNumber, l: &[u8]) -> Option<Parts<'_>>
+pub fn command(expected: ClassNumber, line: &[u8]) -> Option<Parts<'_>>
     ensures taken { IfSome result
-        (λ x. IsCommandOf (class_as_number k) l.now (class_as_number x.class) x.letters x.parameter.now) }
-    ensures other { IfNone result (is_command_form (class_as_number k) l.now ≡ false) }
+        (λ x. IsCommandOf (class_as_number expected) line.now (class_as_number x.class) x.letters x.parameter.now) }
+    ensures other { IfNone result (is_command_form (class_as_number expected) line.now ≡ false) }
 {
-    let [first, class, a, b, c, d, mark, parameter @ ..] = l else {
+    let [first, class, a, b, c, d, mark, parameter @ ..] = line else {
         return None;
     };
     let letters = [*a, *b, *c, *d];
-    if l.len() > LINE_MOST - 1 || !is_headed(*first, letters, *mark, b' ') {
+    if line.len() > LINE_MOST - 1 || !is_headed(*first, letters, *mark, b' ') {
         return None;
     }
-    let class = class_for(k, *class)?;
+    let class = class_for(expected, *class)?;
     Some(Parts {
         class,
         letters,
@@ -70,24 +70,24 @@ fn is_headed(first: u8, letters: [u8; 4], last: u8, mark: u8) -> bool
 /// A reply of Class k, with its CR: `%`, the class, four letters or digits, `=`, 0 to 128 bytes with no CR, CR. None of
 /// any other.
 #[tactic(auto, unfolding(crate::specs::Forms::is_reply_form))]
-pub fn reply(k: ClassNumber, l: &[u8]) -> Option<Parts<'_>>
-    ensures taken { IfSome result (λ x. IsReplyOf (class_as_number k) l.now x.letters x.parameter.now) }
-    ensures other { IfNone result (is_reply_form (class_as_number k) l.now ≡ false) }
+pub fn reply(expected: ClassNumber, line: &[u8]) -> Option<Parts<'_>>
+    ensures taken { IfSome result (λ x. IsReplyOf (class_as_number expected) line.now x.letters x.parameter.now) }
+    ensures other { IfNone result (is_reply_form (class_as_number expected) line.now ≡ false) }
 {
-    let [first, class, a, b, c, d, mark, parameter @ .., last] = l else {
+    let [first, class, a, b, c, d, mark, parameter @ .., last] = line else {
         return None;
     };
     let letters = [*a, *b, *c, *d];
-    if l.len() > LINE_MOST
+    if line.len() > LINE_MOST
         || !is_headed(*first, letters, *mark, b'=')
-        || *class != k.code()
+        || *class != expected.code()
         || *last != b'\r'
-        || !byte::no_cr(parameter)
+        || !byte::is_cr_free(parameter)
     {
         return None;
     }
     Some(Parts {
-        class: k,
+        class: expected,
         letters,
         parameter,
     })

@@ -1,11 +1,11 @@
 // What a projector greets with, and the line that refuses a digest (RULES, Connection, Controller; PJLink 1.04, 5).
 ghost use Rattle.std.specs.Prelude.{◌≡◌, ◌+◌, ◌≤◌, ◌++◌};
 ghost use Rattle.arrayvec.specs.ArrayVec.{array_vec_len};
-ghost use Rattle.text.specs.Scans.{same_by, itself};
+ghost use Rattle.text.specs.Scans.{is_same_by, itself};
 ghost use Rattle.pjlink.specs.Greetings.{greeting_line, read_greeting};
 
 use words::codec;
-use words::codec::{LINE_MOST, Line};
+use words::codec::{LINE_MOST, LineBytes};
 
 /// The ERRA line.
 pub const ERRA: [u8; 12] = *b"PJLINK ERRA\r";
@@ -23,7 +23,7 @@ pub enum Greeting {
 
 impl Greeting {
     /// Puts its line at the end of `out`, CR included.
-    pub fn put(self, out: &mut Line)
+    pub fn put(self, out: &mut LineBytes)
         requires { array_vec_len out.old + 18 ≤ LINE_MOST }
         ensures { out.new.items ≡ out.old.items ++ greeting_line self }
     {
@@ -39,11 +39,11 @@ impl Greeting {
     }
 
     fn is_line(self, line: &[u8]) -> bool
-        ensures { result ≡ same_by itself line.now (greeting_line self) }
+        ensures { result ≡ is_same_by itself line.now (greeting_line self) }
     {
-        let mut own = Line::new();
+        let mut own = LineBytes::new();
         self.put(&mut own);
-        text::same(line, own.as_slice())
+        text::is_same(line, own.as_slice())
     }
 
     /// The greetings and the ERRA line, each to its CR and no further; none of any other line.

@@ -1,6 +1,6 @@
 //! The parameter of a reply, read for the command that it answers (RULES, Controller).
 ghost use Rattle.std.specs.Prelude.{◌≡◌};
-ghost use Rattle.words.specs.Refusing.{refusal_digit};
+ghost use Rattle.words.specs.Refusing.{error_reply_digit};
 ghost use Rattle.pjlink.specs.Carried.{value_said, parameter_said};
 ghost use Rattle.pjlink.specs.CanSay.{is_set, has_own_parameter, is_refusal_to, is_text_by};
 ghost use Rattle.pjlink.specs.Reading.{text_or, read_queried, read_value, read_parameter};
@@ -8,7 +8,7 @@ ghost use Rattle.pjlink.specs.Reading.{text_or, read_queried, read_value, read_p
 use crate::answer::{Answer, Reply};
 use crate::body::{AnswerKind, TextRule};
 use crate::command::Command;
-use words::refusal::Refusal;
+use words::error_reply::ErrorReply;
 use words::{codec, list, texts};
 
 // The text p where it is a legal one.
@@ -63,7 +63,7 @@ fn read_value(c: Command, p: &[u8]) -> Option<Answer<'_>>
     ensures { value_said result ≡ read_value c p.now }
 {
     if is_set(c) {
-        if text::same(p, b"OK") {
+        if text::is_same(p, b"OK") {
             return Some(Answer::Done);
         }
         return None;
@@ -72,20 +72,24 @@ fn read_value(c: Command, p: &[u8]) -> Option<Answer<'_>>
 }
 
 // Whether a refusal is allowed in reply to c: ERR2 is none to `?`.
-fn may_refuse(c: Command, r: Refusal) -> bool
-    ensures { result ≡ is_refusal_to c (refusal_digit r) }
+fn may_refuse(c: Command, r: ErrorReply) -> bool
+    ensures { result ≡ is_refusal_to c (error_reply_digit r) }
 {
     has_own_parameter(c) || r.number() != 2
 }
 
 /// What the parameter p says to the command c; none where it is not allowed there.
 #[tactic(auto, unfolding(crate::specs::Reading::read_parameter))]
-pub fn read_parameter(c: Command, p: &[u8]) -> Option<Reply<'_>>
-    ensures { parameter_said result ≡ read_parameter c p.now }
+pub fn read_parameter(command: Command, parameter: &[u8]) -> Option<Reply<'_>>
+    ensures { parameter_said result ≡ read_parameter command parameter.now }
 {
-    let refusal: Option<Refusal> = codec::parse(p);
+    let refusal: Option<ErrorReply> = codec::parse(parameter);
     if let Some(r) = refusal {
-        return if may_refuse(c, r) { Some(Err(r)) } else { None };
+        return if may_refuse(command, r) {
+            Some(Err(r))
+        } else {
+            None
+        };
     }
-    Some(Ok(read_value(c, p)?))
+    Some(Ok(read_value(command, parameter)?))
 }

@@ -67,9 +67,9 @@ fn command_of(b: Body, p: &[u8]) -> Option<Command>
 /// What four letters with the parameter p ask for in a line of the class: the letters in any case, the parameter
 /// exactly.
 #[tactic(auto, unfolding(crate::specs::Requests::request_of, crate::specs::Requests::asked_of))]
-pub fn request(class: ClassNumber, letters: [u8; 4], p: &[u8]) -> Result<Command, Unasked>
-    ensures { result ≡ request_of (class_as_number class) letters p.now }
+pub fn request(class: ClassNumber, letters: [u8; 4], parameter: &[u8]) -> Result<Command, Unasked>
+    ensures { result ≡ request_of (class_as_number class) letters parameter.now }
 {
     let body = Body::named(class, letters).ok_or(Unasked::UnknownBody)?;
-    command_of(body, p).ok_or(Unasked::Unlisted(body))
+    command_of(body, parameter).ok_or(Unasked::Unlisted(body))
 }

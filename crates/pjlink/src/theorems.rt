@@ -2,9 +2,9 @@
 // is that the theorems stand.
 ghost use Rattle.std.specs.Prelude.{◌≡◌, ◌≤◌, ◌++◌, ℕ, Bool, List, Option, Result, false, true, not, length};
 ghost use Rattle.std.specs.Prelude.{[], ◌∷◌, map, codes, Ok, Err, Some, None};
-ghost use Rattle.words.specs.Bytes.{◌at◌, no_cr};
+ghost use Rattle.words.specs.Bytes.{◌at◌, is_cr_free};
 ghost use Rattle.pjlink.specs.declared.answer.Answer.{Answer};
-ghost use Rattle.words.specs.declared.refusal.Refusal.{Refusal};
+ghost use Rattle.words.specs.declared.error_reply.ErrorReply.{ErrorReply};
 ghost use Rattle.words.specs.declared.class.ClassNumber.TheVariants.{One, Two};
 ghost use Rattle.words.specs.declared.input.Source.TheVariants.{Internal};
 ghost use Rattle.pjlink.specs.Carried.{parameter_said};
@@ -32,7 +32,7 @@ ghost use Rattle.pjlink.specs.Worked.{hdmi, request_to};
 pub fn one_result()
     ensures answer_written { (out : List ℕ) (m : Said) (k l : List ℕ)
         → k ≡ out ++ said_bytes m → l ≡ out ++ said_bytes m → k ≡ l }
-    ensures parameter_read { (c : Command) (p : List ℕ) (r s : Option (Result Answer Refusal))
+    ensures parameter_read { (c : Command) (p : List ℕ) (r s : Option (Result Answer ErrorReply))
         → parameter_said r ≡ read_parameter c p → parameter_said s ≡ read_parameter c p
         → parameter_said r ≡ parameter_said s }
     ensures greeting_read { (l : List ℕ) (r s : Option Greeting) → r ≡ read_greeting l → s ≡ read_greeting l → r ≡ s }
@@ -56,18 +56,18 @@ pub fn a_line_has_its_class()
     ensures taken { (k : ℕ) (l : List ℕ) → is_command_form k l ≡ true → 1 ≤ k → line_class l ≤ k }
     ensures digit { (k : ℕ) (l : List ℕ) → is_command_form k l ≡ true → l at 1 ≡ class_digit (line_class l) }
     ensures other { (s : List ℕ) → IsLetters s → (j k : ℕ) (p : List ℕ) → (j ≡ k → ⊥)
-        → length p ≤ parameter_most → no_cr p ≡ true → is_reply_form k (reply_line (class_digit j) s p) ≡ false }
+        → length p ≤ parameter_most → is_cr_free p ≡ true → is_reply_form k (reply_line (class_digit j) s p) ≡ false }
 {}
 
 /// A reply built from a class, a body and a parameter has the form of that class, and gives body and parameter back; a
 /// line of the form has its head and its CR (RULES, Controller).
 pub fn a_reply_gives_its_parts()
-    ensures form { (s : List ℕ) → IsLetters s → (k : ℕ) (p : List ℕ) → length p ≤ parameter_most → no_cr p ≡ true
+    ensures form { (s : List ℕ) → IsLetters s → (k : ℕ) (p : List ℕ) → length p ≤ parameter_most → is_cr_free p ≡ true
         → is_reply_form k (reply_line (class_digit k) s p) ≡ true }
-    ensures body { (s : List ℕ) → IsLetters s → (h : ℕ) (p : List ℕ) → length p ≤ parameter_most → no_cr p ≡ true
+    ensures body { (s : List ℕ) → IsLetters s → (h : ℕ) (p : List ℕ) → length p ≤ parameter_most → is_cr_free p ≡ true
         → head_body (reply_line h s p) ≡ s }
     ensures parameter { (s : List ℕ) → IsLetters s → (h : ℕ) (p : List ℕ) → length p ≤ parameter_most
-        → no_cr p ≡ true → reply_parameter (reply_line h s p) ≡ p }
+        → is_cr_free p ≡ true → reply_parameter (reply_line h s p) ≡ p }
     ensures long { (k : ℕ) (l : List ℕ) → is_reply_form k l ≡ true → 8 ≤ length l }
 {}
 

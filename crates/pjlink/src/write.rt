@@ -5,11 +5,11 @@ ghost use Rattle.pjlink.specs.Said.{said_bytes};
 ghost use Rattle.pjlink.specs.Carried.{answer_said, said_by};
 
 use crate::answer::{Answer, Reply};
-use words::codec::{LINE_MOST, Line, Wire};
+use words::codec::{LINE_MOST, LineBytes, Wire};
 use words::{codec, list};
 
 #[tactic(auto, unfolding(crate::specs::Said::said_bytes))]
-fn put_answer(a: &Answer<'_>, out: &mut Line)
+fn put_answer(a: &Answer<'_>, out: &mut LineBytes)
     requires { array_vec_len out.old + length (said_bytes (answer_said a.now)) ≤ LINE_MOST }
     ensures { out.new.items ≡ out.old.items ++ said_bytes (answer_said a.now) }
 {
@@ -29,11 +29,11 @@ fn put_answer(a: &Answer<'_>, out: &mut Line)
 
 /// Puts the reply's parameter at the end of the line.
 #[tactic(auto, unfolding(crate::specs::Said::said_bytes))]
-pub fn put_parameter(r: &Reply<'_>, out: &mut Line)
-    requires { array_vec_len out.old + length (said_bytes (said_by r.now)) ≤ LINE_MOST }
-    ensures { out.new.items ≡ out.old.items ++ said_bytes (said_by r.now) }
+pub fn put_parameter(reply: &Reply<'_>, out: &mut LineBytes)
+    requires { array_vec_len out.old + length (said_bytes (said_by reply.now)) ≤ LINE_MOST }
+    ensures { out.new.items ≡ out.old.items ++ said_bytes (said_by reply.now) }
 {
-    match r {
+    match reply {
         Ok(answer) => put_answer(answer, out),
         Err(refusal) => refusal.put(out),
     }

@@ -25,7 +25,7 @@ use Rattle.stored.specs.Told.{load_error_number}
 use Rattle.crc32.specs.Crc.{crc32_of}
 use Rattle.floorlog.specs.Cuts.{failure_line, number_line}
 use Rattle.command.specs.Asked.{AskedFor, Asks, asked_by, asked_seen}
-use Rattle.command.specs.declared.asked.Command.{Command}
+use Rattle.command.specs.declared.asked.Arguments.{Arguments}
 use Rattle.command.specs.declared.asked.Shape.{Shape}
 use Rattle.command.specs.declared.asked.Shape.TheVariants.{Lines}
 use Rattle.command.specs.declared.asked.Stop.{Stop}
@@ -174,12 +174,12 @@ module _ (writes fails : Error → Type 0) (log_bytes form_bytes : List ℕ → 
   abbrev pub Does : AskedFor → Outs → Status → Type 0
   Does a o status = IsUnbegun a o status ⊎ IsBegunSo a o status
 
-  abbrev pub AnswersSo : Result Command Stop → About → Outs → Status → Type 0
+  abbrev pub AnswersSo : Result Arguments Stop → About → Outs → Status → Type 0
   AnswersSo (Ok c) a = Does (asked_seen c)
   AnswersSo (Err stop) a = StopsSo writes fails stop a
 
   -- what the words of a command line ask for, by `Asked`, or that there is no memory for them, and what is done for it
   pub record Runs (words : List (List ℕ)) (a : About) (o : Outs) (status : Status) : Type 0 where
-    pub parsed : Result Command Stop
+    pub parsed : Result Arguments Stop
     pub asks : Asks parsed (asked_by a.has_page words)
     pub answers : AnswersSo parsed a o status

@@ -93,19 +93,19 @@ pub record IsSaid (fails : Error → Type 0) (old new : Option (List ℕ)) (text
 abbrev pub stray_warning : FirstStray → List ℕ
 stray_warning s = stray_text s ++ codes "; what is written is of the lines before it\n"
 
-abbrev pub all_played : Unplayed → Bool
-all_played u = u.misread == 0 && u.refused == 0
+abbrev pub is_all_played : Unplayed → Bool
+is_all_played u = u.misread == 0 && u.refused == 0
 
 abbrev pub text_by : Option StrayLine → Unplayed → List ℕ
 text_by (Some line) u = stray_warning (stray_seen line)
-text_by None u = if all_played u then [] else unplayed_text u
+text_by None u = if is_all_played u then [] else unplayed_text u
 
 abbrev pub ending_text : Ending → List ℕ
 ending_text e = text_by e.stray e.unplayed
 
 abbrev pub status_by : Option StrayLine → Unplayed → Status
 status_by (Some line) u = Strayed
-status_by None u = if all_played u then Done else Strayed
+status_by None u = if is_all_played u then Done else Strayed
 
 abbrev pub ending_status : Ending → Status
 ending_status e = status_by e.stray e.unplayed

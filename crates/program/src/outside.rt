@@ -2,12 +2,12 @@
 ghost use Rattle.std.specs.Prelude.{◌≡◌, [], None, ⊤, ℕ, List, Option, OnOk, IfOk, IfSome};
 
 use crate::joined::Opens;
-use crate::progress::{Progress, Shown};
+use crate::progress::{Progress, ProgressShown};
 use std::fs::File;
 use std::io::{Error, ErrorKind, Read, Stdin};
 use std::{fs, io};
 use textio::streams::Stream;
-use textio::writer::{ByteSink, Writer};
+use textio::writer::{BufferedWriter, ByteSink};
 
 /// What a program uses besides its two output streams.
 pub trait Outside: Opens {
@@ -45,12 +45,12 @@ pub trait Outside: Opens {
 #[derive(Clone, Copy)]
 pub struct System<'a> {
     rt: &'a HostRuntime,
-    shown: Shown,
+    shown: ProgressShown,
 }
 
 /// Standard input, or a file of a log; reading it shows progress at a terminal.
 #[derive(Drop)]
-pub struct Input<'a> {
+pub struct LogInput<'a> {
     from: From,
     progress: Progress<'a>,
 }
@@ -61,7 +61,7 @@ enum From {
     File(File),
 }
 
-impl Read for Input<'_> {
+impl Read for LogInput<'_> {
     fn read(&mut self, buf: &mut [u8]) -> io::Result<usize> {
         let read = match &mut self.from {
             From::Standard(stdin) => stdin.read(buf)?,
@@ -73,14 +73,14 @@ impl Read for Input<'_> {
 }
 
 impl<'a> Opens for System<'a> {
-    type Source = Input<'a>;
+    type Source = LogInput<'a>;
 
     ghost log_bytes = { λ _ _. None };
 
-    fn open_log(&self, name: &str) -> io::Result<Input<'a>> {
+    fn open_log(&self, name: &str) -> io::Result<LogInput<'a>> {
         if name == "-" {
             let progress = Progress::of(self.rt, self.shown, "standard input", None);
-            return Ok(Input {
+            return Ok(LogInput {
                 from: From::Standard(self.rt.stdin()),
                 progress,
             });
@@ -90,7 +90,7 @@ impl<'a> Opens for System<'a> {
             Ok(found) if found.is_file() => Some(found.len()),
             _ => None,
         };
-        Ok(Input {
+        Ok(LogInput {
             from: From::File(file),
             progress: Progress::of(self.rt, self.shown, name, length),
         })
@@ -100,7 +100,7 @@ impl<'a> Opens for System<'a> {
 /// An output's file that is being written.
 #[derive(Drop)]
 pub struct Saved {
-    to: Writer<Stream<File>>,
+    to: BufferedWriter<Stream<File>>,
     // another handle of it
     file: File,
     // where it is written
@@ -133,7 +133,7 @@ impl<'a> System<'a> {
     pub fn of(rt: &'a HostRuntime) -> System<'a> {
         System {
             rt,
-            shown: Shown::of(rt),
+            shown: ProgressShown::of(rt),
         }
     }
 }
@@ -216,7 +216,7 @@ impl Outside for System<'_> {
 
     fn create(&self, name: &str) -> io::Result<Saved> {
         let (file, written, place) = self.open_part(name)?;
-        let to = Writer::new(Stream(file.try_clone()?));
+        let to = BufferedWriter::new(Stream(file.try_clone()?));
         Ok(Saved {
             to,
             file,

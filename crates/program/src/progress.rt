@@ -5,13 +5,13 @@ use std::io::IsTerminal;
 use std::time::Instant;
 
 // At most so many seconds lie between two lines.
-const SECONDS_MOST: u64 = 16;
+const INTERVAL_MOST: u64 = 16;
 
 const LF: u8 = b'\n';
 
 /// Whether a program's progress is shown, and since when the program runs.
 #[derive(Clone, Copy)]
-pub struct Shown {
+pub struct ProgressShown {
     begun: Option<Instant>,
 }
 
@@ -19,7 +19,7 @@ pub struct Shown {
 #[derive(Drop)]
 pub struct Progress<'a> {
     rt: &'a HostRuntime,
-    shown: Shown,
+    shown: ProgressShown,
     name: Option<String>,
     length: Option<u64>,
     bytes: u64,
@@ -28,21 +28,26 @@ pub struct Progress<'a> {
     due: u64,
 }
 
-impl Shown {
+impl ProgressShown {
     /// Returns what is shown from now on: progress, if standard error is a terminal.
-    pub fn of(rt: &HostRuntime) -> Shown {
+    pub fn of(rt: &HostRuntime) -> ProgressShown {
         let begun = if rt.stderr().is_terminal() {
             Instant::now(rt).ok()
         } else {
             None
         };
-        Shown { begun }
+        ProgressShown { begun }
     }
 }
 
 impl<'a> Progress<'a> {
     /// Returns the progress of a file with that name, and that length if it is known.
-    pub fn of(rt: &'a HostRuntime, shown: Shown, name: &str, length: Option<u64>) -> Progress<'a> {
+    pub fn of(
+        rt: &'a HostRuntime,
+        shown: ProgressShown,
+        name: &str,
+        length: Option<u64>,
+    ) -> Progress<'a> {
         Progress {
             rt,
             shown,
@@ -66,7 +71,7 @@ impl<'a> Progress<'a> {
         };
         let seconds = since.as_secs();
         if seconds >= self.due {
-            self.due = seconds.saturating_add(seconds.min(SECONDS_MOST));
+            self.due = seconds.saturating_add(seconds.min(INTERVAL_MOST));
             self.say();
         }
     }

@@ -17,7 +17,7 @@ use crate::said;
 use crate::status::Status;
 use crate::telling::{Ending, Telling};
 use command::asked;
-use command::asked::{Command, Shape, Stop};
+use command::asked::{Arguments, Shape, Stop};
 use floorlog::cut;
 use formfile::{Begun, NotBegun};
 use reasons::about::version_line;
@@ -27,9 +27,9 @@ use std::io::Error;
 use std::{env, io};
 use text::numbered::Numbered;
 use textio::lines::Failure;
-use textio::reader::Reader;
+use textio::reader::BufferedReader;
 use textio::streams::Stream;
-use textio::writer::{ByteSink, Writer, put};
+use textio::writer::{BufferedWriter, ByteSink, put};
 
 const STANDARD_OUTPUT: &str = "standard output";
 
@@ -175,7 +175,7 @@ fn ended<E: ByteSink>(ending: &Ending, errors: &mut E) -> Status
 fn tell_out<P: Telling, O: Opens, W: ByteSink, E: ByteSink>(
     program: &P,
     begun: &Begun,
-    command: &Command<'_>,
+    command: &Arguments<'_>,
     mut log: Joined<'_, '_, O>,
     to: &mut W,
     errors: &mut E,
@@ -190,7 +190,12 @@ fn tell_out<P: Telling, O: Opens, W: ByteSink, E: ByteSink>(
           errors_then = E.contents errors.new;
         }) result }
 {
-    let told = program.tell(begun, command, &mut Reader::new(Stream(&mut log)), to);
+    let told = program.tell(
+        begun,
+        command,
+        &mut BufferedReader::new(Stream(&mut log)),
+        to,
+    );
     match told {
         Ok(ending) => match cut::end_output(Ok(()), to) {
             Ok(()) => ended(&ending, errors),
@@ -208,7 +213,7 @@ fn tell_out<P: Telling, O: Opens, W: ByteSink, E: ByteSink>(
 fn tell_saved<P: Telling, O: Outside, E: ByteSink>(
     program: &P,
     begun: &Begun,
-    command: &Command<'_>,
+    command: &Arguments<'_>,
     mut log: Joined<'_, '_, O>,
     outside: &O,
     name: &str,
@@ -223,7 +228,12 @@ fn tell_saved<P: Telling, O: Outside, E: ByteSink>(
         Ok(sink) => sink,
         Err(error) => return unwritten(name, &error, errors),
     };
-    let told = program.tell(begun, command, &mut Reader::new(Stream(&mut log)), &mut to);
+    let told = program.tell(
+        begun,
+        command,
+        &mut BufferedReader::new(Stream(&mut log)),
+        &mut to,
+    );
     match told {
         Ok(ending) => match outside.keep(name, to) {
             Ok(()) => ended(&ending, errors),
@@ -288,14 +298,14 @@ fn is_lines(shape: Shape) -> bool
 }
 
 // Whether a form that does not load leaves its line: no page is written for it, no table and no file.
-fn is_lined(command: &Command<'_>) -> bool
+fn is_lined(command: &Arguments<'_>) -> bool
     ensures { result ≡ is_lined (asked_seen command.now) }
 {
     is_lines(command.shape) && command.output.is_none()
 }
 
 // The files of the log; standard input where none is named.
-fn files_of<'c, 'w>(command: &'c Command<'w>) -> &'c [&'w str]
+fn files_of<'c, 'w>(command: &'c Arguments<'w>) -> &'c [&'w str]
     ensures { names_seen result.now ≡ files_asked (asked_seen command.now) }
 {
     if command.logs.is_empty() {
@@ -307,7 +317,7 @@ fn files_of<'c, 'w>(command: &'c Command<'w>) -> &'c [&'w str]
 fn tell<P: Telling, O: Outside, W: ByteSink, E: ByteSink>(
     program: &P,
     alloc: Global,
-    command: &Command<'_>,
+    command: &Arguments<'_>,
     outside: &O,
     to: &mut W,
     errors: &mut E,
@@ -409,7 +419,7 @@ pub fn on_system<P: Telling>(rt: &HostRuntime, program: &P, about: &About) -> St
         rt.alloc(),
         words.as_ref().map(|words| words.as_slice()),
         &System::of(rt),
-        &mut Writer::new(Stream(rt.stdout())),
+        &mut BufferedWriter::new(Stream(rt.stdout())),
         &mut Stream(rt.stderr()),
     )
 }

@@ -8,12 +8,12 @@ ghost use Rattle.command.specs.Asked.{AskedFor, asked_seen};
 ghost use Rattle.formfile.specs.declared.Begun.{Begun};
 ghost use Rattle.program.specs.declared.telling.Ending.{Ending};
 
-use command::asked::Command;
+use command::asked::Arguments;
 use floorlog::unplayed::Unplayed;
 use formfile::Begun;
 use recorded::stray::StrayLine;
 use textio::lines::Failure;
-use textio::reader::{ByteSource, Reader};
+use textio::reader::{BufferedReader, ByteSource};
 use textio::writer::ByteSink;
 
 /// How a log ended that was read to its end.
@@ -40,8 +40,8 @@ pub trait Telling {
     fn tell<R: ByteSource, W: ByteSink>(
         &self,
         begun: &Begun,
-        command: &Command<'_>,
-        from: &mut Reader<R>,
+        command: &Arguments<'_>,
+        from: &mut BufferedReader<R>,
         to: &mut W,
     ) -> Result<Ending, Failure>
         ensures whole { OnOk result (IfSome (left_in R.remaining from.old) (λ log. Appends (W.contents to.old)

@@ -4,7 +4,7 @@
 use Rattle.std.proofs.Common.{ℕ, ◌≤◌, ◌<◌, ◌≡◌, refl, Bool, true, false, arith, lt-ltb}
 use Rattle.words.specs.Bytes.{command_most}
 use Rattle.words.proofs.Characters.{no_cr_of}
-use Rattle.record.specs.Limits.{line_room, age_end, awaiting, opened}
+use Rattle.record.specs.Limits.{line_room, age_end, phase_awaiting, phase_open}
 use Rattle.record.specs.Record.{closed}
 use Rattle.record.specs.Legal.{is_timed, is_collecting, is_age, held_most, is_held, is_connection}
 use Rattle.record.proofs.FactsTold.{connection_is}
@@ -33,11 +33,11 @@ module _ (phase : ℕ) where
   zero_age = grind arith
 
 -- collected bytes, by the phase and the mark
-pub held_most_awaiting : held_most awaiting ≡ line_room
+pub held_most_awaiting : held_most phase_awaiting ≡ line_room
 unfolding held_most
 held_most_awaiting = refl
 
-pub held_most_opened : held_most opened ≡ command_most
+pub held_most_opened : held_most phase_open ≡ command_most
 unfolding held_most
 held_most_opened = refl
 

@@ -3,13 +3,13 @@
 use Rattle.std.proofs.Common.{ℕ, arith, Bool, IsTrue, List, ◌↔◌, All}
 use Rattle.std.proofs.Math.Seq.{length-take-le}
 use Rattle.std.specs.List.{list_all}
-use Rattle.record.specs.Legal.{is_zero, fills_room, fills_name_room, is_names, is_rest_of_2, is_settings, is_own}
+use Rattle.record.specs.Legal.{is_zero, fills_room, fills_name_room, is_names, is_class_2_part, is_settings, is_own}
 use Rattle.record.specs.Legal.{is_connection, is_connections, is_legal}
 use Rattle.text.proofs.RoomsTold.{uses_told}
-use Rattle.record.specs.Facts.{Fills, IsStretch, IsNames, IsSettings, IsOwn, IsConnection, IsLegal}
+use Rattle.record.specs.Facts.{Fills, IsTransition, IsNames, IsSettings, IsOwn, IsConnection, IsLegal}
 use Rattle.words.specs.Texts.{is_password, input_name_most}
 use Rattle.record.specs.Limits.{text_room, listed_most}
-use Rattle.record.specs.Rules.{is_long_enough, is_set_up_password, is_stretch}
+use Rattle.record.specs.Rules.{is_long_enough, is_set_up_password, is_transition}
 use Rattle.record.specs.declared.types.InputName.{InputName}
 use Rattle.record.specs.declared.types.Settings.{Settings}
 use Rattle.record.specs.declared.types.Own.{Own}
@@ -30,7 +30,7 @@ fills h = (fills_told _ _ _ _).0 h
 full : {room : ℕ} {rule : List ℕ → Bool} {s : List ℕ} {n : ℕ} → Fills room rule s n → IsTrue (fills_room room rule s n)
 full t = (fills_told _ _ _ _).1 t
 
-pub stretch_is : (n : ℕ) → IsTrue (is_stretch n) ↔ IsStretch n
+pub stretch_is : (n : ℕ) → IsTrue (is_transition n) ↔ IsTransition n
 stretch_is n = (λ h. record { low = grind (arith, h); high = grind (arith, h) }, λ t. grind (arith, t.low, t.high))
 
 pub names_is : (n : ℕ) (ns : List InputName) → IsTrue (is_names n ns) ↔ IsNames n ns
@@ -44,7 +44,7 @@ unfolding is_set_up_password
 password_fills s n = grind (arith, fills, length-take-le, full)
 
 pub settings_is : (s : Settings) → IsTrue (is_settings s) ↔ IsSettings s
-unfolding is_settings is_rest_of_2
+unfolding is_settings is_class_2_part
 settings_is s = (
   λ h.
       let secret = (password_fills s.password.bytes s.password.len).0 (grind (arith, h)) in
@@ -54,7 +54,7 @@ settings_is s = (
         model = fills (grind (arith, h));
         other = fills (grind (arith, h));
         password = secret.0;
-        long_enough = secret.1;
+        is_long_enough = secret.1;
         inputs = fills (grind (arith, h));
         lamps = grind (arith, h);
         warm = (stretch_is _).0 (grind (arith, h));
@@ -70,7 +70,7 @@ settings_is s = (
         full t.maker,
         full t.model,
         full t.other,
-        (password_fills _ _).1 (t.password, t.long_enough),
+        (password_fills _ _).1 (t.password, t.is_long_enough),
         full t.inputs,
         t.lamps,
         (stretch_is _).1 t.warm,

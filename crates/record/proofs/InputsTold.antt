@@ -5,7 +5,7 @@ use Rattle.std.proofs.Common.{drop, length-drop, get_or-drop, ◌==◌}
 use Rattle.words.specs.Bytes.{◌at◌}
 use Rattle.words.specs.Inputs.{is_input_text}
 use Rattle.record.specs.Rules.{is_other, is_none, is_new_input, is_inputs}
-use Rattle.record.proofs.Rules.{each_pair-is_new_input}
+use Rattle.record.proofs.Rules.{are_pairs-is_new_input}
 use Rattle.record.proofs.Places.{pair_at}
 
 module _ (c : ℕ) (s : List ℕ) (h : is_inputs c s ≡ true) where
@@ -14,7 +14,7 @@ module _ (c : ℕ) (s : List ℕ) (h : is_inputs c s ≡ true) where
 
   is_new_input-drop : (k : ℕ) → 2 * k + 1 < length s →
       is_new_input c (s at (2 * k)) (s at (2 * k + 1)) (drop (2 * k + 2) s) ≡ true
-  is_new_input-drop k l = pair_at (is_new_input c) s (each_pair-is_new_input c s h) k l
+  is_new_input-drop k l = pair_at (is_new_input c) s (are_pairs-is_new_input c s h) k l
 
   pub input_named : (k : ℕ) → 2 * k + 1 < length s → is_input_text c (s at (2 * k)) (s at (2 * k + 1)) ≡ true
   input_named k l = grind (arith, is_new_input-drop k l)

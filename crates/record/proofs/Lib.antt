@@ -23,7 +23,7 @@ pub mod OwnTold
 pub mod ConnectionTold
 pub mod ConnectionsTold
 pub mod LegalTold
-pub mod LowestShut
+pub mod LowestClosed
 pub mod Started
 pub mod HostKept
 pub mod Results

@@ -9,7 +9,7 @@ use Rattle.text.proofs.Choices.{if_by}
 use Rattle.record.specs.Wanted.{Wanted}
 use Rattle.record.specs.SetUp.{settings_in_order, is_setting_in_range, is_in_range, is_set_up, first_failing}
 use Rattle.record.specs.SetUp.{first_out_of_range}
-use Rattle.record.specs.OutOfRange.{setting_place, SettingHolds}
+use Rattle.record.specs.OutOfRange.{setting_position, SettingHolds}
 use Rattle.record.specs.declared.types.Setting.{Setting}
 use Rattle.record.specs.declared.types.Setting.TheVariants.{Name}
 
@@ -18,27 +18,27 @@ use Rattle.record.specs.declared.types.Setting.TheVariants.{Name}
 setting_at : ℕ → Setting
 setting_at n = slice_index_or settings_in_order (n - 1) Name
 
-setting_at-setting_place : (s : Setting) → setting_at (setting_place s) ≡ s
+setting_at-setting_position : (s : Setting) → setting_at (setting_position s) ≡ s
 unfolding setting_at
-setting_at-setting_place s = grind arith
+setting_at-setting_position s = grind arith
 
-pub one_setting_place : (s t : Setting) → setting_place s ≡ setting_place t → s ≡ t
-one_setting_place s t e = sym (setting_at-setting_place s) ∙ ap setting_at e ∙ setting_at-setting_place t
+pub one_setting_place : (s t : Setting) → setting_position s ≡ setting_position t → s ≡ t
+one_setting_place s t e = sym (setting_at-setting_position s) ∙ ap setting_at e ∙ setting_at-setting_position t
 
-pub setting_place_within : (s : Setting) → (1 ≤ setting_place s) × (setting_place s ≤ 12)
+pub setting_place_within : (s : Setting) → (1 ≤ setting_position s) × (setting_position s ≤ 12)
 setting_place_within s = grind arith
 
 abbrev Stepped : ℕ → List Setting → Type 0
 Stepped k [] = k ≡ 13
-Stepped k (s ∷ l) = (setting_place s ≡ k) × Stepped (suc k) l
+Stepped k (s ∷ l) = (setting_position s ≡ k) × Stepped (suc k) l
 
 -- ---- under any rules
 
 module _ (f : Setting → Bool) where
   abbrev AllBelow : ℕ → Type 0
-  AllBelow k = (t : Setting) → setting_place t < k → f t ≡ true
+  AllBelow k = (t : Setting) → setting_position t < k → f t ≡ true
 
-  one_more : (k : ℕ) (s : Setting) → setting_place s ≡ k → f s ≡ true → AllBelow k → AllBelow (suc k)
+  one_more : (k : ℕ) (s : Setting) → setting_position s ≡ k → f s ≡ true → AllBelow k → AllBelow (suc k)
   one_more k s e met known t below = grind (arith, known t, one_setting_place t s, met)
 
   -- from the place k on, where all below it are in range

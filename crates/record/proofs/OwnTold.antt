@@ -6,18 +6,18 @@ use Rattle.std.proofs.Common.{get_or-take, length-take-le, leb-true, le-leb}
 use Rattle.text.proofs.Scanning.{list_all_at, list_all_by_place}
 use Rattle.text.proofs.Choices.{both}
 use Rattle.record.specs.Limits.{lamps_most, lamp_limit, errors_count, error_most}
-use Rattle.record.specs.Rules.{at_most, is_lamp, is_lamps}
+use Rattle.record.specs.Rules.{is_at_most, is_lamp, is_lamps}
 use Rattle.record.specs.Facts.{Fills, IsOwn}
 use Rattle.record.specs.declared.types.Settings.{Settings}
 use Rattle.record.specs.declared.types.Own.{Own}
 use Rattle.record.proofs.Kept.{kept_length, clear_by_place}
-use Rattle.record.proofs.Rules.{errors_long, list_all-at_most, lamps_within}
+use Rattle.record.proofs.Rules.{errors_long, list_all-is_at_most, lamps_within}
 
 module _ (s : Settings) (o : Own) (t : IsOwn s o) where
   pub error_at : (k : ℕ) → k < errors_count → slice_index_or o.errors k 0 ≤ error_most
   error_at k l =
       leb-true (slice_index_or o.errors k 0) error_most
-      (list_all_at (at_most error_most) o.errors 0 (list_all-at_most _ t.errors) k
+      (list_all_at (is_at_most error_most) o.errors 0 (list_all-is_at_most _ t.errors) k
       (omega (arith, errors_long _ t.errors)))
 
   pub lamp_at : (k : ℕ) → k < s.lamp_count → slice_index_or o.lamps k 0 ≤ lamp_limit

@@ -7,16 +7,17 @@ use Rattle.words.specs.Texts.{is_text, is_input_name}
 use Rattle.words.proofs.Refusals.{refusal_long}
 use Rattle.words.proofs.WithinLength.{text_within, text_longer}
 use Rattle.record.specs.Limits.{input_room, lamps_most, errors_count, error_most, is_class_number, only_in_2}
-use Rattle.record.specs.Rules.{at_most, each_pair, is_new_input, is_inputs, is_lamp, is_lamps, is_error_list, are_names}
+use Rattle.record.specs.Rules.{is_at_most, are_pairs, is_new_input, is_inputs, is_lamp, is_lamps, is_error_list}
+use Rattle.record.specs.Rules.{are_names}
 
 module _ (ds : List ℕ) (h : is_error_list ds ≡ true) where
   pub errors_long : length ds ≡ errors_count
   unfolding is_error_list
   errors_long = grind (arith, h)
 
-  pub list_all-at_most : list_all (at_most error_most) ds ≡ true
+  pub list_all-is_at_most : list_all (is_at_most error_most) ds ≡ true
   unfolding is_error_list
-  list_all-at_most = grind (arith, h)
+  list_all-is_at_most = grind (arith, h)
 
 module _ (xs : List ℕ) (h : is_lamps xs ≡ true) where
   pub lamps_few : length xs ≤ lamps_most
@@ -41,9 +42,9 @@ module _ (k : ℕ) (s : List ℕ) (h : is_inputs k s ≡ true) where
   unfolding is_inputs
   inputs_few = grind (arith, h)
 
-  pub each_pair-is_new_input : each_pair (is_new_input k) s ≡ true
+  pub are_pairs-is_new_input : are_pairs (is_new_input k) s ≡ true
   unfolding is_inputs
-  each_pair-is_new_input = grind (arith, h)
+  are_pairs-is_new_input = grind (arith, h)
 
 -- one of two classes
 pub class_one_of : (k : ℕ) → is_class_number k ≡ true → (k ≡ 1) ⊎ (k ≡ 2)

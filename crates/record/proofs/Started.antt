@@ -19,7 +19,7 @@ use Rattle.record.specs.declared.types.Setting.{Setting}
 use Rattle.record.specs.declared.types.Setting.TheVariants.{Name, Maker, Model, Other, Password, Inputs, Lamps, WarmUp}
 use Rattle.record.specs.declared.types.Setting.TheVariants.{Cooling, Serial, Version, Names}
 use Rattle.words.proofs.TextsTold.{name_long, info_long, password_long}
-use Rattle.record.proofs.Rules.{inputs_some, inputs_few, each_pair-is_new_input, lamps_few}
+use Rattle.record.proofs.Rules.{inputs_some, inputs_few, are_pairs-is_new_input, lamps_few}
 use Rattle.record.proofs.Rules.{only_in_2_within, names_many, names_each, text_most}
 use Rattle.record.proofs.NamesTold.{names_kept_lem}
 use Rattle.record.proofs.Places.{pairs_even}
@@ -44,7 +44,7 @@ blank_illegal =
 pub inputs_halved : (k : ℕ) (s : List ℕ) → is_inputs k s ≡ true → 2 * (length s / 2) ≡ length s
 inputs_halved k s h =
     let most =
-    pairs_even (is_new_input k) s (each_pair-is_new_input k s h) (length s / 2) (omega arith) (omega arith) in
+    pairs_even (is_new_input k) s (are_pairs-is_new_input k s h) (length s / 2) (omega arith) (omega arith) in
     omega arith
 
 module _ (w : Wanted) where
@@ -79,7 +79,7 @@ module _ (w : Wanted) where
       password =
           filled_kept text_room is_password w.password (omega (arith, password_long w.password (met Password)))
           (met Password);
-      long_enough = set_up_long w h;
+      is_long_enough = set_up_long w h;
       inputs =
           subst (Fills input_room (is_inputs w.class) (in_room input_room w.inputs))
           (sym (inputs_halved _ w.inputs (met Inputs)))

@@ -7,8 +7,8 @@ use Rattle.std.proofs.Common.{true, false, not, ◌&&◌, [], slice_index_or, na
 use Rattle.std.proofs.lemmas.List.{get_or-take, get_or-drop, get_or-replicate, get_or_append_left, length-replicate}
 use Rattle.std.proofs.Math.Seq.{get_or-append_right, length-take-le}
 use Rattle.std.specs.Str.{is_utf8}
-use Rattle.words.specs.Bytes.{no_cr}
-use Rattle.words.specs.Texts.{is_text_byte, is_text, is_refusal, is_name, name_most}
+use Rattle.words.specs.Bytes.{is_cr_free}
+use Rattle.words.specs.Texts.{is_text_byte, is_text, is_error_reply, is_name, name_most}
 use Rattle.words.proofs.WithinLength.{text_within, text_longer}
 use Rattle.words.proofs.Characters.{no_cr_of}
 use Rattle.words.proofs.TextsTold.{name_by_tests}
@@ -56,13 +56,13 @@ module _ (b w r : ℕ) (low : r ≡ min b 0x20) where
 
 -- the rule of a text, by the tests of its length and of its bytes
 text_by_tests : (s : List ℕ) (m : ℕ) →
-    is_text m s ≡ (nat_le (length s) m && list_all is_text_byte s && not (is_refusal s))
+    is_text m s ≡ (nat_le (length s) m && list_all is_text_byte s && not (is_error_reply s))
 text_by_tests s m = grind (arith, common_steps, text_within s m, text_longer s m)
 
 -- a text in its room, by what one pass finds: the tests in their order
 pub text_filled : (room : ℕ) (s : List ℕ) (n most : ℕ) → length s ≡ room → fills_room room (is_text most) s n
     ≡ (nat_le n most && nat_le n room && (list_all is_zero (drop n s) && list_all is_text_byte (take n s))
-    && not (is_refusal (take n s)))
+    && not (is_error_reply (take n s)))
 unfolding fills_room
 text_filled room s n most long = grind (arith, used_blank, used_not_blank, used_many, text_by_tests, length-take-le)
 
@@ -80,10 +80,10 @@ module _ (room : ℕ) (s : List ℕ) (long : length s ≡ room) where
   no_name n = grind (arith, none_named, some_named)
 
 -- no line in its room: all of it is zero
-pub empty_line : (room : ℕ) (s : List ℕ) → length s ≡ room → fills_room room no_cr s 0 ≡ list_all is_zero s
+pub empty_line : (room : ℕ) (s : List ℕ) → length s ≡ room → fills_room room is_cr_free s 0 ≡ list_all is_zero s
 unfolding fills_room
 empty_line room s long =
-    let none : no_cr [] ≡ true = no_cr_of [] refl in
+    let none : is_cr_free [] ≡ true = no_cr_of [] refl in
     grind (arith, holds_used, none)
 
 -- a name in its room: a text there, in UTF-8

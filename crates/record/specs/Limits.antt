@@ -5,13 +5,14 @@
 --   volume_most, volume_start    a volume is 0 to this; that of set-up (RULES, Class 2)
 --   is_class_number k            there are two classes (RULES, Class 2)
 --   only_in_2 k n                what Class 2 alone has: n of it there, none in any other class
---   stretch_most                 warm-up and cooling last 1 to this many seconds
+--   transition_most                 warm-up and cooling last 1 to this many seconds
 --   places_count                 so many controllers are connected at once (RULES, Places)
 --   age_end                      an awaiting or failed connection closes when its age reaches this
 --   off, on, cooling, warming    the power, as POWR answers it: is_power p says that p is one of them
 --   is_lit power                 warm-up or on: the lamps burn
 --   is_between power             warm-up or cooling: seconds are left
---   shut, awaiting, opened, failed    the phase of a connection: is_phase p says that p is one of them
+--   phase_closed, phase_awaiting, phase_open, phase_failed    the phase of a connection: is_phase p says that p is one
+--   of them
 -- Assumes nothing.
 use Rattle.std.specs.Prelude.{ℕ, ◌*◌, Bool, ◌||◌, if◌then◌else◌, nat_le, ◌==◌}
 use Rattle.words.specs.Texts.{name_most}
@@ -49,8 +50,8 @@ is_class_number k = k == 1 || k == 2
 abbrev pub only_in_2 : ℕ → ℕ → ℕ
 only_in_2 k n = if k == 2 then n else 0
 
-abbrev pub stretch_most : ℕ
-stretch_most = 600
+abbrev pub transition_most : ℕ
+transition_most = 600
 
 -- fan, lamp, temperature, cover, filter, other: each 0 to 2
 abbrev pub errors_count : ℕ
@@ -90,17 +91,17 @@ is_lit power = power == warming || power == on
 abbrev pub is_between : ℕ → Bool
 is_between power = power == warming || power == cooling
 
-abbrev pub shut : ℕ
-shut = 0
+abbrev pub phase_closed : ℕ
+phase_closed = 0
 
-abbrev pub awaiting : ℕ
-awaiting = 1
+abbrev pub phase_awaiting : ℕ
+phase_awaiting = 1
 
-abbrev pub opened : ℕ
-opened = 2
+abbrev pub phase_open : ℕ
+phase_open = 2
 
-abbrev pub failed : ℕ
-failed = 3
+abbrev pub phase_failed : ℕ
+phase_failed = 3
 
 abbrev pub is_phase : ℕ → Bool
-is_phase p = nat_le p failed
+is_phase p = nat_le p phase_failed

@@ -17,7 +17,7 @@ use Rattle.std.specs.Prelude.{ℕ, ◌/◌, List, map, length, replicate}
 use Rattle.text.specs.Rooms.{filled_room}
 use Rattle.words.specs.Texts.{input_name_most}
 use Rattle.record.specs.Limits.{text_room, input_room, listed_most, lamps_most, line_room}
-use Rattle.record.specs.Limits.{errors_count, places_count, off, shut, volume_start}
+use Rattle.record.specs.Limits.{errors_count, places_count, off, phase_closed, volume_start}
 use Rattle.record.specs.Wanted.{Wanted}
 use Rattle.record.specs.Updates.{with_seconds, with_marks, with_volumes}
 use Rattle.record.specs.declared.types.Text.{Text}
@@ -47,7 +47,7 @@ names_kept ns = filled_room blank_name listed_most (map name_of ns)
 
 unfoldable pub closed : Connection
 closed = record {
-  phase = shut;
+  phase = phase_closed;
   age = 0;
   random = 0;
   line = record { overlong = 0; held = 0; bytes = zeros line_room };

@@ -17,7 +17,7 @@ use Rattle.std.specs.List.{find, list_all}
 use Rattle.words.specs.Texts.{is_text, is_name, is_info, is_password, info_most}
 use Rattle.record.specs.Limits.{only_in_2}
 use Rattle.record.specs.Wanted.{Wanted}
-use Rattle.record.specs.Rules.{is_long_enough, is_inputs, is_lamps, is_stretch, are_names}
+use Rattle.record.specs.Rules.{is_long_enough, is_inputs, is_lamps, is_transition, are_names}
 use Rattle.record.specs.Record.{start_device}
 use Rattle.record.specs.declared.types.Device.{Device}
 use Rattle.record.specs.declared.set_up_error.SetUpError.{SetUpError}
@@ -38,8 +38,8 @@ is_setting_in_range w Other = is_info w.other
 is_setting_in_range w Password = is_password w.password
 is_setting_in_range w Inputs = is_inputs w.class w.inputs
 is_setting_in_range w Lamps = is_lamps w.lamps
-is_setting_in_range w WarmUp = is_stretch w.warm
-is_setting_in_range w Cooling = is_stretch w.cool
+is_setting_in_range w WarmUp = is_transition w.warm
+is_setting_in_range w Cooling = is_transition w.cool
 is_setting_in_range w Serial = is_text (only_in_2 w.class info_most) w.serial
 is_setting_in_range w Version = is_text (only_in_2 w.class info_most) w.version
 is_setting_in_range w Names = are_names (only_in_2 w.class (length w.inputs / 2)) w.names

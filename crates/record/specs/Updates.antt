@@ -12,7 +12,7 @@
 -- Assumes nothing.
 use Rattle.std.specs.Prelude.{ℕ, List}
 use Rattle.record.specs.declared.types.Own.{Own}
-use Rattle.record.specs.declared.types.Line.{Line}
+use Rattle.record.specs.declared.types.CollectedLine.{CollectedLine}
 use Rattle.record.specs.declared.types.Connection.{Connection}
 use Rattle.record.specs.declared.types.Device.{Device}
 
@@ -82,7 +82,7 @@ module _ (o : Own) where
 abbrev pub with_age : Connection → ℕ → Connection
 with_age c age = record { phase = c.phase; age = age; random = c.random; line = c.line }
 
-abbrev pub with_line : Connection → Line → Connection
+abbrev pub with_line : Connection → CollectedLine → Connection
 with_line c l = record { phase = c.phase; age = c.age; random = c.random; line = l }
 
 abbrev pub with_own : Device → Own → Device

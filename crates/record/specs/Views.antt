@@ -15,7 +15,7 @@
 -- Assumes nothing.
 use Rattle.std.specs.Prelude.{ℕ, ◌≤◌, ◌≡◌, Bool, true, false, List, map, if◌then◌else◌, ◌==◌}
 use Rattle.text.specs.Flags.{is_raised}
-use Rattle.record.specs.Limits.{off, on, cooling, warming, shut, awaiting, opened, failed}
+use Rattle.record.specs.Limits.{off, on, cooling, warming, phase_closed, phase_awaiting, phase_open, phase_failed}
 use Rattle.record.specs.Updates.{with_power_left}
 use Rattle.record.specs.declared.types.Own.{Own}
 use Rattle.record.specs.declared.types.Connection.{Connection}
@@ -71,16 +71,16 @@ pub record IsPowerOf (warm cool power left : ℕ) : Type 0 where
 
 abbrev pub phase_of : (phase age random : ℕ) → Phase
 phase_of phase age random =
-    if phase == awaiting then Awaiting age random
-    else if phase == opened then Open random
-    else if phase == failed then Failed age random
+    if phase == phase_awaiting then Awaiting age random
+    else if phase == phase_open then Open random
+    else if phase == phase_failed then Failed age random
     else Closed
 
 abbrev pub phase_number : Phase → ℕ
-phase_number Closed = shut
-phase_number (Awaiting age random) = awaiting
-phase_number (Open random) = opened
-phase_number (Failed age random) = failed
+phase_number Closed = phase_closed
+phase_number (Awaiting age random) = phase_awaiting
+phase_number (Open random) = phase_open
+phase_number (Failed age random) = phase_failed
 
 abbrev pub phase_age : Phase → ℕ
 phase_age (Awaiting age random) = age

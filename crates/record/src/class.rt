@@ -10,11 +10,11 @@ pub fn is_class(class: u8) -> bool
 }
 
 /// What Class 2 alone has: so much of it there, none in any other class.
-pub fn only_in_2(class: u8, n: usize) -> usize
-    ensures { result ≡ only_in_2 class n }
+pub fn only_in_2(class: u8, count: usize) -> usize
+    ensures { result ≡ only_in_2 class count }
 {
     if class == 2 {
-        return n;
+        return count;
     }
     0
 }

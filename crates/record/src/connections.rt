@@ -13,7 +13,7 @@ fn are_legal(connections: &[Connection]) -> bool
 
 /// Whether the connection at each place is legal.
 #[tactic(auto, unfolding(crate::specs::Legal::is_connections))]
-pub fn connections_ok(connections: &[Connection; PLACES]) -> bool
+pub fn is_connections(connections: &[Connection; PLACES]) -> bool
     ensures { result ≡ is_connections connections.now }
 {
     are_legal(connections)

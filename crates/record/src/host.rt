@@ -29,7 +29,7 @@ impl Legal<'_> {
         ensures given { gives result self.new.device.now ≡ errors_set self.old.device.now digits.now }
         ensures kept { OnErr result (self.new.device.now ≡ self.old.device.now) }
     {
-        if !own::errors_ok(digits) {
+        if !own::is_error_list(digits) {
             return Err(Refusal::OutOfRange);
         }
         let device = &mut *self.device;
@@ -51,7 +51,7 @@ impl Legal<'_> {
         }
         let mut marks = device.own.enabled;
         marks[lamp] = flag::of(mark);
-        if own::none_marked(&marks) {
+        if own::are_unmarked(&marks) {
             return Err(Refusal::OutOfRange);
         }
         if device.own.power != OFF {

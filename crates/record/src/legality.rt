@@ -16,7 +16,7 @@ impl Device {
     {
         self.settings.is_legal()
             && self.own.is_legal(&self.settings)
-            && connections::connections_ok(&self.connections)
+            && connections::is_connections(&self.connections)
     }
 }
 

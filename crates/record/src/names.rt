@@ -10,14 +10,14 @@ use crate::class;
 use words::texts;
 
 /// A text of at most 32 bytes, of Class 2 alone: none in any other class.
-pub fn info_fits(class: u8, s: &[u8]) -> bool
-    ensures { result ≡ is_text (only_in_2 class info_most) s.now }
+pub fn is_info_of(class: u8, bytes: &[u8]) -> bool
+    ensures { result ≡ is_text (only_in_2 class info_most) bytes.now }
 {
-    texts::is_text(s, class::only_in_2(class, texts::INFO_MOST))
+    texts::is_text(bytes, class::only_in_2(class, texts::INFO_MOST))
 }
 
 /// A name for each of so many inputs, of Class 2 alone: none in any other class.
-pub fn names_fit(class: u8, inputs: usize, bytes: &[u8], lengths: &[usize]) -> bool
+pub fn are_names_of(class: u8, inputs: usize, bytes: &[u8], lengths: &[usize]) -> bool
     ensures { result ≡ are_names (only_in_2 class inputs) (names_in lengths.now bytes.now) }
 {
     are_names(bytes, lengths, class::only_in_2(class, inputs))

@@ -7,8 +7,9 @@ ghost use Rattle.record.specs.Rules.{is_lamps, is_marks, is_error_list};
 ghost use Rattle.record.specs.Legal.{fills_room, is_left, is_own};
 
 use crate::scan;
-use crate::types::{ERRORS, LAMPS_MOST, Own, Settings};
+use crate::types::{ERRORS, Own, Settings};
 use text::{flag, rooms};
+use words::lamp::LAMPS_MOST;
 
 /// The most seconds that a lamp has burnt: 99,999 hours and 3,599 seconds.
 pub const LAMP_LIMIT: u32 = 359_999_999;
@@ -36,21 +37,21 @@ pub const WARMING: u8 = 3;
 
 /// 0 to 8 lamps, each within the limit.
 #[tactic(auto, unfolding(crate::specs::Rules::is_lamps))]
-pub fn lamps_ok(s: &[u32]) -> bool
-    ensures { result ≡ is_lamps s.now }
+pub fn is_lamps(seconds: &[u32]) -> bool
+    ensures { result ≡ is_lamps seconds.now }
 {
-    s.len() <= LAMPS_MOST && scan::numbers_within(s, LAMP_LIMIT)
+    seconds.len() <= LAMPS_MOST && scan::are_numbers_within(seconds, LAMP_LIMIT)
 }
 
 #[tactic(auto, unfolding(crate::specs::Legal::fills_room))]
-fn lamp_room_ok(room: &[u32; LAMPS_MOST], count: usize) -> bool
+fn is_lamp_room(room: &[u32; LAMPS_MOST], count: usize) -> bool
     ensures { result ≡ fills_room lamps_most is_lamps room.now count }
 {
-    rooms::used(room, count).is_some_and(|lamps| lamps_ok(lamps))
+    rooms::used(room, count).is_some_and(|lamps| is_lamps(lamps))
 }
 
 /// Whether no lamp is enabled.
-pub fn none_marked(marks: &[u8; LAMPS_MOST]) -> bool
+pub fn are_unmarked(marks: &[u8; LAMPS_MOST]) -> bool
     ensures { result ≡ list_all is_lowered marks.now }
 {
     rooms::are_blank(marks)
@@ -58,27 +59,27 @@ pub fn none_marked(marks: &[u8; LAMPS_MOST]) -> bool
 
 // Flags, none of them raised past the lamps, and one at least where there are lamps (RULES, Lamps).
 #[tactic(auto, using(crate::proofs::RoomsTold::marks_used))]
-fn marks_ok(marks: &[u8; LAMPS_MOST], count: usize) -> bool
+fn is_marks(marks: &[u8; LAMPS_MOST], count: usize) -> bool
     requires { count ≤ lamps_most }
     ensures { result ≡ is_marks count marks.now }
 {
     rooms::used(marks, count).is_some()
         && flag::are_flags(marks)
-        && (count == 0 || !none_marked(marks))
+        && (count == 0 || !are_unmarked(marks))
 }
 
 /// Six error digits, each 0 to 2.
 #[tactic(auto, unfolding(crate::specs::Rules::is_error_list))]
-pub fn errors_ok(s: &[u8]) -> bool
-    ensures { result ≡ is_error_list s.now }
+pub fn is_error_list(bytes: &[u8]) -> bool
+    ensures { result ≡ is_error_list bytes.now }
 {
-    s.len() == ERRORS && scan::bytes_within(s, ERROR_MOST)
+    bytes.len() == ERRORS && scan::are_bytes_within(bytes, ERROR_MOST)
 }
 
 // Seconds left: 1 to `warm` in warm-up, 1 to `cool` in cooling, else 0. Over the number, since this decides whether it
 // is that of a power.
 #[tactic(auto, unfolding(crate::specs::Legal::is_left))]
-fn left_ok(power: u8, left: u32, warm: u32, cool: u32) -> bool
+fn is_left(power: u8, left: u32, warm: u32, cool: u32) -> bool
     ensures { result ≡ is_left power left warm cool }
 {
     match power {
@@ -92,14 +93,14 @@ fn left_ok(power: u8, left: u32, warm: u32, cool: u32) -> bool
 impl Own {
     /// Whether the own part is one that calls can leave under these settings.
     #[tactic(auto, using(crate::proofs::RoomsTold::fills_inside), unfolding(crate::specs::Legal::is_own))]
-    pub fn is_legal(&self, s: &Settings) -> bool
-        ensures { result ≡ is_own s.now self.now }
+    pub fn is_legal(&self, settings: &Settings) -> bool
+        ensures { result ≡ is_own settings.now self.now }
     {
-        errors_ok(&self.errors)
-            && lamp_room_ok(&self.lamps, s.lamp_count)
-            && marks_ok(&self.enabled, s.lamp_count)
-            && left_ok(self.power, self.left, s.warm, s.cool)
-            && self.chosen < s.input_count
+        is_error_list(&self.errors)
+            && is_lamp_room(&self.lamps, settings.lamp_count)
+            && is_marks(&self.enabled, settings.lamp_count)
+            && is_left(self.power, self.left, settings.warm, settings.cool)
+            && self.chosen < settings.input_count
             && self.speaker <= VOLUME_MOST
             && self.microphone <= VOLUME_MOST
             && flag::is_flag(self.video_muted)

@@ -1,6 +1,6 @@
 // The settings of a set-up, in their order (RULES, The legal record and Class 2).
 ghost use Rattle.std.specs.Prelude.{◌≡◌};
-ghost use Rattle.record.specs.OutOfRange.{setting_place};
+ghost use Rattle.record.specs.OutOfRange.{setting_position};
 
 use crate::types::Setting;
 
@@ -23,7 +23,7 @@ impl Setting {
 
     /// Its place in that order, from 1 on: the number by which a host is told of it.
     pub fn place(self) -> u32
-        ensures { result ≡ setting_place self }
+        ensures { result ≡ setting_position self }
     {
         match self {
             Setting::Name => 1,

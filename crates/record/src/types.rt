@@ -1,21 +1,17 @@
 // The device record (RULES, The legal record): numbers, arrays and structs of these, so that it can cross to C, and any
 // bytes are a record. A flag is a number too: 0 or 1 in a legal record, and raised where it is not 0 (`text::flag`).
+use words::input::INPUTS_MOST;
+use words::lamp::LAMPS_MOST;
 use words::texts::INPUT_NAME_MOST;
 
 /// The room of a text, in bytes.
 pub const TEXT_ROOM: usize = 64;
-
-/// The most inputs: as many as the standard allows (RULES, Inputs).
-pub const INPUTS_MOST: usize = 32;
 
 /// The room of a list of inputs, two characters each.
 pub const INPUT_ROOM: usize = 2 * INPUTS_MOST;
 
 /// A password that secures has this many characters and more (RULES, Passwords).
 pub const PASSWORD_LEAST: usize = 8;
-
-/// The most lamps.
-pub const LAMPS_MOST: usize = 8;
 
 /// The most bytes of a line before its CR: a digest of 32 and a command of 135.
 pub const LINE_ROOM: usize = 167;
@@ -117,7 +113,7 @@ pub struct Own {
 /// What is collected of a line.
 #[repr(C)]
 #[derive(Clone, Copy)]
-pub struct Line {
+pub struct CollectedLine {
     /// A flag: the line is longer than its phase allows, and nothing is collected of it (RULES, Connection).
     pub overlong: u8,
     /// How many bytes are collected: at most 167 while awaiting, 135 while open, else 0; 0 under the overlong mark.
@@ -137,7 +133,7 @@ pub struct Connection {
     /// The random number that the host lent at its opening; 0 while closed.
     pub random: u32,
     /// What is collected of the line under way: nothing, and no mark, between lines.
-    pub line: Line,
+    pub line: CollectedLine,
 }
 
 /// The device record: what a host keeps of a projector, and lends to each call.
@@ -193,7 +189,7 @@ impl Connection {
         phase: 0,
         age: 0,
         random: 0,
-        line: Line {
+        line: CollectedLine {
             overlong: 0,
             held: 0,
             bytes: [0; LINE_ROOM],

@@ -5,7 +5,7 @@ ghost use Rattle.record.specs.Legal.{is_timed, is_collecting, held_most};
 ghost use Rattle.record.specs.Views.{power_of, power_number, with_power, is_burning};
 ghost use Rattle.record.specs.Views.{phase_of, phase_number, with_phase, class_seen};
 
-use crate::connection::{AWAITING, FAILED, LINE_MOST, OPENED, SHUT};
+use crate::connection::{COMMAND_MOST, PHASE_AWAITING, PHASE_CLOSED, PHASE_FAILED, PHASE_OPEN};
 use crate::own::{COOLING, OFF, ON, WARMING};
 use crate::types::{Connection, LINE_ROOM, Own, Settings};
 use words::class::ClassNumber;
@@ -74,7 +74,7 @@ impl Phase {
     {
         match self {
             Phase::Awaiting { .. } => LINE_ROOM,
-            Phase::Open { .. } => LINE_MOST,
+            Phase::Open { .. } => COMMAND_MOST,
             Phase::Closed | Phase::Failed { .. } => 0,
         }
     }
@@ -116,9 +116,9 @@ impl Connection {
         let age = self.age;
         let random = self.random;
         match self.phase {
-            AWAITING => Phase::Awaiting { age, random },
-            OPENED => Phase::Open { random },
-            FAILED => Phase::Failed { age, random },
+            PHASE_AWAITING => Phase::Awaiting { age, random },
+            PHASE_OPEN => Phase::Open { random },
+            PHASE_FAILED => Phase::Failed { age, random },
             _ => Phase::Closed,
         }
     }
@@ -128,10 +128,10 @@ impl Connection {
         ensures { self.new ≡ with_phase self.old phase }
     {
         let (number, age, random) = match phase {
-            Phase::Closed => (SHUT, 0, 0),
-            Phase::Awaiting { age, random } => (AWAITING, age, random),
-            Phase::Open { random } => (OPENED, 0, random),
-            Phase::Failed { age, random } => (FAILED, age, random),
+            Phase::Closed => (PHASE_CLOSED, 0, 0),
+            Phase::Awaiting { age, random } => (PHASE_AWAITING, age, random),
+            Phase::Open { random } => (PHASE_OPEN, 0, random),
+            Phase::Failed { age, random } => (PHASE_FAILED, age, random),
         };
         self.phase = number;
         self.age = age;

@@ -6,7 +6,7 @@ use Rattle.std.specs.Option.{option_map}
 use Rattle.std.proofs.Common.{ℕ, ◌+◌, ◌≤◌, ◌≡◌, true, List, [], ◌∷◌, ◌++◌, arith, refl, sym, ap, ◌∙◌, subst, map}
 use Rattle.std.proofs.Common.{Option, Some, None, Result, Ok, Err, codes}
 use Rattle.std.proofs.lemmas.Bool.Decides.{nat_tests}
-use Rattle.text.specs.Scans.{same_by, itself}
+use Rattle.text.specs.Scans.{is_same_by, itself}
 use Rattle.text.proofs.Choices.{if_yes}
 use Rattle.text.proofs.Sameness.{same_is}
 use Rattle.crc32.specs.Crc.{crc32_on, crc32_of}
@@ -17,7 +17,7 @@ use Rattle.record.specs.declared.types.Device.{Device}
 use Rattle.history.specs.Lines.{number_most}
 use Rattle.history.specs.Entries.{LogEntry, header, call, stated, entry_text, entry_line, entry_in}
 use Rattle.history.specs.Shown.{device_shown}
-use Rattle.history.specs.Logs.{LogPlace, begun_at, past, FitsAt, IsHistory, Sayable}
+use Rattle.history.specs.Logs.{LogPosition, begun_at, past, FitsAt, IsHistory, Sayable}
 use Rattle.history.specs.Recording.{read_past, recorder_begun}
 use Rattle.history.specs.declared.recorder.Recorder.{Recorder}
 use Rattle.history.proofs.OnlyLines.{only_line}
@@ -29,13 +29,13 @@ use Rattle.recorded.proofs.Chained.{entry_said}
 use Rattle.recorded.proofs.Believed.{same_itself, told_again, line_made}
 
 -- the reader keeps where the log stands
-record At (r : Recorder) (p : LogPlace) : Type 0 where
+record At (r : Recorder) (p : LogPosition) : Type 0 where
   file : r.file ≡ p.file
   lines : r.lines ≡ p.lines
   sum : r.sum ≡ crc32_of p.before
   few : r.lines ≤ number_most
 
-module _ (r : Recorder) (p : LogPlace) (k : At r p) where
+module _ (r : Recorder) (p : LogPosition) (k : At r p) where
   sum_on : (l : List ℕ) (e : LogEntry) → l ≡ entry_text e
       → crc32_on r.sum (l ++ codes "\n") ≡ crc32_of (p.before ++ entry_line e)
   sum_on l e same =
@@ -73,7 +73,7 @@ module _ (r : Recorder) (p : LogPlace) (k : At r p) where
     holds_if (header f s t) h m = tt
     holds_if (call c) h m = (grind (arith, nat_tests, k.lines, k.few), m)
     holds_if (stated n s shown) h m =
-        let same : same_by itself shown (device_shown d) ≡ true = grind (arith, nat_tests) in
+        let same : is_same_by itself shown (device_shown d) ≡ true = grind (arith, nat_tests) in
         (grind (arith, nat_tests, k.lines, k.few), same_is shown (device_shown d) same)
 
     stands_if : (e : LogEntry) → FitsAt p e → HoldsFor p d e → misfit r d e ≡ None
@@ -81,8 +81,8 @@ module _ (r : Recorder) (p : LogPlace) (k : At r p) where
     stands_if (header f s t) (file, sum) m = grind (arith, nat_tests, file, sum, k.file, k.sum)
     stands_if (call c) there (more, m) = grind (arith, nat_tests, there, more, k.file, k.lines)
     stands_if (stated n s shown) (there, lines, sum) (more, text) =
-        let same : same_by itself shown (device_shown d) ≡ true
-        = ap (λ (l : List ℕ). same_by itself l (device_shown d)) text ∙ same_itself (device_shown d) in
+        let same : is_same_by itself shown (device_shown d) ≡ true
+        = ap (λ (l : List ℕ). is_same_by itself l (device_shown d)) text ∙ same_itself (device_shown d) in
         grind (arith, nat_tests, there, lines, sum, more, same, k.file, k.lines, k.sum)
 
 ok_is : {T E : Type 0} (r : Result T E) (x : T) → result_ok r ≡ Some x → r ≡ Ok x
@@ -101,13 +101,13 @@ made_is d (header f s t) n h = refl
 made_is d (call c) n h = belonging_made (call_told d c) n h
 made_is d (stated k s shown) n h = refl
 
-made_if : (p : LogPlace) (d : Device) (e : LogEntry) → HoldsFor p d e
+made_if : (p : LogPosition) (d : Device) (e : LogEntry) → HoldsFor p d e
     → (is_made d e ≡ true) × ((n : ℕ) × (made_told d e ≡ Ok n))
 made_if p d (header f s t) h = (refl, (0, refl))
 made_if p d (call c) h = (h.1, ((call_told d c).length, if_yes _ _ h.1))
 made_if p d (stated k s shown) h = (refl, (0, refl))
 
-history_from : (ls : List (List ℕ)) (r : Recorder) (d : Device) (p : LogPlace) (f : Followed) → At r p
+history_from : (ls : List (List ℕ)) (r : Recorder) (d : Device) (p : LogPosition) (f : Followed) → At r p
     → followed r d ls ≡ Some f
     → (es : List LogEntry) × (map entry_in ls ≡ map Some es) × IsHistory p es × AllHold p d es
 history_from [] r d p f k h = ([], refl, tt, tt)
@@ -131,7 +131,8 @@ history_from (l ∷ ls) r d p f k h =
       (holds_if r p k d e stands there, hold),
     )
 
-accepted_from : (es : List LogEntry) (r : Recorder) (d : Device) (p : LogPlace) → At r p → Sayable es → IsHistory p es
+accepted_from : (es : List LogEntry) (r : Recorder) (d : Device) (p : LogPosition) → At r p → Sayable es
+    → IsHistory p es
     → AllHold p d es
     → (f : Followed) × (followed r d (map entry_text es) ≡ Some f)
 accepted_from [] r d p k s h m = (record { log = r; device = d; calls = []; replies = [] }, refl)

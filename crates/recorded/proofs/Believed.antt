@@ -9,7 +9,7 @@ use Rattle.std.proofs.Common.{take, refl, sym, ap, ◌∙◌, subst, Option, Som
 use Rattle.std.proofs.Common.{append_assoc, map}
 use Rattle.std.proofs.lemmas.Bool.Decides.{nat_tests}
 use Prim.Native.Char.{code}
-use Rattle.text.specs.Scans.{same_by, itself}
+use Rattle.text.specs.Scans.{is_same_by, itself}
 use Rattle.text.specs.Outcomes.{WrittenAs}
 use Rattle.text.proofs.Choices.{if_yes, if_no, both}
 use Rattle.words.specs.Codec.{◌>>=◌}
@@ -42,7 +42,7 @@ use Rattle.recorded.proofs.Same.{IsPlayedSame, played_same, refused_leaves}
 
 -- ---- what the recorder writes stands where it wrote it
 
-pub same_itself : (s : List ℕ) → same_by itself s s ≡ true
+pub same_itself : (s : List ℕ) → is_same_by itself s s ≡ true
 same_itself [] = refl
 same_itself (b ∷ s) = grind (arith, nat_tests, same_itself s)
 

@@ -9,9 +9,9 @@ use Rattle.record.specs.Rules.{is_error_list}
 use Rattle.record.specs.declared.types.Device.{Device}
 use Rattle.record.proofs.Calls.{errors_set_by}
 use Rattle.record.proofs.LegalTold.{settings_of_legal}
-use Rattle.record.proofs.Rules.{errors_long, list_all-at_most}
+use Rattle.record.proofs.Rules.{errors_long, list_all-is_at_most}
 use Rattle.ours.specs.Board.{ours}
-use Rattle.demands.specs.Calls.{Call, opens, closes, receives, passes, marks, reports, enables, after, gave_by}
+use Rattle.demands.specs.Calls.{Call, opens, closes, receives, passes, faults, reports, enables, after, gave_by}
 use Rattle.demands.proofs.CallsDo.{IsServed, call_by}
 use Rattle.history.specs.Calls.{received_most, is_byte, is_sayable, IsTyped}
 use Rattle.history.specs.Entries.{call}
@@ -47,7 +47,7 @@ module _ (d : Device) where
   typed (closes p) t = tt
   typed (receives p bs m) t = grind (arith, bytes_taken (ours.receive d p bs m).taken bs)
   typed (passes n) t = t
-  typed (marks fault) t = tt
+  typed (faults fault) t = tt
   typed (reports errors) t = tt
   typed (enables lamp mark) t = tt
 
@@ -58,10 +58,10 @@ module _ (d : Device) where
   sayable (receives p bs m) h few =
       grind (arith, (served_there (receives p bs m) h).there.0, length-take (ours.receive d p bs m).taken bs)
   sayable (passes n) h few = refl
-  sayable (marks fault) h few = refl
+  sayable (faults fault) h few = refl
   sayable (reports errors) h few =
       let right = errors_right errors h in
-      both (eq-eqb _ _ (errors_long errors right)) (list_all-at_most errors right)
+      both (eq-eqb _ _ (errors_long errors right)) (list_all-is_at_most errors right)
   sayable (enables lamp mark) h few =
       let there = served_there (enables lamp mark) h in
       grind (arith, there.there, (settings_of_legal d there.legal).lamps)

@@ -7,8 +7,8 @@ use Rattle.text.proofs.Choices.{if_no}
 use Rattle.record.specs.declared.types.Device.{Device}
 use Rattle.device.specs.Calls.{Result as Came, reply_room, received_at}
 use Rattle.ours.specs.Board.{ours, reply, lent_by}
-use Rattle.demands.specs.Calls.{Call, opens, closes, receives, passes, marks, reports, enables, after}
-use Rattle.demands.specs.History.{Event, Streams, going_on_at, power_set, streams_after, seen, history}
+use Rattle.demands.specs.Calls.{Call, opens, closes, receives, passes, faults, reports, enables, after}
+use Rattle.demands.specs.History.{HistoryEvent, Streams, going_on_at, power_set, streams_after, seen, history}
 use Rattle.recorded.specs.Recorded.{is_served, recorded_call, recorded}
 use Rattle.recorded.specs.Playing.{reply_memory, played_call}
 use Rattle.recorded.proofs.Same.{played_same, refused_leaves, reply_told, received_same}
@@ -25,7 +25,7 @@ module _ (d : Device) (w : Streams) where
       ∙ ap (λ (l : List ℕ). if (received_at d p bs (length m)).number == 0 then going_on_at w p l else w)
       (take-take t t bs (le_refl t))
   streams_same (passes n) h = refl
-  streams_same (marks m) h = refl
+  streams_same (faults m) h = refl
   streams_same (reports ds) h = refl
   streams_same (enables k m) h = refl
 
@@ -44,7 +44,7 @@ module _ (d : Device) (w : Streams) where
       (received_same d p bs (length m) (eqb-true _ 0 h))
       ∙ sym (power_set_seen p (received_at d p bs (length m)) m)
   seen_same (passes n) h = refl
-  seen_same (marks m) h = refl
+  seen_same (faults m) h = refl
   seen_same (reports ds) h = refl
   seen_same (enables k m) h = refl
 
@@ -54,7 +54,7 @@ module _ (d : Device) (w : Streams) where
   refused_streams (closes p) h = refl
   refused_streams (receives p bs m) h = if_no _ _ h
   refused_streams (passes n) h = refl
-  refused_streams (marks m) h = refl
+  refused_streams (faults m) h = refl
   refused_streams (reports ds) h = refl
   refused_streams (enables k m) h = refl
 
@@ -63,7 +63,7 @@ module _ (d : Device) (w : Streams) where
   refused_seen (closes p) h = refl
   refused_seen (receives p bs m) h = if_no _ _ h
   refused_seen (passes n) h = if_no _ _ h
-  refused_seen (marks m) h = refl
+  refused_seen (faults m) h = refl
   refused_seen (reports ds) h = refl
   refused_seen (enables k m) h = if_no _ _ h
 
@@ -87,7 +87,7 @@ history_next d w c cs false h rest =
     ap (λ (k : Device). history ours k w (calls_played (after ours d c) cs)) (sym (refused_leaves d c h))
     ∙ rest w
     ∙ ap (λ (v : Streams). history ours (after ours d c) v cs) (sym same)
-    ∙ ap (λ (l : List Event). l ++ history ours (after ours d c) (streams_after ours d w c) cs)
+    ∙ ap (λ (l : List HistoryEvent). l ++ history ours (after ours d c) (streams_after ours d w c) cs)
     (sym (ap (λ (v : Streams). seen ours d v c) same ∙ refused_seen d w c h))
 
 pub history_back : (d : Device) (w : Streams) (cs : List Call)

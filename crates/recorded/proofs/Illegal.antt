@@ -6,7 +6,7 @@ use Rattle.text.proofs.Choices.{if_yes}
 use Rattle.record.specs.Legal.{is_legal}
 use Rattle.record.specs.declared.types.Device.{Device}
 use Rattle.ours.specs.Board.{ours}
-use Rattle.demands.specs.Calls.{Call, opens, closes, receives, passes, marks, reports, enables, after, number_of}
+use Rattle.demands.specs.Calls.{Call, opens, closes, receives, passes, faults, reports, enables, after, number_of}
 use Rattle.demands.specs.KeepsRunning.{rows_of}
 use Rattle.demands.proofs.KeepsRunning.{number_is_first}
 use Rattle.demands.proofs.CallsDo.{call_by}
@@ -22,7 +22,7 @@ module _ (d : Device) (illegal : is_legal d ≡ false) where
   first_row (closes p) = if_yes _ _ (ap not illegal)
   first_row (receives p bs m) = if_yes _ _ (ap not illegal)
   first_row (passes n) = if_yes _ _ (ap not illegal)
-  first_row (marks fault) = if_yes _ _ (ap not illegal)
+  first_row (faults fault) = if_yes _ _ (ap not illegal)
   first_row (reports errors) = if_yes _ _ (ap not illegal)
   first_row (enables lamp mark) = if_yes _ _ (ap not illegal)
 

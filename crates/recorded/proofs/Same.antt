@@ -7,7 +7,7 @@ use Rattle.record.specs.declared.types.Device.{Device}
 use Rattle.device.specs.Calls.{Result as Came, reply_room, received_at, opened_by, place_taken}
 use Rattle.device.proofs.Cases.{opened_placed_by, opened_greeted, opened_lowest}
 use Rattle.ours.specs.Board.{ours, lent_by, reply}
-use Rattle.demands.specs.Calls.{Call, opens, closes, receives, passes, marks, reports, enables, after}
+use Rattle.demands.specs.Calls.{Call, opens, closes, receives, passes, faults, reports, enables, after}
 use Rattle.demands.proofs.CallsDo.{call_by}
 use Rattle.recorded.specs.Recorded.{is_served, recorded_call, replied_by}
 use Rattle.recorded.specs.Playing.{reply_memory, played_call, is_at_its_place}
@@ -59,7 +59,7 @@ module _ (d : Device) where
       }
   played_same (closes p) h = record { served = h; there = refl; device = refl; replied = refl }
   played_same (passes n) h = record { served = h; there = refl; device = refl; replied = refl }
-  played_same (marks m) h = record { served = h; there = refl; device = refl; replied = refl }
+  played_same (faults m) h = record { served = h; there = refl; device = refl; replied = refl }
   played_same (reports ds) h = record { served = h; there = refl; device = refl; replied = refl }
   played_same (enables k m) h = record { served = h; there = refl; device = refl; replied = refl }
 

@@ -7,7 +7,7 @@ use Rattle.device.specs.Calls.{reply_room}
 use Rattle.device.proofs.Untouched.{opening_keeps_settings, opening_keeps_own}
 use Rattle.ours.specs.Board.{ours}
 use Rattle.demands.specs.Calls.{Call, after}
-use Rattle.history.specs.Calls.{LogCall, opens, closes, receives, passes, marks, reports, enables}
+use Rattle.history.specs.Calls.{LogCall, opens, closes, receives, passes, faults, reports, enables}
 use Rattle.history.specs.Entries.{LogEntry, header, call, stated}
 use Rattle.recorded.specs.Recorded.{is_served}
 use Rattle.recorded.specs.Playing.{played_call, belongs}
@@ -38,7 +38,7 @@ module _ (d : Device) where
   call_keeps (receives p bs) h = unserved (receives p bs) (none_of _ h)
   call_keeps (passes n) h = unserved (passes n) (none_of _ h)
   call_keeps (closes p) h = unserved (closes p) (none_of _ h)
-  call_keeps (marks m) h = unserved (marks m) (none_of _ h)
+  call_keeps (faults m) h = unserved (faults m) (none_of _ h)
   call_keeps (reports ds) h = unserved (reports ds) (none_of _ h)
   call_keeps (enables k m) h = unserved (enables k m) (none_of _ h)
 

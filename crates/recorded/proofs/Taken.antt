@@ -5,7 +5,7 @@ use Rattle.std.proofs.Common.{length, take}
 use Rattle.std.specs.List.{list_all}
 use Rattle.std.proofs.Math.Seq.{take-length}
 use Prim.Native.Char.{code}
-use Rattle.words.specs.Bytes.{not_cr}
+use Rattle.words.specs.Bytes.{is_not_cr}
 use Rattle.record.specs.declared.types.Settings.{Settings}
 use Rattle.record.specs.declared.types.Own.{Own}
 use Rattle.record.specs.declared.types.Connection.{Connection}
@@ -24,7 +24,7 @@ take_line [] more = refl
 take_line (x ∷ xs) more = grind (arith, take_line xs more)
 
 module _ (s : Settings) (o : Own) (c : Connection) where
-  line_alone : (xs more : List ℕ) → list_all not_cr xs ≡ true
+  line_alone : (xs more : List ℕ) → list_all is_not_cr xs ≡ true
       → taken_in s o c (xs ++ (code "\r" ∷ [])) ≡ taken_in s o c (xs ++ (code "\r" ∷ more))
   line_alone xs more p = grind (arith, gathered_from-append, taken-line)
 

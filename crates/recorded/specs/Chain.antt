@@ -20,7 +20,7 @@ use Rattle.std.specs.Prelude.{ℕ, ◌+◌, ◌≡◌, ◌<◌, Bool, true, not,
 use Rattle.std.specs.Prelude.{Option, Some, None, Result, Ok, Err}
 use Rattle.std.specs.Option.{option_or, option_map}
 use Rattle.std.specs.Result.{result_ok}
-use Rattle.text.specs.Scans.{same_by, itself}
+use Rattle.text.specs.Scans.{is_same_by, itself}
 use Rattle.words.specs.Codec.{◌>>=◌}
 use Rattle.record.specs.Refusals.{refusal_number}
 use Rattle.record.specs.declared.types.Device.{Device}
@@ -30,7 +30,7 @@ use Rattle.history.specs.Lines.{number_most}
 use Rattle.history.specs.Calls.{LogCall}
 use Rattle.history.specs.Entries.{LogEntry, header, call, stated, entry_seen, entry_in}
 use Rattle.history.specs.Shown.{device_shown}
-use Rattle.history.specs.Logs.{LogPlace, past}
+use Rattle.history.specs.Logs.{LogPosition, past}
 use Rattle.history.specs.Recording.{read_past}
 use Rattle.history.specs.declared.entry.Entry.{Entry}
 use Rattle.history.specs.declared.recorder.Recorder.{Recorder}
@@ -82,7 +82,7 @@ abbrev pub misfit_stated : Recorder → Device → ℕ → ℕ → List ℕ → 
 misfit_stated r d n s shown =
     if not (n == r.lines) then Some other_count
     else if not (s == r.sum) then Some other_sum
-    else if not (same_by itself shown (device_shown d)) then Some other_state
+    else if not (is_same_by itself shown (device_shown d)) then Some other_state
     else None
 
 unfoldable pub misfit : Recorder → Device → LogEntry → Option Misfit
@@ -161,11 +161,11 @@ followed r d (l ∷ ls) =
 
 -- ---- what a history says of the record
 
-abbrev pub HoldsFor : LogPlace → Device → LogEntry → Type 0
+abbrev pub HoldsFor : LogPosition → Device → LogEntry → Type 0
 HoldsFor p d (header f s t) = Unit {0}
 HoldsFor p d (call c) = (p.lines < number_most) × (belongs d c ≡ true)
 HoldsFor p d (stated n s shown) = (p.lines < number_most) × (shown ≡ device_shown d)
 
-abbrev pub AllHold : LogPlace → Device → List LogEntry → Type 0
+abbrev pub AllHold : LogPosition → Device → List LogEntry → Type 0
 AllHold p d [] = Unit {0}
 AllHold p d (e ∷ es) = HoldsFor p d e × AllHold (past p e) (device_made d e) es

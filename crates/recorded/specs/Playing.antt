@@ -19,10 +19,10 @@ use Rattle.words.specs.Codec.{◌>>=◌}
 use Rattle.record.specs.declared.types.Device.{Device}
 use Rattle.device.specs.Calls.{reply_room}
 use Rattle.ours.specs.Board.{ours}
-use Rattle.demands.specs.Calls.{Call, opens, closes, receives, passes, marks, reports, enables, after, run}
+use Rattle.demands.specs.Calls.{Call, opens, closes, receives, passes, faults, reports, enables, after, run}
 use Rattle.demands.specs.History.{Streams, history}
 use Rattle.history.specs.Calls.{LogCall, opens as opened, closes as closed, receives as received, passes as passed}
-use Rattle.history.specs.Calls.{marks as marked, reports as reported, enables as enabled}
+use Rattle.history.specs.Calls.{faults as marked, reports as reported, enables as enabled}
 use Rattle.history.specs.Entries.{LogEntry, call}
 use Rattle.history.specs.Logs.{entries_in}
 use Rattle.recorded.specs.Recorded.{is_served, recorded, replied_by, replies_of}
@@ -35,7 +35,7 @@ played_call (opened p random) = opens random reply_memory
 played_call (closed p) = closes p
 played_call (received p bs) = receives p bs reply_memory
 played_call (passed n) = passes n
-played_call (marked fault) = marks fault
+played_call (marked fault) = faults fault
 played_call (reported errors) = reports errors
 played_call (enabled lamp mark) = enables lamp mark
 

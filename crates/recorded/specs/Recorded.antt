@@ -12,10 +12,10 @@ use Rattle.std.specs.List.{list_all}
 use Rattle.std.specs.Prelude.{ℕ, ◌≤◌, ◌<◌, ◌≡◌, ◌^◌, Bool, true, List, [], ◌∷◌, take, if◌then◌else◌, ◌==◌}
 use Rattle.record.specs.declared.types.Device.{Device}
 use Rattle.ours.specs.Board.{ours}
-use Rattle.demands.specs.Calls.{Call, opens, closes, receives, passes, marks, reports, enables}
+use Rattle.demands.specs.Calls.{Call, opens, closes, receives, passes, faults, reports, enables}
 use Rattle.demands.specs.Calls.{after, gave_by, number_of}
 use Rattle.history.specs.Calls.{LogCall, received_most, is_byte, opens as opened, closes as closed}
-use Rattle.history.specs.Calls.{receives as received, passes as passed, marks as marked, reports as reported}
+use Rattle.history.specs.Calls.{receives as received, passes as passed, faults as marked, reports as reported}
 use Rattle.history.specs.Calls.{enables as enabled}
 
 abbrev pub is_served : Device → Call → Bool
@@ -26,7 +26,7 @@ recorded_call d (opens random m) = opened (ours.place_opened d random m) random
 recorded_call d (closes p) = closed p
 recorded_call d (receives p bs m) = received p (take (ours.receive d p bs m).taken bs)
 recorded_call d (passes n) = passed n
-recorded_call d (marks fault) = marked fault
+recorded_call d (faults fault) = marked fault
 recorded_call d (reports errors) = reported errors
 recorded_call d (enables lamp mark) = enabled lamp mark
 

@@ -3,7 +3,7 @@
 ghost use Rattle.std.specs.Prelude.{◌≡◌, [], Ok, Err, Some, None, not, if◌then◌else◌};
 ghost use Rattle.std.specs.Option.{option_map};
 ghost use Rattle.text.specs.Words.{over};
-ghost use Rattle.text.specs.Scans.{same_by, itself};
+ghost use Rattle.text.specs.Scans.{is_same_by, itself};
 ghost use Rattle.history.specs.Entries.{entry_seen};
 ghost use Rattle.history.specs.Shown.{device_shown};
 ghost use Rattle.recorded.specs.Chain.{why_seen, misfit_header, misfit_line, misfit_stated, misfit};
@@ -63,11 +63,11 @@ impl fmt::Display for Why {
 impl Error for Why {}
 
 fn shows(device: &Device, text: &[u8]) -> bool
-    ensures { result ≡ same_by itself text.now (device_shown device.now) }
+    ensures { result ≡ is_same_by itself text.now (device_shown device.now) }
 {
     let mut shown: ArrayVec<u8, SHOWN_MOST> = ArrayVec::new();
     shown::put_shown(device, &mut shown);
-    text::same(text, shown.as_slice())
+    text::is_same(text, shown.as_slice())
 }
 
 fn header_misfit(log: &Recorder, header: &Header<'_>) -> Option<Why>
@@ -172,19 +172,19 @@ fn stray(stray: Stray) -> Why
 #[tactic(auto, using(crate::proofs::Chained::stands_follow))]
 pub fn make(
     log: &mut Recorder,
-    t: &mut Tested,
+    tested: &mut Tested,
     entry: &Entry<'_>,
     line: &[u8],
     reply: &mut [u8; REPLY_ROOM],
 ) -> Result<usize, Why>
-    requires stands { entry_told log.old t.old.device line.now ≡ Ok (entry_seen entry.now) }
-    ensures told { made_seen result ≡ made_told t.old.device (entry_seen entry.now) }
-    ensures device { t.new.device ≡ device_made t.old.device (entry_seen entry.now) }
-    ensures reply { reply.new ≡ over (reply_made t.old.device (entry_seen entry.now)) reply.old }
-    ensures log { log.new ≡ log_made log.old t.old.device (entry_seen entry.now) line.now }
+    requires stands { entry_told log.old tested.old.device line.now ≡ Ok (entry_seen entry.now) }
+    ensures told { made_seen result ≡ made_told tested.old.device (entry_seen entry.now) }
+    ensures device { tested.new.device ≡ device_made tested.old.device (entry_seen entry.now) }
+    ensures reply { reply.new ≡ over (reply_made tested.old.device (entry_seen entry.now)) reply.old }
+    ensures log { log.new ≡ log_made log.old tested.old.device (entry_seen entry.now) line.now }
 {
     let count = match entry {
-        Entry::Call(call) => match play::play(t, call, reply) {
+        Entry::Call(call) => match play::play(tested, call, reply) {
             Ok(count) => count,
             Err(why) => return Err(stray(why)),
         },

@@ -12,7 +12,7 @@ ghost use Rattle.recorded.specs.Played.{call_told, play_told, quiet_told};
 use clock::pass;
 use device::calls;
 use device::calls::REPLY_ROOM;
-use history::call::Call;
+use history::call::RecordedCall;
 use record::legality::{Legal, Tested};
 use record::refusal::Refusal;
 
@@ -78,7 +78,7 @@ fn quiet(told: Result<(), Refusal>) -> Result<usize, Stray>
 
 fn play_legal(
     legal: &mut Legal<'_>,
-    call: &Call<'_>,
+    call: &RecordedCall<'_>,
     reply: &mut [u8; REPLY_ROOM],
 ) -> Result<usize, Stray>
     ensures same_reference { legal.new.device.ghost_name ≡ legal.old.device.ghost_name }
@@ -87,33 +87,37 @@ fn play_legal(
     ensures reply { reply.new ≡ over (replied_by legal.old.device.now (played_call (call_seen call.now))) reply.old }
 {
     match call {
-        Call::Opens(place, random) => open(legal, *place, *random, reply),
-        Call::Receives(place, bytes) => receive(legal, *place, bytes, reply),
-        Call::Passes(seconds) => {
+        RecordedCall::Opens(place, random) => open(legal, *place, *random, reply),
+        RecordedCall::Receives(place, bytes) => receive(legal, *place, bytes, reply),
+        RecordedCall::Passes(seconds) => {
             pass::pass(legal, *seconds);
             Ok(0)
         }
-        Call::Closes(place) => quiet(calls::close(legal, *place as usize)),
-        Call::Fault(mark) => {
+        RecordedCall::Closes(place) => quiet(calls::close(legal, *place as usize)),
+        RecordedCall::Fault(mark) => {
             legal.set_fault(*mark);
             Ok(0)
         }
-        Call::Errors(digits) => quiet(legal.set_errors(digits)),
-        Call::Mark(lamp, mark) => quiet(legal.set_mark(*lamp as usize, *mark)),
+        RecordedCall::Errors(digits) => quiet(legal.set_errors(digits)),
+        RecordedCall::Mark(lamp, mark) => quiet(legal.set_mark(*lamp as usize, *mark)),
     }
 }
 
 /// Makes a call of a history again. Returns the length of its reply, which fills the start of `reply`. Errors:
 /// `Refused` with why the call is refused, which leaves record and memory as they were; `OtherPlace` for an opening
 /// that gets another place than its line says: the record is then as the opening left it.
-pub fn play(t: &mut Tested, call: &Call<'_>, reply: &mut [u8; REPLY_ROOM]) -> Result<usize, Stray>
-    ensures told { play_told result ≡ call_told t.old.device (call_seen call.now) }
-    ensures device { t.new.device ≡ after ours t.old.device (played_call (call_seen call.now)) }
-    ensures reply { reply.new ≡ over (replied_by t.old.device (played_call (call_seen call.now))) reply.old }
+pub fn play(
+    tested: &mut Tested,
+    call: &RecordedCall<'_>,
+    reply: &mut [u8; REPLY_ROOM],
+) -> Result<usize, Stray>
+    ensures told { play_told result ≡ call_told tested.old.device (call_seen call.now) }
+    ensures device { tested.new.device ≡ after ours tested.old.device (played_call (call_seen call.now)) }
+    ensures reply { reply.new ≡ over (replied_by tested.old.device (played_call (call_seen call.now))) reply.old }
 {
-    if t.legal {
+    if tested.legal {
         let mut legal = Legal {
-            device: &mut t.device,
+            device: &mut tested.device,
         };
         return play_legal(&mut legal, call, reply);
     }

@@ -14,8 +14,8 @@ use Rattle.floorlog.specs.LastLine.{last_device_line}
 use Rattle.floorlog.specs.Events.{event}
 use Rattle.floorlog.specs.Playing.{state_after}
 use Rattle.floorlog.specs.Observing.{BreaksOff}
-use Rattle.floorlog.specs.declared.kinds.Kind.{Kind}
-use Rattle.floorlog.specs.declared.kinds.Kind.TheVariants.{Unbegun}
+use Rattle.floorlog.specs.declared.kinds.LogKind.{LogKind}
+use Rattle.floorlog.specs.declared.kinds.LogKind.TheVariants.{Unbegun}
 use Rattle.floorlog.specs.declared.kinds.ByKind.{ByKind}
 use Rattle.floorlog.specs.declared.playing.Player.{Player}
 use Rattle.floorlog.specs.Unplayed.{none_unplayed}
@@ -109,13 +109,13 @@ module _ {o : Players} {d : Device} {sum : ℕ} (b : Begun o d sum) where
 
   pub all_text : (log : List ℕ) → players_print o (kept_lines log) ≡ any_log_text d sum log
   all_text log =
-      ap (λ (k : Kind). if is_history_from k (kept_lines log) then player_prints o.history (kept_lines log)
+      ap (λ (k : LogKind). if is_history_from k (kept_lines log) then player_prints o.history (kept_lines log)
       else events_print o.events (kept_lines log)) b.kind
       ∙ if_parts (is_history (kept_lines log)) (history_prints (kept_lines log)) (all_printed b.played b.events log)
 
   module _ (last : Players) (log : List ℕ) (left : PlayersLeft o (kept_lines log) last) where
     kind_is : is_history_from last.kind [] ≡ is_history (kept_lines log)
-    kind_is = left.0 ∙ ap (λ (k : Kind). is_history_from k (kept_lines log)) b.kind
+    kind_is = left.0 ∙ ap (λ (k : LogKind). is_history_from k (kept_lines log)) b.kind
 
     pub stray_found : is_history_from last.kind [] ≡ true
         → option_map stray_seen last.history.stray ≡ log_stray d sum log
@@ -186,7 +186,7 @@ module _ {o : Players} {d : Device} {sum : ℕ} (b : Begun o d sum) where
       left_at = k.leaves at itself
 
       kind_o : is_history_from o.kind k.told ≡ is_history k.told
-      kind_o = ap (λ (q : Kind). is_history_from q k.told) b.kind
+      kind_o = ap (λ (q : LogKind). is_history_from q k.told) b.kind
 
       ends : k.text ++ players_print at [] ≡ players_print o k.told
       ends = sym (ap (players_print o) (sym (append-nil k.told)) ∙ k.then [])

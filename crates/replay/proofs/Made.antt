@@ -12,7 +12,7 @@ use Rattle.ours.specs.Board.{ours, Lent}
 use Rattle.demands.specs.Calls.{gave_by}
 use Rattle.demands.specs.KeepsRunning.{Inside}
 use Rattle.demands.proofs.KeepsRunning.{stays_inside}
-use Rattle.history.specs.Calls.{LogCall, opens, closes, receives, passes, marks, reports, enables}
+use Rattle.history.specs.Calls.{LogCall, opens, closes, receives, passes, faults, reports, enables}
 use Rattle.history.specs.Entries.{LogEntry, header, call, stated}
 use Rattle.recorded.specs.Recorded.{replied_by}
 use Rattle.recorded.specs.Played.{PlayTold, call_told}
@@ -37,7 +37,7 @@ replied_long d (opens p random) = lent_long _ (stays_inside d (played_call (open
 replied_long d (receives p bs) = lent_long _ (stays_inside d (played_call (receives p bs))).0
 replied_long d (closes p) = record { length_is = refl; inside = omega arith }
 replied_long d (passes n) = record { length_is = refl; inside = omega arith }
-replied_long d (marks m) = record { length_is = refl; inside = omega arith }
+replied_long d (faults m) = record { length_is = refl; inside = omega arith }
 replied_long d (reports ds) = record { length_is = refl; inside = omega arith }
 replied_long d (enables k m) = record { length_is = refl; inside = omega arith }
 

@@ -16,7 +16,7 @@ use floorlog::unplayed::Unplayed;
 use program::telling::Ending;
 use record::types::Device;
 use textio::lines::Failure;
-use textio::reader::{ByteSource, Reader};
+use textio::reader::{BufferedReader, ByteSource};
 use textio::writer::ByteSink;
 
 /// Replays the log that is left in a reader, of either kind, from a device, which need not be legal, and whose stored
@@ -26,7 +26,7 @@ use textio::writer::ByteSink;
 pub fn replay_log<R: ByteSource, W: ByteSink>(
     begun: Device,
     sum: u32,
-    from: &mut Reader<R>,
+    from: &mut BufferedReader<R>,
     to: &mut W,
 ) -> Result<Ending, Failure>
     ensures whole { OnOk result (IfSome (left_in R.remaining from.old) (λ log.

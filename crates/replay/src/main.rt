@@ -13,7 +13,7 @@ ghost use Rattle.textio.specs.Lines.{IsTooLong};
 ghost use Rattle.recorded.specs.Following.{stray_seen};
 ghost use Rattle.replay.specs.LogText.{any_log_text, log_stray, log_unplayed};
 
-use command::asked::Command;
+use command::asked::Arguments;
 use formfile::Begun;
 use program::about::About;
 use program::outside::System;
@@ -21,7 +21,7 @@ use program::run;
 use program::telling::{Ending, Telling};
 use std::process::ExitCode;
 use textio::lines::Failure;
-use textio::reader::{ByteSource, Reader};
+use textio::reader::{BufferedReader, ByteSource};
 use textio::writer::ByteSink;
 
 const USAGE: &str = "usage: replay [-o FILE] [--form FORM] [FORM] [LOG..]\n";
@@ -61,8 +61,8 @@ impl Telling for Replay {
     fn tell<R: ByteSource, W: ByteSink>(
         &self,
         begun: &Begun,
-        _command: &Command<'_>,
-        from: &mut Reader<R>,
+        _command: &Arguments<'_>,
+        from: &mut BufferedReader<R>,
         to: &mut W,
     ) -> Result<Ending, Failure> {
         logs::replay_log(begun.device, begun.sum, from, to)

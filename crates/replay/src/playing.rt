@@ -12,7 +12,7 @@ use device::calls::REPLY_ROOM;
 use floorlog::kept::KeptLine;
 use floorlog::last;
 use floorlog::observer::Observer;
-use floorlog::outcome::{Outcome, Printed};
+use floorlog::outcome::{EventOutcome, Printed};
 use history::read::Bytes;
 use history::recorder::Recorder;
 use record::legality::Tested;
@@ -96,7 +96,7 @@ fn print<W: ByteSink>(
         (replied_line number (take length reply.now)) }
 {
     let mut out = Printed::new();
-    Outcome::Served(length).put_line(number, reply, &mut out);
+    EventOutcome::Served(length).put_line(number, reply, &mut out);
     writer::put(to, &out)
 }
 

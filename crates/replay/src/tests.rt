@@ -4,13 +4,13 @@ use crate::logs::replay_log;
 use floorlog::sample;
 use program::telling::Ending;
 use recorded::chain::Why;
-use textio::reader::Reader;
-use textio::trial::{Pieces, Taken};
+use textio::reader::BufferedReader;
+use textio::trial::{Pieces, TrialSink};
 
 const SUM: u32 = 0xcbf43926;
 
-fn source(log: &'static [u8], most: usize) -> Reader<Pieces> {
-    Reader::new(Pieces {
+fn source(log: &'static [u8], most: usize) -> BufferedReader<Pieces> {
+    BufferedReader::new(Pieces {
         log,
         most,
         until: 1000,
@@ -20,7 +20,7 @@ fn source(log: &'static [u8], most: usize) -> Reader<Pieces> {
 #[test]
 fn a_history_in_odd_pieces(rt: HostRuntime) {
     for most in 1..12 {
-        let mut to = Taken::new(most, 64);
+        let mut to = TrialSink::new(most, 64);
         let log = b"LOG 2 1 cbf43926\nO 0 00000000\nR 0 %1POWR 1\n";
         let told = replay_log(sample(), SUM, &mut source(log, most), &mut to);
         assert!(rt;
@@ -32,7 +32,7 @@ fn a_history_in_odd_pieces(rt: HostRuntime) {
 
 #[test]
 fn a_cut_line_is_not_played(rt: HostRuntime) {
-    let mut to = Taken::new(7, 64);
+    let mut to = TrialSink::new(7, 64);
     let log = b"LOG 2 1 cbf43926\nT 12";
     let told = replay_log(sample(), SUM, &mut source(log, 5), &mut to);
     assert!(rt; matches!(told, Ok(Ending { stray: Some(stray), .. }) if stray.line == 2));
@@ -41,7 +41,7 @@ fn a_cut_line_is_not_played(rt: HostRuntime) {
 
 #[test]
 fn nothing_is_played_behind_another_sum(rt: HostRuntime) {
-    let mut to = Taken::new(7, 64);
+    let mut to = TrialSink::new(7, 64);
     let log = b"LOG 2 1 cbf43927\nO 0 00000000\n";
     let told = replay_log(sample(), SUM, &mut source(log, 5), &mut to);
     assert!(rt;
@@ -52,7 +52,7 @@ fn nothing_is_played_behind_another_sum(rt: HostRuntime) {
 
 #[test]
 fn a_log_of_the_first_kind(rt: HostRuntime) {
-    let mut to = Taken::new(7, 64);
+    let mut to = TrialSink::new(7, 64);
     let told = replay_log(sample(), SUM, &mut source(b"LOG\nT 12", 5), &mut to);
     match told {
         Ok(

@@ -141,13 +141,13 @@ fn put_weekday<W: ByteSink>(out: &mut W, number: u64) -> io::Result<()>
 }
 
 /// The weekday and the date of the day so many days after that of a moment.
-pub fn put_dated<W: ByteSink>(out: &mut W, m: Moment, days: u64) -> io::Result<()>
-    ensures { WritesText W.fails_with (W.contents out.old) (W.contents out.new) result (dated m days) }
+pub fn put_dated<W: ByteSink>(out: &mut W, moment: Moment, days: u64) -> io::Result<()>
+    ensures { WritesText W.fails_with (W.contents out.old) (W.contents out.new) result (dated moment days) }
 {
-    let number = m.number.saturating_add(days);
+    let number = moment.number.saturating_add(days);
     put_weekday(out, number)?;
     put(out, b" ")?;
-    let date = m.date.after(days);
+    let date = moment.date.after(days);
     put_date(out, date)
 }
 
@@ -295,7 +295,7 @@ fn put_stripe<W: ByteSink>(
 
 // What of a stretch lies in a day: from the second x of the day on, so many seconds.
 #[derive(Clone, Copy)]
-struct Part {
+struct DayPart {
     whole: Stretch,
     note: StretchNote,
     x: u64,
@@ -304,7 +304,7 @@ struct Part {
 }
 
 // The bar of a lamp.
-fn put_bar<W: ByteSink>(out: &mut W, k: u64, p: Part) -> io::Result<()>
+fn put_bar<W: ByteSink>(out: &mut W, k: u64, p: DayPart) -> io::Result<()>
     requires { k < 8 }
     ensures { WritesText W.fails_with (W.contents out.old) (W.contents out.new) result
         (bar p.note p.whole.from p.whole.to p.x p.seconds k) }
@@ -322,7 +322,7 @@ fn put_bar<W: ByteSink>(out: &mut W, k: u64, p: Part) -> io::Result<()>
 }
 
 // The same, if the lamp's mark is set.
-fn put_bar_if<W: ByteSink>(out: &mut W, k: u64, is_lit: bool, p: Part) -> io::Result<()>
+fn put_bar_if<W: ByteSink>(out: &mut W, k: u64, is_lit: bool, p: DayPart) -> io::Result<()>
     requires { k < 8 }
     ensures { WritesText W.fails_with (W.contents out.old) (W.contents out.new) result
         (bar_if is_lit p.note p.whole.from p.whole.to p.x p.seconds k) }
@@ -333,7 +333,7 @@ fn put_bar_if<W: ByteSink>(out: &mut W, k: u64, is_lit: bool, p: Part) -> io::Re
     put_bar(out, k, p)
 }
 
-fn put_bars<W: ByteSink>(out: &mut W, lit: &[bool], p: Part) -> io::Result<()>
+fn put_bars<W: ByteSink>(out: &mut W, lit: &[bool], p: DayPart) -> io::Result<()>
     requires { length lit.now ≤ 8 }
     ensures { WritesText W.fails_with (W.contents out.old) (W.contents out.new) result
         (bars lit.now p.note p.whole.from p.whole.to p.x p.seconds) }
@@ -374,7 +374,7 @@ fn put_bars_in<W: ByteSink>(out: &mut W, day: u64, p: Placed<'_>) -> io::Result<
     put_bars(
         out,
         p.lit,
-        Part {
+        DayPart {
             whole: p.whole,
             note: p.note,
             x,
@@ -408,17 +408,18 @@ pub fn draw_in<W: ByteSink>(
     began: Option<Moment>,
     row: DayRow,
     day: u64,
-    p: Placed<'_>,
+    placed: Placed<'_>,
 ) -> io::Result<DayRow>
-    requires eight_at_most { length p.lit.now ≤ 8 }
-    requires begun { (1 ≤ day) × ((day - 1) * 86400 < p.at.to) }
-    requires in_order { p.whole.from ≤ p.whole.to }
-    ensures row { IfOk result (λ r. r ≡ row_after p.entry.at.from p.entry.at.to row day) }
+    requires eight_at_most { length placed.lit.now ≤ 8 }
+    requires begun { (1 ≤ day) × ((day - 1) * 86400 < placed.at.to) }
+    requires in_order { placed.whole.from ≤ placed.whole.to }
+    ensures row { IfOk result (λ r. r ≡ row_after placed.entry.at.from placed.entry.at.to row day) }
     ensures text { WritesText W.fails_with (W.contents out.old) (W.contents out.new) result
-        (rows_opened began (length p.entry.lit.now) row day
-        ++ bars_in day p.entry.lit.now p.entry.note p.entry.at.from p.entry.at.to p.entry.whole.from p.entry.whole.to) }
+        (rows_opened began (length placed.entry.lit.now) row day
+        ++ bars_in day placed.entry.lit.now placed.entry.note placed.entry.at.from placed.entry.at.to
+        placed.entry.whole.from placed.entry.whole.to) }
 {
-    let opened = open_to(out, began, p.lit.len() as u64, row, day)?;
-    put_bars_in(out, day, p)?;
-    Ok(add(opened, seconds_within(day, p.at)))
+    let opened = open_to(out, began, placed.lit.len() as u64, row, day)?;
+    put_bars_in(out, day, placed)?;
+    Ok(add(opened, seconds_within(day, placed.at)))
 }

@@ -460,15 +460,20 @@ fn begin_table<W: ByteSink>(out: &mut W) -> io::Result<()>
 
 /// The table of the lamps, of a log of so many seconds: of each its hours and minutes, and its seconds; and where it is
 /// said how long a lamp lives, what is left, and until when.
-pub fn put_table<W: ByteSink>(out: &mut W, q: Query, seconds: u64, t: Totals) -> io::Result<()>
-    requires { t.count ≤ 8 }
+pub fn put_table<W: ByteSink>(
+    out: &mut W,
+    query: Query,
+    seconds: u64,
+    totals: Totals,
+) -> io::Result<()>
+    requires { totals.count ≤ 8 }
     ensures { WritesText W.fails_with (W.contents out.old) (W.contents out.new) result
-        (table q seconds t.count t.starts t.burnt t.lasts) }
+        (table query seconds totals.count totals.starts totals.burnt totals.lasts) }
 {
     begin_table(out)?;
-    put_life_heads(out, q.life)?;
+    put_life_heads(out, query.life)?;
     put(out, b"</tr></thead><tbody>\n")?;
-    put_table_rows(out, q, seconds, t)?;
+    put_table_rows(out, query, seconds, totals)?;
     put(out, b"</tbody></table>\n")
 }
 
@@ -485,13 +490,17 @@ fn put_stretch_said<W: ByteSink>(out: &mut W, began: Option<Moment>, s: Stretch)
 }
 
 /// The longest stretch, if there is one.
-pub fn put_longest<W: ByteSink>(out: &mut W, began: Option<Moment>, s: Stretch) -> io::Result<()>
-    ensures { WritesText W.fails_with (W.contents out.old) (W.contents out.new) result (longest_text began s) }
+pub fn put_longest<W: ByteSink>(
+    out: &mut W,
+    began: Option<Moment>,
+    stretch: Stretch,
+) -> io::Result<()>
+    ensures { WritesText W.fails_with (W.contents out.old) (W.contents out.new) result (longest_text began stretch) }
 {
-    if s.to <= s.from {
+    if stretch.to <= stretch.from {
         return Ok(());
     }
-    put_stretch_said(out, began, s)
+    put_stretch_said(out, began, stretch)
 }
 
 /// When the log ends, and how long it is.

@@ -7,9 +7,7 @@ ghost use Rattle.report.specs.LampLines.{stretch_line, stretch_lines, total_line
 use std::io;
 use textio::forms::fill;
 use textio::writer::ByteSink;
-
-/// So many lamps a projector has at most.
-pub const LAMPS: usize = 8;
+use words::lamp::LAMPS_MOST;
 
 /// The seconds of each of `count` lamps: when the log began, burnt in it, and now.
 #[derive(Clone, Copy)]
@@ -17,11 +15,11 @@ pub struct Totals {
     /// How many lamps there are, at most 8.
     pub count: usize,
     /// Seconds of each lamp when the log began.
-    pub starts: [u32; LAMPS],
+    pub starts: [u32; LAMPS_MOST],
     /// Seconds that each lamp burnt in the log, also past the limit of its seconds.
-    pub burnt: [u64; LAMPS],
+    pub burnt: [u64; LAMPS_MOST],
     /// Seconds of each lamp when the log ends, which stop at 359,999,999 (RULES, Lamps).
-    pub lasts: [u32; LAMPS],
+    pub lasts: [u32; LAMPS_MOST],
 }
 
 // The line of a stretch, if the mark of the lamp is set.
@@ -74,13 +72,13 @@ fn put_total<W: ByteSink>(out: &mut W, t: Totals, k: usize) -> io::Result<()>
 }
 
 /// The line of each lamp's seconds in all.
-pub fn put_totals<W: ByteSink>(out: &mut W, t: Totals) -> io::Result<()>
-    requires { t.count ≤ 8 }
+pub fn put_totals<W: ByteSink>(out: &mut W, totals: Totals) -> io::Result<()>
+    requires { totals.count ≤ 8 }
     ensures { WritesText W.fails_with (W.contents out.old) (W.contents out.new) result
-        (total_lines t.count t.starts t.burnt t.lasts) }
+        (total_lines totals.count totals.starts totals.burnt totals.lasts) }
 {
-    for k in 0..t.count {
-        put_total(out, t, k)?;
+    for k in 0..totals.count {
+        put_total(out, totals, k)?;
     }
     Ok(())
 }

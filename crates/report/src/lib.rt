@@ -64,22 +64,27 @@ impl Report {
     }
 
     /// A stretch of the lamps whose marks of `lit` are set.
-    pub fn tell<W: ByteSink>(&mut self, out: &mut W, lit: &[bool], s: Stretch) -> io::Result<()>
+    pub fn tell<W: ByteSink>(
+        &mut self,
+        out: &mut W,
+        lit: &[bool],
+        stretch: Stretch,
+    ) -> io::Result<()>
         requires { length lit.now ≤ 8 }
-        ensures report { OnOk result (self.new ≡ report_told self.old lit.now s.from s.to) }
+        ensures report { OnOk result (self.new ≡ report_told self.old lit.now stretch.from stretch.to) }
         ensures kept { OnErr result (self.new ≡ self.old) }
         ensures text { WritesText W.fails_with (W.contents out.old) (W.contents out.new) result
-            (told_text self.old lit.now s.from s.to) }
+            (told_text self.old lit.now stretch.from stretch.to) }
     {
         match *self {
-            Report::Lines => lamps::put_stretches(out, lit, s.from, s.to),
-            Report::Csv(query) => table::put_csv_rows(out, query, lit, s),
+            Report::Lines => lamps::put_stretches(out, lit, stretch.from, stretch.to),
+            Report::Csv(query) => table::put_csv_rows(out, query, lit, stretch),
             Report::Page(sheet) => {
-                let row = page::draw(out, sheet, lit, s)?;
+                let row = page::draw(out, sheet, lit, stretch)?;
                 *self = Report::Page(Sheet {
                     query: sheet.query,
                     row,
-                    longest: page::longest_of(sheet.longest, lit, s),
+                    longest: page::longest_of(sheet.longest, lit, stretch),
                 });
                 Ok(())
             }
@@ -92,17 +97,17 @@ impl Report {
         self,
         out: &mut W,
         seconds: u64,
-        t: Totals,
+        totals: Totals,
         unplayed: Option<&[u8]>,
     ) -> io::Result<()>
-        requires { t.count ≤ 8 }
+        requires { totals.count ≤ 8 }
         ensures { WritesText W.fails_with (W.contents out.old) (W.contents out.new) result
-            (ended_text self seconds t.count t.starts t.burnt t.lasts (given_text unplayed.entry)) }
+            (ended_text self seconds totals.count totals.starts totals.burnt totals.lasts (given_text unplayed.entry)) }
     {
         match self {
-            Report::Lines => lamps::put_totals(out, t),
+            Report::Lines => lamps::put_totals(out, totals),
             Report::Csv(_) => Ok(()),
-            Report::Page(sheet) => page::end(out, sheet, seconds, t, unplayed),
+            Report::Page(sheet) => page::end(out, sheet, seconds, totals, unplayed),
         }
     }
 
@@ -111,21 +116,21 @@ impl Report {
         self,
         out: &mut W,
         seconds: u64,
-        t: Totals,
+        totals: Totals,
         until: Until<'_>,
     ) -> io::Result<()>
-        requires { t.count ≤ 8 }
+        requires { totals.count ≤ 8 }
         ensures { WritesText W.fails_with (W.contents out.old) (W.contents out.new) result
-            (ended_until self seconds t.count t.starts t.burnt t.lasts until.entry.lines
+            (ended_until self seconds totals.count totals.starts totals.burnt totals.lasts until.entry.lines
             (given_text until.entry.stray)) }
     {
         match self {
             Report::Lines => {
-                lamps::put_totals(out, t)?;
+                lamps::put_totals(out, totals)?;
                 put_stray(out, until.stray)
             }
             Report::Csv(_) => Ok(()),
-            Report::Page(sheet) => page::end_until(out, sheet, seconds, t, until),
+            Report::Page(sheet) => page::end_until(out, sheet, seconds, totals, until),
         }
     }
 }

@@ -78,15 +78,15 @@ impl Sheet {
 }
 
 /// What stands above the rows.
-pub fn begin<W: ByteSink>(out: &mut W, q: Query) -> io::Result<()>
-    ensures { WritesText W.fails_with (W.contents out.old) (W.contents out.new) result (page_begun q) }
+pub fn begin<W: ByteSink>(out: &mut W, query: Query) -> io::Result<()>
+    ensures { WritesText W.fails_with (W.contents out.old) (W.contents out.new) result (page_begun query) }
 {
     frame::put_head(out)?;
-    frame::put_about(out, q.projector)?;
-    frame::put_clock(out, q.began)?;
-    frame::put_stripe_text(out, q.began, q.long)?;
+    frame::put_about(out, query.projector)?;
+    frame::put_clock(out, query.began)?;
+    frame::put_stripe_text(out, query.began, query.long)?;
     frame::put_head_of_days(out)?;
-    frame::put_hours(out, q.began)
+    frame::put_hours(out, query.began)
 }
 
 /// A second of the log, counted from the first midnight on.
@@ -134,35 +134,42 @@ fn hours_passed(long: Option<u32>, seconds: u64) -> Option<u32>
 }
 
 /// What is marked of a stretch.
-pub fn note_of(q: Query, s: Stretch) -> StretchNote
-    ensures { result ≡ note_of q.began q.long s.from s.to }
+pub fn note_of(query: Query, stretch: Stretch) -> StretchNote
+    ensures { result ≡ note_of query.began query.long stretch.from stretch.to }
 {
     StretchNote {
-        over_midnight: is_over_midnight(q.began, s),
-        hours: hours_passed(q.long, s.to.saturating_sub(s.from)),
+        over_midnight: is_over_midnight(query.began, stretch),
+        hours: hours_passed(query.long, stretch.to.saturating_sub(stretch.from)),
     }
 }
 
 /// The longest of the stretches, of which this was the longest before; the first of those that are equally long.
-pub fn longest_of(longest: Stretch, lit: &[bool], s: Stretch) -> Stretch
-    ensures { result ≡ longest_of longest lit.now s.from s.to }
+pub fn longest_of(longest: Stretch, lit: &[bool], stretch: Stretch) -> Stretch
+    ensures { result ≡ longest_of longest lit.now stretch.from stretch.to }
 {
-    if is_any(lit) && longest.to.saturating_sub(longest.from) < s.to.saturating_sub(s.from) {
-        return s;
+    if is_any(lit)
+        && longest.to.saturating_sub(longest.from) < stretch.to.saturating_sub(stretch.from)
+    {
+        return stretch;
     }
     longest
 }
 
 /// A stretch of the lamps whose marks are set; the row that is open then. Of no lamp nothing is drawn.
-pub fn draw<W: ByteSink>(out: &mut W, sheet: Sheet, lit: &[bool], s: Stretch) -> io::Result<DayRow>
+pub fn draw<W: ByteSink>(
+    out: &mut W,
+    sheet: Sheet,
+    lit: &[bool],
+    stretch: Stretch,
+) -> io::Result<DayRow>
     requires { length lit.now ≤ 8 }
-    ensures row { IfOk result (λ r. r ≡ row_drawn sheet.query.began sheet.row lit.now s.from s.to) }
+    ensures row { IfOk result (λ r. r ≡ row_drawn sheet.query.began sheet.row lit.now stretch.from stretch.to) }
     ensures text { WritesText W.fails_with (W.contents out.old) (W.contents out.new) result
-        (stretch_drawn sheet.query.began sheet.query.long sheet.row lit.now s.from s.to) }
+        (stretch_drawn sheet.query.began sheet.query.long sheet.row lit.now stretch.from stretch.to) }
 {
     let began = sheet.query.began;
-    let first = at(began, s.from);
-    let last = at(began, s.to);
+    let first = at(began, stretch.from);
+    let last = at(began, stretch.to);
     if last <= first {
         return Ok(sheet.row);
     }
@@ -170,10 +177,10 @@ pub fn draw<W: ByteSink>(out: &mut W, sheet: Sheet, lit: &[bool], s: Stretch) ->
     if !burns {
         return Ok(sheet.row);
     }
-    let note = note_of(sheet.query, s);
+    let note = note_of(sheet.query, stretch);
     let placed = Placed {
         lit,
-        whole: s,
+        whole: stretch,
         note,
         at: Stretch {
             from: first,
@@ -220,14 +227,14 @@ pub fn end<W: ByteSink>(
     out: &mut W,
     sheet: Sheet,
     seconds: u64,
-    t: Totals,
+    totals: Totals,
     unplayed: Option<&[u8]>,
 ) -> io::Result<()>
-    requires { t.count ≤ 8 }
+    requires { totals.count ≤ 8 }
     ensures { WritesText W.fails_with (W.contents out.old) (W.contents out.new) result
-        (page_ended sheet seconds t.count t.starts t.burnt t.lasts (given_text unplayed.entry)) }
+        (page_ended sheet seconds totals.count totals.starts totals.burnt totals.lasts (given_text unplayed.entry)) }
 {
-    end_days(out, sheet, seconds, t)?;
+    end_days(out, sheet, seconds, totals)?;
     frame::put_paragraph(out, unplayed)?;
     close(out)
 }
@@ -237,15 +244,15 @@ pub fn end_until<W: ByteSink>(
     out: &mut W,
     sheet: Sheet,
     seconds: u64,
-    t: Totals,
+    totals: Totals,
     until: Until<'_>,
 ) -> io::Result<()>
-    requires { t.count ≤ 8 }
+    requires { totals.count ≤ 8 }
     ensures { WritesText W.fails_with (W.contents out.old) (W.contents out.new) result
-        (page_ended_until sheet seconds t.count t.starts t.burnt t.lasts until.entry.lines
+        (page_ended_until sheet seconds totals.count totals.starts totals.burnt totals.lasts until.entry.lines
         (given_text until.entry.stray)) }
 {
-    end_days(out, sheet, seconds, t)?;
+    end_days(out, sheet, seconds, totals)?;
     frame::put_until(out, seconds, until.lines)?;
     frame::put_paragraph(out, until.stray)?;
     close(out)

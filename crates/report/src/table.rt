@@ -77,13 +77,18 @@ fn put_csv_if<W: ByteSink>(
 }
 
 /// The row of a stretch for each lamp whose mark is set.
-pub fn put_csv_rows<W: ByteSink>(out: &mut W, q: Query, lit: &[bool], s: Stretch) -> io::Result<()>
+pub fn put_csv_rows<W: ByteSink>(
+    out: &mut W,
+    query: Query,
+    lit: &[bool],
+    stretch: Stretch,
+) -> io::Result<()>
     requires { length lit.now ≤ 8 }
     ensures { WritesText W.fails_with (W.contents out.old) (W.contents out.new) result
-        (rows_lit (csv_row q.began q.long s.from s.to) lit.now) }
+        (rows_lit (csv_row query.began query.long stretch.from stretch.to) lit.now) }
 {
     for (k, is_lit) in lit.iter().enumerate() {
-        put_csv_if(out, q, s, *is_lit, k as u64)?;
+        put_csv_if(out, query, stretch, *is_lit, k as u64)?;
     }
     Ok(())
 }

@@ -10,10 +10,14 @@ use textio::forms::fill;
 use textio::writer::ByteSink;
 
 /// So many seconds as hours and minutes, rounded down, and as seconds.
-pub fn put_spent<W: ByteSink>(out: &mut W, n: u64) -> io::Result<()>
-    ensures { WritesText W.fails_with (W.contents out.old) (W.contents out.new) result (spent_text n) }
+pub fn put_spent<W: ByteSink>(out: &mut W, seconds: u64) -> io::Result<()>
+    ensures { WritesText W.fails_with (W.contents out.old) (W.contents out.new) result (spent_text seconds) }
 {
-    fill(out, "# h # min (# s)", &[n / 3600, n / 60 % 60, n])
+    fill(
+        out,
+        "# h # min (# s)",
+        &[seconds / 3600, seconds / 60 % 60, seconds],
+    )
 }
 
 // A second of a day, behind a space.
@@ -51,15 +55,21 @@ fn put_clock_instant<W: ByteSink>(out: &mut W, m: Moment, n: u64) -> io::Result<
 }
 
 /// A second of the log: its date and time of day, or the hours, minutes and seconds since the log began.
-pub fn put_instant<W: ByteSink>(out: &mut W, began: Option<Moment>, n: u64) -> io::Result<()>
-    ensures { WritesText W.fails_with (W.contents out.old) (W.contents out.new) result (instant_text began n) }
+pub fn put_instant<W: ByteSink>(out: &mut W, began: Option<Moment>, seconds: u64) -> io::Result<()>
+    ensures { WritesText W.fails_with (W.contents out.old) (W.contents out.new) result (instant_text began seconds) }
 {
     match began {
         None => fill(
             out,
             "#:##:##",
-            &[n / 3600, n / 60 % 60 / 10, n / 60 % 10, n % 60 / 10, n % 10],
+            &[
+                seconds / 3600,
+                seconds / 60 % 60 / 10,
+                seconds / 60 % 10,
+                seconds % 60 / 10,
+                seconds % 10,
+            ],
         ),
-        Some(m) => put_clock_instant(out, m, page::at(began, n)),
+        Some(m) => put_clock_instant(out, m, page::at(began, seconds)),
     }
 }

@@ -3,9 +3,9 @@
 use Rattle.std.proofs.Common.{◌≡◌, ◌↔◌, arith, pos, ◌+ℤ◌, ◌<ℤ◌}
 use Rattle.std.proofs.lemmas.Int.{ints}
 use Rattle.service.specs.Differences.{difference_of, IsBackwards}
-use Rattle.service.specs.declared.Reading.{Reading}
+use Rattle.service.specs.declared.LampSeconds.{LampSeconds}
 
-module _ (r : Reading) where
+module _ (r : LampSeconds) where
   pub earlier_and_difference : pos r.earlier +ℤ difference_of r ≡ pos r.later
   earlier_and_difference = omega (arith, ints)
 

@@ -5,15 +5,15 @@ use Rattle.std.proofs.Common.{All}
 use Rattle.text.proofs.Orders.{le_or_lt}
 use Rattle.service.specs.Differences.{IsForwards}
 use Rattle.service.specs.ComparedHolds.{IsFirstBack, ComparedHolds, ComparedAs}
-use Rattle.service.specs.declared.Reading.{Reading}
+use Rattle.service.specs.declared.LampSeconds.{LampSeconds}
 use Rattle.service.specs.declared.CompareError.{CompareError}
 use Rattle.service.specs.declared.CompareError.TheVariants.{TooMany, NoRoom}
 
 -- any reading, to read a place of a list by
-abbrev pub unread : Reading
+abbrev pub unread : LampSeconds
 unread = record { earlier = 0; later = 0 }
 
-module _ (rs : List Reading) where
+module _ (rs : List LampSeconds) where
   back_above : {j k : ℕ} → IsFirstBack rs j → IsFirstBack rs k → j < k → ⊥
   back_above {j} a b h = omega (arith, a.back unread, b.kept j unread (omega arith) h)
 
@@ -49,10 +49,10 @@ module _ (rs : List Reading) where
     one_answer (Err NoRoom) (Err NoRoom) p q = refl
 
 -- the same answer leaves the same list
-one_list : (rs : List Reading) (out : List ℤ) (b c : Result (Option ℕ) CompareError) (m n : List ℤ) → b ≡ c
+one_list : (rs : List LampSeconds) (out : List ℤ) (b c : Result (Option ℕ) CompareError) (m n : List ℤ) → b ≡ c
     → ComparedAs rs out b m → ComparedAs rs out c n → m ≡ n
 one_list rs out b c m n h g e = grind arith
 
-pub one_comparison : (rs : List Reading) (out : List ℤ) (b c : Result (Option ℕ) CompareError) (m n : List ℤ)
+pub one_comparison : (rs : List LampSeconds) (out : List ℤ) (b c : Result (Option ℕ) CompareError) (m n : List ℤ)
     → ComparedAs rs out b m → ComparedAs rs out c n → (b ≡ c) × (m ≡ n)
 one_comparison rs out b c m n p q = grind (arith, one_answer, one_list)

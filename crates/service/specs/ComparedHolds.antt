@@ -9,28 +9,28 @@ use Rattle.std.specs.Prelude.{ℕ, ◌<◌, ◌≤◌, ◌≡◌, List, ◌++◌
 use Rattle.std.specs.Prelude.{Ok, Err, OnOk, OnErr}
 use Rattle.std.specs.List.{AllWithin, HoldsAt}
 use Rattle.service.specs.Differences.{IsBackwards, IsForwards, differences}
-use Rattle.service.specs.declared.Reading.{Reading}
+use Rattle.service.specs.declared.LampSeconds.{LampSeconds}
 use Rattle.service.specs.declared.TheConstants.{TABLE_MOST}
 use Rattle.service.specs.declared.CompareError.{CompareError}
 use Rattle.service.specs.declared.CompareError.TheVariants.{TooMany, NoRoom}
 
-pub record IsFirstBack (rs : List Reading) (k : ℕ) : Type 0 where
+pub record IsFirstBack (rs : List LampSeconds) (k : ℕ) : Type 0 where
   pub inside : k < length rs
   pub back : HoldsAt IsBackwards rs k
   pub kept : AllWithin IsForwards rs 0 k
 
-pub record IsComparable (rs : List Reading) (room : ℕ) : Type 0 where
+pub record IsComparable (rs : List LampSeconds) (room : ℕ) : Type 0 where
   pub few : length rs ≤ TABLE_MOST
   pub fits : length rs ≤ room
 
-module _ (rs : List Reading) (room : ℕ) where
+module _ (rs : List LampSeconds) (room : ℕ) where
   abbrev pub ComparedHolds : Result (Option ℕ) CompareError → Type 0
   ComparedHolds (Ok None) = IsComparable rs room × All IsForwards rs
   ComparedHolds (Ok (Some k)) = IsComparable rs room × IsFirstBack rs k
   ComparedHolds (Err TooMany) = TABLE_MOST < length rs
   ComparedHolds (Err NoRoom) = (length rs ≤ TABLE_MOST) × (room < length rs)
 
-pub record ComparedAs (rs : List Reading) (out : List ℤ) (c : Result (Option ℕ) CompareError) (m : List ℤ)
+pub record ComparedAs (rs : List LampSeconds) (out : List ℤ) (c : Result (Option ℕ) CompareError) (m : List ℤ)
     : Type 0 where
   pub told : ComparedHolds rs (length out) c
   pub written : OnOk c (m ≡ differences rs ++ drop (length rs) out)

@@ -5,16 +5,16 @@
 --   IsForwards r        they are not
 -- Assumes nothing.
 use Rattle.std.specs.Prelude.{◌≤◌, ◌<◌, List, map, ℤ, pos, ◌-ℤ◌}
-use Rattle.service.specs.declared.Reading.{Reading}
+use Rattle.service.specs.declared.LampSeconds.{LampSeconds}
 
-abbrev pub difference_of : Reading → ℤ
+abbrev pub difference_of : LampSeconds → ℤ
 difference_of r = pos r.later -ℤ pos r.earlier
 
-abbrev pub differences : List Reading → List ℤ
+abbrev pub differences : List LampSeconds → List ℤ
 differences rs = map difference_of rs
 
-abbrev pub IsBackwards : Reading → Type 0
+abbrev pub IsBackwards : LampSeconds → Type 0
 IsBackwards r = r.later < r.earlier
 
-abbrev pub IsForwards : Reading → Type 0
+abbrev pub IsForwards : LampSeconds → Type 0
 IsForwards r = r.earlier ≤ r.later

@@ -17,7 +17,7 @@ pub const TABLE_MOST: usize = 64;
 
 /// A lamp's seconds at two readings.
 #[derive(Clone, Copy, Debug, PartialEq, Eq)]
-pub struct Reading {
+pub struct LampSeconds {
     /// Seconds at the earlier reading, any 32-bit number.
     pub earlier: u32,
     /// Seconds at the later reading, any 32-bit number; below the earlier if the lamp went backwards.
@@ -44,7 +44,7 @@ impl fmt::Display for CompareError {
 
 impl Error for CompareError {}
 
-impl Reading {
+impl LampSeconds {
     /// Returns the later seconds minus the earlier: negative if the lamp went backwards, as a replaced lamp does.
     pub fn difference(self) -> i64
         ensures { result ≡ difference_of self }
@@ -53,7 +53,7 @@ impl Reading {
     }
 }
 
-fn put_differences(readings: &[Reading], out: &mut [i64])
+fn put_differences(readings: &[LampSeconds], out: &mut [i64])
     requires { length readings.now ≤ length out.old }
     ensures { out.new ≡ differences readings.now ++ drop (length readings.now) out.old }
 {
@@ -62,7 +62,7 @@ fn put_differences(readings: &[Reading], out: &mut [i64])
     }
 }
 
-fn first_backwards(readings: &[Reading]) -> Option<usize>
+fn first_backwards(readings: &[LampSeconds]) -> Option<usize>
     ensures { MatchOption result (All IsForwards readings.now) (IsFirstBack readings.now) }
 {
     readings.iter().position(|r| r.later < r.earlier)
@@ -70,7 +70,7 @@ fn first_backwards(readings: &[Reading]) -> Option<usize>
 
 /// Writes each lamp's difference to the start of `out`, and returns the first lamp that went backwards, if any. Later
 /// places of `out` stay as they were; with an error all of them stay. Errors, in this order: `TooMany`, `NoRoom`.
-pub fn compare(readings: &[Reading], out: &mut [i64]) -> Result<Option<usize>, CompareError>
+pub fn compare(readings: &[LampSeconds], out: &mut [i64]) -> Result<Option<usize>, CompareError>
     ensures told { ComparedHolds readings.now (length out.old) result }
     ensures written { OnOk result (out.new ≡ differences readings.now ++ drop (length readings.now) out.old) }
     ensures kept { OnErr result (out.new ≡ out.old) }

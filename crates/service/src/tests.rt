@@ -1,8 +1,8 @@
 // Comparisons worked out.
-use crate::{CompareError, Reading, compare};
+use crate::{CompareError, LampSeconds, compare};
 
-fn reading(earlier: u32, later: u32) -> Reading {
-    Reading { earlier, later }
+fn reading(earlier: u32, later: u32) -> LampSeconds {
+    LampSeconds { earlier, later }
 }
 
 // a lamp that burnt, one that did not, and a new one

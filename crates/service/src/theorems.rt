@@ -3,16 +3,16 @@
 ghost use Rattle.std.specs.Prelude.{◌≡◌, ◌↔◌, List, ℕ, ℤ, Result, Option, length, pos, ◌+ℤ◌, ◌<ℤ◌};
 ghost use Rattle.service.specs.ComparedHolds.{ComparedHolds, ComparedAs};
 ghost use Rattle.service.specs.Differences.{difference_of, IsBackwards};
-ghost use Rattle.service.specs.declared.Reading.{Reading};
+ghost use Rattle.service.specs.declared.LampSeconds.{LampSeconds};
 ghost use Rattle.service.specs.declared.CompareError.{CompareError};
 
-use crate::{CompareError, Reading, TABLE_MOST, compare};
+use crate::{CompareError, LampSeconds, TABLE_MOST, compare};
 
 /// The answer holds of the readings, and an answer that holds is the one returned: the place is the lowest one where
 /// the lamp went backwards, and there is none exactly if no lamp went backwards.
 #[tactic(auto, using(crate::proofs::OneAnswer::one_answer))]
 pub fn the_answer_told_holds(
-    readings: &[Reading],
+    readings: &[LampSeconds],
     out: &mut [i64],
 ) -> Result<Option<usize>, CompareError>
     ensures told_holds { ComparedHolds readings.now (length out.old) result }
@@ -25,7 +25,7 @@ pub fn the_answer_told_holds(
 /// Two results that meet the promise of a call are equal, the list of differences included.
 #[tactic(auto, using(crate::proofs::OneAnswer::one_comparison))]
 pub fn one_result()
-    ensures { (rs : List Reading) (out : List ℤ) (b c : Result (Option ℕ) CompareError) (m n : List ℤ)
+    ensures { (rs : List LampSeconds) (out : List ℤ) (b c : Result (Option ℕ) CompareError) (m n : List ℤ)
         → ComparedAs rs out b m → ComparedAs rs out c n → (b ≡ c) × (m ≡ n) }
 {}
 
@@ -33,8 +33,8 @@ pub fn one_result()
 /// backwards.
 #[tactic(auto, using(crate::proofs::Exact::earlier_and_difference, crate::proofs::Exact::negative_is_backwards))]
 pub fn a_difference_is_exact()
-    ensures sum { (r : Reading) → pos r.earlier +ℤ difference_of r ≡ pos r.later }
-    ensures sign { (r : Reading) → (difference_of r <ℤ pos 0) ↔ IsBackwards r }
+    ensures sum { (r : LampSeconds) → pos r.earlier +ℤ difference_of r ≡ pos r.later }
+    ensures sign { (r : LampSeconds) → (difference_of r <ℤ pos 0) ↔ IsBackwards r }
 {}
 
 /// The limit of a table in numbers (RULES, Service).

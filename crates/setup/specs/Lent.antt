@@ -8,7 +8,7 @@
 use Rattle.std.specs.Prelude.{ℕ, List, []}
 use Rattle.record.specs.Wanted.{Wanted, wanted_in, names_in, counted_in}
 use Rattle.setup.specs.declared.wanted.Names.{Names}
-use Rattle.setup.specs.declared.wanted.Names.TheVariants.{Row, Counted}
+use Rattle.setup.specs.declared.wanted.Names.TheVariants.{Packed, Counted}
 use Rattle.setup.specs.declared.wanted.Class.{Class}
 use Rattle.setup.specs.declared.wanted.Class.TheVariants.{One, Two}
 use Rattle.setup.specs.declared.wanted.Wanted.{Wanted as Lent}
@@ -26,7 +26,7 @@ version_of One = []
 version_of (Two serial version names) = version.now
 
 abbrev pub names_lent : Names → List (List ℕ)
-names_lent (Row bytes lengths) = names_in lengths.now bytes.now
+names_lent (Packed bytes lengths) = names_in lengths.now bytes.now
 names_lent (Counted names) = counted_in names.count names.bytes.now
 
 abbrev pub names_of : Class → List (List ℕ)

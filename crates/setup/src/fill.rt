@@ -10,30 +10,32 @@ ghost use Rattle.setup.specs.Lent.{names_lent};
 use crate::wanted::Names;
 use record::names;
 use record::own::VOLUME_START;
-use record::types::{INPUT_ROOM, INPUTS_MOST, InputName, LAMPS_MOST, Own, Text};
+use record::types::{INPUT_ROOM, InputName, Own, Text};
 use text::rooms;
+use words::input::INPUTS_MOST;
+use words::lamp::LAMPS_MOST;
 
 /// A text in its room: at most 64 bytes.
 #[tactic(auto, using(record::proofs::Kept::kept_in_room))]
-pub fn text_of(s: &[u8]) -> Text
-    requires { length s.now ≤ text_room }
-    ensures { result ≡ text_of s.now }
+pub fn text_of(bytes: &[u8]) -> Text
+    requires { length bytes.now ≤ text_room }
+    ensures { result ≡ text_of bytes.now }
 {
     Text {
-        len: s.len(),
-        bytes: rooms::kept(s, 0),
+        len: bytes.len(),
+        bytes: rooms::kept(bytes, 0),
     }
 }
 
 /// An input's name in its room: at most 128 bytes (RULES, Class 2).
 #[tactic(auto, using(record::proofs::Kept::kept_in_room))]
-pub fn name_of(s: &[u8]) -> InputName
-    requires { length s.now ≤ input_name_most }
-    ensures { result ≡ name_of s.now }
+pub fn name_of(bytes: &[u8]) -> InputName
+    requires { length bytes.now ≤ input_name_most }
+    ensures { result ≡ name_of bytes.now }
 {
     InputName {
-        len: s.len(),
-        bytes: rooms::kept(s, 0),
+        len: bytes.len(),
+        bytes: rooms::kept(bytes, 0),
     }
 }
 
@@ -46,7 +48,7 @@ pub fn keep_names(list: &mut [InputName; INPUTS_MOST], lent: &Names<'_>, count: 
 {
     list.fill(InputName::EMPTY);
     match *lent {
-        Names::Row { bytes, lengths } => keep_row(list, bytes, lengths, count),
+        Names::Packed { bytes, lengths } => keep_packed(list, bytes, lengths, count),
         Names::Counted(names) => keep_counted(list, names.bytes, names.count),
     }
 }
@@ -67,7 +69,7 @@ fn keep_counted(list: &mut [InputName; INPUTS_MOST], bytes: &[u8], count: usize)
 }
 
 // So many names, one after the other in `bytes`, each of its length.
-fn keep_row(list: &mut [InputName; INPUTS_MOST], bytes: &[u8], lengths: &[usize], count: usize)
+fn keep_packed(list: &mut [InputName; INPUTS_MOST], bytes: &[u8], lengths: &[usize], count: usize)
     requires empty { list.old ≡ replicate listed_most blank_name }
     requires named { are_names count (names_in lengths.now bytes.now) ≡ true }
     requires few { count ≤ listed_most }
@@ -83,20 +85,20 @@ fn keep_row(list: &mut [InputName; INPUTS_MOST], bytes: &[u8], lengths: &[usize]
 
 /// A list of inputs in its room: two characters each, at most 32 inputs (RULES, Inputs).
 #[tactic(auto, using(record::proofs::Kept::kept_in_room))]
-pub fn input_room(s: &[u8]) -> [u8; INPUT_ROOM]
-    requires { length s.now ≤ input_room }
-    ensures { result ≡ in_room input_room s.now }
+pub fn input_room(bytes: &[u8]) -> [u8; INPUT_ROOM]
+    requires { length bytes.now ≤ input_room }
+    ensures { result ≡ in_room input_room bytes.now }
 {
-    rooms::kept(s, 0)
+    rooms::kept(bytes, 0)
 }
 
 /// The starting seconds of at most 8 lamps, in their room (RULES, Lamps).
 #[tactic(auto, using(record::proofs::Kept::kept_in_room))]
-pub fn lamp_room(s: &[u32]) -> [u32; LAMPS_MOST]
-    requires { length s.now ≤ lamps_most }
-    ensures { result ≡ in_room lamps_most s.now }
+pub fn lamp_room(seconds: &[u32]) -> [u32; LAMPS_MOST]
+    requires { length seconds.now ≤ lamps_most }
+    ensures { result ≡ in_room lamps_most seconds.now }
 {
-    rooms::kept(s, 0)
+    rooms::kept(seconds, 0)
 }
 
 /// Each of so many lamps is enabled (RULES, Lamps).

@@ -17,16 +17,16 @@ pub struct CountedNames<'a> {
     /// So many names.
     pub count: usize,
     /// Whether each is the name of an input: at most 128 bytes, each 0x20 to 0xFF (RULES, Texts).
-    pub each_named: bool,
-    ghost tested: { each_named ≡ list_all is_input_name (counted_in count bytes.now) },
+    pub are_named: bool,
+    ghost tested: { are_named ≡ list_all is_input_name (counted_in count bytes.now) },
 }
 
 impl<'a> CountedNames<'a> {
     /// Whether there are as many names as Class 2 wants of so many inputs.
     #[tactic(auto, using(record::proofs::CountedNames::counted_named))]
-    pub fn fit(&self, class: u8, inputs: usize) -> bool
+    pub fn are_fitting(&self, class: u8, inputs: usize) -> bool
         ensures { result ≡ are_names (only_in_2 class inputs) (counted_in self.now.count self.now.bytes.now) }
     {
-        self.count == class::only_in_2(class, inputs) && self.each_named
+        self.count == class::only_in_2(class, inputs) && self.are_named
     }
 }

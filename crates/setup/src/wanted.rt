@@ -18,7 +18,7 @@ use words::texts;
 #[derive(Clone, Copy)]
 pub enum Names<'a> {
     /// One after the other, each of its length. Lengths that do not add up to their bytes name nothing.
-    Row {
+    Packed {
         bytes: &'a [u8],
         lengths: &'a [usize],
     },
@@ -66,18 +66,18 @@ pub struct Wanted<'a> {
 
 impl<'a> Names<'a> {
     /// No name.
-    pub const NONE: Names<'static> = Names::Row {
+    pub const NONE: Names<'static> = Names::Packed {
         bytes: &[],
         lengths: &[],
     };
 
     // Whether they are those of so many inputs of the class.
-    fn fit(&self, class: u8, inputs: usize) -> bool
+    fn are_fitting(&self, class: u8, inputs: usize) -> bool
         ensures { result ≡ are_names (only_in_2 class inputs) (names_lent self.now) }
     {
         match *self {
-            Names::Row { bytes, lengths } => names::names_fit(class, inputs, bytes, lengths),
-            Names::Counted(names) => names.fit(class, inputs),
+            Names::Packed { bytes, lengths } => names::are_names_of(class, inputs, bytes, lengths),
+            Names::Counted(names) => names.are_fitting(class, inputs),
         }
     }
 }
@@ -166,7 +166,7 @@ impl<'a> Wanted<'a> {
         ensures { wanted_settings result ≡ with_class_2 serial.now version.now (names_in lengths.now names.now)
             (wanted_settings self.entry) }
     {
-        let names = Names::Row {
+        let names = Names::Packed {
             bytes: names,
             lengths,
         };
@@ -190,13 +190,13 @@ impl<'a> Wanted<'a> {
             Setting::Model => texts::is_info(self.model),
             Setting::Other => texts::is_info(self.other),
             Setting::Password => texts::is_password(self.password),
-            Setting::Inputs => inputs::inputs_ok(class, self.inputs),
-            Setting::Lamps => own::lamps_ok(self.lamps),
-            Setting::WarmUp => settings::stretch_ok(self.warm),
-            Setting::Cooling => settings::stretch_ok(self.cool),
-            Setting::Serial => names::info_fits(class, self.class.serial()),
-            Setting::Version => names::info_fits(class, self.class.version()),
-            Setting::Names => self.class.names().fit(class, self.inputs.len() / 2),
+            Setting::Inputs => inputs::is_inputs(class, self.inputs),
+            Setting::Lamps => own::is_lamps(self.lamps),
+            Setting::WarmUp => settings::is_transition(self.warm),
+            Setting::Cooling => settings::is_transition(self.cool),
+            Setting::Serial => names::is_info_of(class, self.class.serial()),
+            Setting::Version => names::is_info_of(class, self.class.version()),
+            Setting::Names => self.class.names().are_fitting(class, self.inputs.len() / 2),
         }
     }
 
@@ -218,7 +218,7 @@ impl<'a> Wanted<'a> {
         if let Some(setting) = self.first_out_of_range() {
             return Err(SetUpError::OutOfRange(setting));
         }
-        if !settings::long_enough(self.password.len()) {
+        if !settings::is_long_enough(self.password.len()) {
             return Err(SetUpError::ShortPassword);
         }
         Ok(())

@@ -13,7 +13,7 @@ use Rattle.std.proofs.lemmas.List.{take-append-le, get_or-append-add}
 use Rattle.std.proofs.Math.Seq.{take-append-add}
 use Rattle.std.specs.List.{list_all}
 use Rattle.std.specs.Simd.{first_chunks}
-use Rattle.record.specs.Rules.{at_most, is_lamp}
+use Rattle.record.specs.Rules.{is_at_most, is_lamp}
 use Rattle.text.proofs.Scanning.{list_all_at}
 use Rattle.text.specs.InTurn.{each_in_turn}
 use Rattle.text.specs.Scans.{itself}
@@ -96,8 +96,8 @@ texts_form (t ∷ ts) = form_then (text_form t) _ (form_as (texts_form ts) _ ref
 abbrev pub Bytes : List ℕ → Type 0
 Bytes s = Digits 256 itself s
 
-pub bytes_all : (s : List ℕ) → list_all (at_most 255) s ≡ true → Bytes s
-bytes_all s h i l = grind (arith, list_all_at (at_most 255) s 0 h i l)
+pub bytes_all : (s : List ℕ) → list_all (is_at_most 255) s ≡ true → Bytes s
+bytes_all s h i l = grind (arith, list_all_at (is_at_most 255) s 0 h i l)
 
 module _ {s : List ℕ} (a rest : List ℕ) (e : s ≡ a ++ rest) (b : Bytes s) where
   pub front_bytes : Bytes a

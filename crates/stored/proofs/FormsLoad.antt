@@ -153,7 +153,7 @@ module _ (d : Device) (h : is_legal d ≡ true) where
   pub stored_in_range : is_set_up (stored_of d) ≡ true
   stored_in_range =
       set_up_shown (stored_of d) (in_range_shown (stored_of d) in_range)
-      (ap is_long_enough (kept_length text_room is_password _ _ told.password) ∙ told.long_enough)
+      (ap is_long_enough (kept_length text_room is_password _ _ told.password) ∙ told.is_long_enough)
 
   -- each mark as it was
   pub mark_room-marks_stored : mark_room (marks_stored d) ≡ d.own.enabled

@@ -9,9 +9,9 @@ use Rattle.std.proofs.Common.{ℕ, ◌/◌, ◌^◌, ◌<◌, ◌≤◌, ◌≡�
 use Rattle.std.proofs.Common.{[], ◌∷◌, ◌++◌, length, map, replicate, Some, refl, sym, ap, subst, ◌∙◌, arith, leb-true}
 use Rattle.text.proofs.Choices.{if_yes, if_no, both_right}
 use Rattle.words.specs.Bytes.{◌at◌}
-use Rattle.record.specs.Limits.{stretch_most}
+use Rattle.record.specs.Limits.{transition_most}
 use Rattle.record.specs.Wanted.{Wanted, wanted_of}
-use Rattle.record.specs.Rules.{is_stretch}
+use Rattle.record.specs.Rules.{is_transition}
 use Rattle.record.specs.SetUp.{is_setting_in_range, is_set_up}
 use Rattle.record.specs.declared.types.Setting.{Setting}
 use Rattle.record.specs.declared.types.Setting.TheVariants.{Inputs, Lamps, WarmUp, Cooling, Serial, Version, Names}
@@ -105,8 +105,8 @@ module _ (w : Wanted) (ok : is_set_up w ≡ true) (m : List ℕ) where
       ((λ j. record w { class = sym one j; serial = []; version = []; names = [] })
       ∙ is_alone (grind (arith, one))) (given_form unclassed))
 
-stretch_fits : (n : ℕ) → is_stretch n ≡ true → n < 256 ^ 2
-stretch_fits n h = omega (arith, leb-true n stretch_most (both_right _ _ h))
+stretch_fits : (n : ℕ) → is_transition n ≡ true → n < 256 ^ 2
+stretch_fits n h = omega (arith, leb-true n transition_most (both_right _ _ h))
 
 module _ (v : ℕ) (w : Wanted) (ok : is_set_up w ≡ true) (older : (v == form_version) ≡ false → w.class ≡ 1)
     (ms : List Bool) where

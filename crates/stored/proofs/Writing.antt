@@ -11,7 +11,7 @@ use Rattle.record.specs.Limits.{lamps_most}
 use Rattle.record.specs.Rules.{is_marks}
 use Rattle.record.proofs.MarksTold.{marks_long}
 use Rattle.record.specs.declared.types.InputName.{InputName}
-use Rattle.lent.specs.declared.Writer.{Writer}
+use Rattle.lent.specs.declared.MemoryWriter.{MemoryWriter}
 use Rattle.lent.specs.Puts.{Puts}
 use Rattle.numbers.specs.HighestFirst.{highest_first}
 use Rattle.stored.specs.Sections.{section, text_section, texts_bytes, seconds_bytes}
@@ -31,7 +31,7 @@ unfolding seconds_bytes
 seconds_bytes-take xs i h = each_in_turn-take (highest_first 4) xs i 0 h
 
 -- the marks of the lamps that there are, as a legal record keeps them
-pub marks_stored_as : {a b : Writer} (n : ℕ) (fs : List ℕ) → is_marks n fs ≡ true → n ≤ lamps_most
+pub marks_stored_as : {a b : MemoryWriter} (n : ℕ) (fs : List ℕ) → is_marks n fs ≡ true → n ≤ lamps_most
     → Puts a b (section n (take n fs)) → Puts a b (text_section (map flag_of (take n (map is_raised fs))) ++ [])
 marks_stored_as {a} {b} n fs legal few h =
     subst (λ (s : List ℕ). Puts a b s)

@@ -8,7 +8,7 @@ ghost use Rattle.stored.specs.Reads.{Reads};
 ghost use Rattle.stored.specs.Views.{said_of};
 
 use crate::error::LoadError;
-use crate::reader::Reader;
+use crate::reader::FormReader;
 use crate::storing::VERSION;
 use setup::wanted::{Class, Names};
 
@@ -90,7 +90,7 @@ impl<'a> Form<'a> {
     }
 }
 
-impl<'a> Reader<'a> {
+impl<'a> FormReader<'a> {
     // The marks, which the oldest version has not.
     fn marks_part(&mut self, version: u8, form: &mut Form<'a>) -> Result<(), LoadError>
         ensures class { form.new.class ≡ form.old.class }

@@ -19,13 +19,14 @@ ghost use Rattle.stored.specs.declared.error.LoadError.TheVariants.{NotLegal};
 
 use crate::error::LoadError;
 use crate::form::{Form, MARKED_VERSION, OLD_VERSION};
-use crate::reader::Reader;
+use crate::reader::FormReader;
 use crate::storing::VERSION;
 use numbers::highest;
 use record::fresh;
-use record::types::{Device, LAMPS_MOST};
+use record::types::Device;
 use setup::wanted::Wanted;
 use text::{flag, rooms};
+use words::lamp::LAMPS_MOST;
 
 fn is_other_version(bytes: &[u8]) -> bool
     ensures { result ≡ is_other_version bytes.now }
@@ -139,7 +140,7 @@ fn read_in(device: &mut Device, bytes: &[u8]) -> Result<(), LoadError>
     if is_other_version(bytes) {
         return Err(LoadError::OtherVersion);
     }
-    let mut reader = Reader::new(bytes);
+    let mut reader = FormReader::new(bytes);
     let form = reader.form()?;
     reader.end()?;
     form.load_in(device)

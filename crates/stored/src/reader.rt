@@ -14,11 +14,11 @@ use words::texts;
 
 /// The bytes that are left to read.
 #[derive(Drop)]
-pub struct Reader<'a> {
+pub struct FormReader<'a> {
     rest: &'a [u8],
 }
 
-impl<'a> Model for Reader<'a> {
+impl<'a> Model for FormReader<'a> {
     ghost use Rattle.std.specs.Prelude.{ℕ, List};
 
     ghost Value = { List ℕ };
@@ -26,12 +26,12 @@ impl<'a> Model for Reader<'a> {
     ghost view = { λ r. r.rest.now };
 }
 
-impl<'a> Reader<'a> {
+impl<'a> FormReader<'a> {
     /// All of the bytes are left.
-    pub fn new(bytes: &'a [u8]) -> Reader<'a>
+    pub fn new(bytes: &'a [u8]) -> FormReader<'a>
         ensures { result ≡ bytes.now }
     {
-        Reader { rest: bytes }
+        FormReader { rest: bytes }
     }
 
     /// Nothing is left over.
@@ -60,14 +60,14 @@ impl<'a> Reader<'a> {
 
     /// So many bytes.
     #[tactic(auto, unfolding(crate::specs::Sections::bytes))]
-    pub fn bytes(&mut self, n: usize) -> Result<&'a [u8], LoadError>
-        ensures read { Reads (λ s. s.now) result self.new (bytes n self.old) }
-        ensures long { IfOk result (λ s. length s.now ≡ n) }
+    pub fn bytes(&mut self, count: usize) -> Result<&'a [u8], LoadError>
+        ensures read { Reads (λ s. s.now) result self.new (bytes count self.old) }
+        ensures long { IfOk result (λ s. length s.now ≡ count) }
     {
-        if self.rest.len() < n {
+        if self.rest.len() < count {
             return Err(LoadError::CutShort);
         }
-        let (front, rest) = self.rest.split_at(n);
+        let (front, rest) = self.rest.split_at(count);
         self.rest = rest;
         Ok(front)
     }
@@ -102,19 +102,19 @@ impl<'a> Reader<'a> {
 
     /// So many names of inputs, one after the other, each with its count before it.
     #[tactic(auto, using(crate::proofs::TextsRead::texts_read))]
-    pub fn names(&mut self, n: usize) -> Result<CountedNames<'a>, LoadError>
-        ensures { Reads (λ s. counted_in s.count s.bytes.now) result self.new (texts n self.old) }
+    pub fn names(&mut self, count: usize) -> Result<CountedNames<'a>, LoadError>
+        ensures { Reads (λ s. counted_in s.count s.bytes.now) result self.new (texts count self.old) }
     {
         let whole = self.rest;
-        let mut each_named = true;
-        for _ in 0..n {
+        let mut are_named = true;
+        for _ in 0..count {
             let name = self.text()?;
-            each_named = each_named & texts::is_input_name(name);
+            are_named = are_named & texts::is_input_name(name);
         }
         Ok(CountedNames {
             bytes: &whole[..whole.len() - self.rest.len()],
-            count: n,
-            each_named,
+            count: count,
+            are_named,
         })
     }
 }

@@ -10,7 +10,7 @@ ghost use Rattle.record.specs.Facts.{IsSettings, IsLegal};
 ghost use Rattle.stored.specs.Form.{parts_written, parts_with_class, said_stored, stored_form, stored_by};
 
 use crate::putting;
-use lent::Writer;
+use lent::MemoryWriter;
 use record::refusal::Refusal;
 use record::types::Device;
 
@@ -21,7 +21,7 @@ pub const VERSION: u8 = 3;
 pub const FORM_MOST: usize = 4504;
 
 // The class, and what Class 2 alone has.
-fn class_part(w: &mut Writer<'_>, d: &Device)
+fn class_part(w: &mut MemoryWriter<'_>, d: &Device)
     requires legal { IsSettings d.now.settings }
     requires short { w.old.at + 4300 < 2 ^ 64 }
     ensures { Puts w.old w.new (parts_written parts_with_class (said_stored d.now)) }
@@ -37,7 +37,7 @@ fn class_part(w: &mut Writer<'_>, d: &Device)
 }
 
 // The form of a legal record.
-fn form(w: &mut Writer<'_>, d: &Device)
+fn form(w: &mut MemoryWriter<'_>, d: &Device)
     requires legal { IsLegal d.now }
     requires first { w.old.at ≡ 0 }
     ensures { Puts w.old w.new (stored_form d.now) }
@@ -64,36 +64,36 @@ fn form_length(d: &Device) -> usize
     ensures { result ≡ length (stored_form d.now) }
 {
     let mut none = [];
-    let mut counting = Writer::new(&mut none);
+    let mut counting = MemoryWriter::new(&mut none);
     form(&mut counting, d);
     counting.count()
 }
 
 /// The form of a legal record, from the start of memory that has room for it; its length.
 #[tactic(auto, using(lent::proofs::Writing::written_over))]
-pub fn put_form(d: &Device, out: &mut [u8]) -> usize
-    requires legal { IsLegal d.now }
-    requires fits { length (stored_form d.now) ≤ length out.old }
-    ensures count { result ≡ length (stored_form d.now) }
-    ensures written { out.new ≡ over (stored_form d.now) out.old }
+pub fn put_form(device: &Device, out: &mut [u8]) -> usize
+    requires legal { IsLegal device.now }
+    requires fits { length (stored_form device.now) ≤ length out.old }
+    ensures count { result ≡ length (stored_form device.now) }
+    ensures written { out.new ≡ over (stored_form device.now) out.old }
 {
-    let mut writer = Writer::new(out);
-    form(&mut writer, d);
+    let mut writer = MemoryWriter::new(out);
+    form(&mut writer, device);
     writer.count()
 }
 
 /// The form of a record, from the start of lent memory; its length. Refused, in that order: `NotLegal`, and `NoRoom`
 /// for memory shorter than the form; then nothing is written.
 #[tactic(auto, using(crate::proofs::FormMost::stored_fits), unfolding(crate::specs::Form::stored_by))]
-pub fn store(d: &Device, out: &mut [u8]) -> Result<usize, Refusal>
-    ensures told { written_told refusal_number result ≡ told_written (stored_by d.now (length out.old)) }
-    ensures written { out.new ≡ over (stored_by d.now (length out.old)).bytes out.old }
+pub fn store(device: &Device, out: &mut [u8]) -> Result<usize, Refusal>
+    ensures told { written_told refusal_number result ≡ told_written (stored_by device.now (length out.old)) }
+    ensures written { out.new ≡ over (stored_by device.now (length out.old)).bytes out.old }
 {
-    if !d.is_legal() {
+    if !device.is_legal() {
         return Err(Refusal::NotLegal);
     }
-    if out.len() < FORM_MOST && out.len() < form_length(d) {
+    if out.len() < FORM_MOST && out.len() < form_length(device) {
         return Err(Refusal::NoRoom);
     }
-    Ok(put_form(d, out))
+    Ok(put_form(device, out))
 }

@@ -3,7 +3,7 @@
 ghost use Rattle.std.specs.Prelude.{◌≡◌, ◌<◌, ◌≤◌, ◌∷◌, ◌++◌, true, List, Bool, ℕ, length, take, replicate, Result};
 ghost use Rattle.std.specs.List.{list_all};
 ghost use Rattle.words.specs.Bytes.{◌at◌};
-ghost use Rattle.record.specs.Rules.{at_most};
+ghost use Rattle.record.specs.Rules.{is_at_most};
 ghost use Rattle.record.specs.Record.{start_device};
 ghost use Rattle.record.specs.Updates.{with_own, with_marks};
 ghost use Rattle.record.specs.Wanted.{Wanted};
@@ -49,11 +49,11 @@ pub fn what_is_stored_loads()
 /// Bytes that load are their version's form of what they loaded, each lamp enabled in the oldest, and no others of that
 /// version load as the same record.
 pub fn a_form_is_one()
-    ensures stored_again { (s : List ℕ) → list_all (at_most 255) s ≡ true → (loaded_from s).number ≡ 0
+    ensures stored_again { (s : List ℕ) → list_all (is_at_most 255) s ≡ true → (loaded_from s).number ≡ 0
         → version_form (s at 0) (stored_of (loaded_from s).device) (marks_stored (loaded_from s).device) ≡ s }
     ensures old_enabled { (s : List ℕ) → (loaded_from s).number ≡ 0 → s at 0 ≡ old_version
         → marks_stored (loaded_from s).device ≡ replicate (length (stored_of (loaded_from s).device).lamps) true }
-    ensures apart { (s t : List ℕ) → list_all (at_most 255) s ≡ true → list_all (at_most 255) t ≡ true
+    ensures apart { (s t : List ℕ) → list_all (is_at_most 255) s ≡ true → list_all (is_at_most 255) t ≡ true
         → (loaded_from s).number ≡ 0 → (loaded_from t).number ≡ 0 → s at 0 ≡ t at 0
         → (loaded_from s).device ≡ (loaded_from t).device → s ≡ t }
 {}

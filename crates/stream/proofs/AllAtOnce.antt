@@ -12,19 +12,19 @@ use Rattle.text.specs.Scans.{index_of}
 use Rattle.text.proofs.Choices.{if_yes, if_no, if_by}
 use Rattle.text.proofs.FlagsTold.{lowered_zero}
 use Rattle.text.proofs.Orders.{le_or_lt}
-use Rattle.record.specs.declared.types.Line.{Line}
+use Rattle.record.specs.declared.types.CollectedLine.{CollectedLine}
 use Rattle.stream.specs.Collecting.{overlong_line, collected_in, collected_all}
 use Rattle.stream.specs.Machine.{UpTo, one_later, up_to}
 
 -- one byte more: under the mark, past the limit, where there is room
-abbrev pub more : Line → ℕ → Line
+abbrev pub more : CollectedLine → ℕ → CollectedLine
 more l b = record { overlong = 0; held = l.held + 1; bytes = set l.bytes l.held b }
 
-module _ (left : List ℕ → List ℕ) (most : ℕ) (l : Line) (b : ℕ) where
-  abbrev pub past : Line
+module _ (left : List ℕ → List ℕ) (most : ℕ) (l : CollectedLine) (b : ℕ) where
+  abbrev pub past : CollectedLine
   past = record { overlong = 1; held = 0; bytes = left l.bytes }
 
-  pub collected_by : (P : Line → Type 0) → (is_raised l.overlong ≡ true → P l)
+  pub collected_by : (P : CollectedLine → Type 0) → (is_raised l.overlong ≡ true → P l)
       → (is_raised l.overlong ≡ false → most ≤ l.held → P past)
       → (is_raised l.overlong ≡ false → l.held < most → P (more l b))
       → P (collected_in left most l b)
@@ -46,26 +46,28 @@ module _ (left : List ℕ → List ℕ) (most : ℕ) (l : Line) (b : ℕ) where
 
 module _ (most : ℕ) where
   -- the mark stays
-  pub marked_stays : (l : Line) (bs : List ℕ) → is_raised l.overlong ≡ true → collected_all most l bs ≡ l
+  pub marked_stays : (l : CollectedLine) (bs : List ℕ) → is_raised l.overlong ≡ true → collected_all most l bs ≡ l
   marked_stays l [] e = refl
   marked_stays l (b ∷ bs) e = grind (arith, one_marked, marked_stays l bs e)
 
-  pub all_fit : (l : Line) (bs : List ℕ) → is_raised l.overlong ≡ false → l.held + length bs ≤ most
+  pub all_fit : (l : CollectedLine) (bs : List ℕ) → is_raised l.overlong ≡ false → l.held + length bs ≤ most
       → collected_all most l bs
       ≡ record { overlong = 0; held = l.held + length bs; bytes = sets l.bytes l.held bs }
   all_fit l [] e h =
       (λ i. record { overlong = lowered_zero l.overlong e i; held = sym (add-zero l.held) i; bytes = l.bytes })
   all_fit l (b ∷ bs) e h = grind (arith, one_fits, add-one, all_fit (more l b) bs refl (omega arith))
 
-  pub all_past : (l : Line) (bs : List ℕ) → is_raised l.overlong ≡ false → 1 ≤ length bs → most < l.held + length bs
+  pub all_past : (l : CollectedLine) (bs : List ℕ) → is_raised l.overlong ≡ false → 1 ≤ length bs
+      → most < l.held + length bs
       → collected_all most l bs ≡ overlong_line
   unfolding overlong_line
   all_past l [] e s h = absurd (omega arith)
   all_past l (b ∷ bs) e s h =
       ⊎_elim (λ (p : most ≤ l.held).
-      ap (λ (m : Line). collected_all most m bs) (one_past _ most l b e p) ∙ marked_stays overlong_line bs refl)
+      ap (λ (m : CollectedLine). collected_all most m bs) (one_past _ most l b e p)
+      ∙ marked_stays overlong_line bs refl)
       (λ (p : l.held < most).
-      ap (λ (m : Line). collected_all most m bs) (one_fits _ most l b e p)
+      ap (λ (m : CollectedLine). collected_all most m bs) (one_fits _ most l b e p)
       ∙ all_past (more l b) bs refl (omega arith) (omega arith))
       (le_or_lt most l.held)
 

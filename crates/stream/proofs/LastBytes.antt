@@ -10,7 +10,7 @@ use Rattle.text.specs.Flags.{is_raised}
 use Rattle.text.specs.Words.{◌is◌}
 use Rattle.text.proofs.Choices.{if_by}
 use Rattle.record.specs.Legal.{is_collecting, held_most}
-use Rattle.record.specs.declared.types.Line.{Line}
+use Rattle.record.specs.declared.types.CollectedLine.{CollectedLine}
 use Rattle.record.proofs.ConnectionTold.{held_most_room, marked_none}
 use Rattle.stream.specs.Machine.{UpTo, up_to}
 use Rattle.stream.specs.Collecting.{line_text, line_after, gathered_from}
@@ -37,10 +37,10 @@ ends_trans {w} {h} {k} e f = record {
 }
 
 -- a line that holds nothing
-pub held_none : (l : Line) → l.held ≡ 0 → line_text l ≡ []
+pub held_none : (l : CollectedLine) → l.held ≡ 0 → line_text l ≡ []
 held_none l e = ap (λ (n : ℕ). take n l.bytes) e
 
-pub ends_unheld : (w : List ℕ) (l : Line) → l.held ≡ 0 → Ends w (line_text l)
+pub ends_unheld : (w : List ℕ) (l : CollectedLine) → l.held ≡ 0 → Ends w (line_text l)
 ends_unheld w l e = record {
   before = w;
   split = sym (append-nil w)
@@ -48,10 +48,10 @@ ends_unheld w l e = record {
 }
 
 -- a legal line under the mark holds nothing
-overlong_unheld : (phase : ℕ) (l : Line) → LegalLine phase l → is_raised l.overlong ≡ true → l.held ≡ 0
+overlong_unheld : (phase : ℕ) (l : CollectedLine) → LegalLine phase l → is_raised l.overlong ≡ true → l.held ≡ 0
 overlong_unheld phase l p e = grind (arith, marked_none)
 
-one_more_ends : (phase : ℕ) (l : Line) (b : ℕ) → LegalLine phase l
+one_more_ends : (phase : ℕ) (l : CollectedLine) (b : ℕ) → LegalLine phase l
     → Ends (line_text l ++ (b ∷ [])) (line_text (line_after (held_most phase) l b))
 one_more_ends phase l b p =
     let most = held_most_room phase in
@@ -65,13 +65,13 @@ one_more_ends phase l b p =
     })
 
 -- what is gathered ends what was held and what is taken before CR
-pub gathered_ends : (phase : ℕ) (l : Line) (bs : List ℕ) → is_collecting phase ≡ true → LegalLine phase l
+pub gathered_ends : (phase : ℕ) (l : CollectedLine) (bs : List ℕ) → is_collecting phase ≡ true → LegalLine phase l
     → let g = gathered_from (held_most phase) l bs in
     Ends (line_text l ++ take g.before bs) (line_text g.line)
 unfolding gathered_from up_to
 gathered_ends phase l [] c p = record { before = []; split = append-nil (line_text l) }
 gathered_ends phase l (b ∷ bs) c p =
-    if_by (λ (g : UpTo Line). Ends (line_text l ++ take g.before (b ∷ bs)) (line_text g.line)) (b is "\r")
+    if_by (λ (g : UpTo CollectedLine). Ends (line_text l ++ take g.before (b ∷ bs)) (line_text g.line)) (b is "\r")
     (λ cr. record { before = []; split = append-nil (line_text l) }) (λ n.
     let k = line_after (held_most phase) l b in
     let taken = take (gathered_from (held_most phase) k bs).before bs in
@@ -80,7 +80,7 @@ gathered_ends phase l (b ∷ bs) c p =
     (gathered_ends phase k bs c (collected_legal phase l b c (eqb-false b (code "\r") n) p))))
 
 -- with CR, one byte more is taken
-pub taken_with_cr : (most : ℕ) (l : Line) (bs : List ℕ) → let g = gathered_from most l bs in
+pub taken_with_cr : (most : ℕ) (l : CollectedLine) (bs : List ℕ) → let g = gathered_from most l bs in
     g.ended ≡ true → take (g.before + 1) bs ≡ take g.before bs ++ (code "\r" ∷ [])
 unfolding gathered_from
 taken_with_cr most l bs =

@@ -9,12 +9,12 @@ use Rattle.text.specs.Flags.{is_raised}
 use Rattle.text.proofs.Choices.{both, both_right}
 use Rattle.text.proofs.FlagsTold.{lowered_zero}
 use Rattle.text.proofs.Scanning.{list_all-append}
-use Rattle.words.specs.Bytes.{no_cr}
+use Rattle.words.specs.Bytes.{is_cr_free}
 use Rattle.words.proofs.Characters.{no_cr_of, no_cr_each}
 use Rattle.record.specs.Limits.{line_room}
 use Rattle.record.specs.Record.{zeros}
 use Rattle.record.specs.Legal.{is_zero, is_collecting, held_most, is_held}
-use Rattle.record.specs.declared.types.Line.{Line}
+use Rattle.record.specs.declared.types.CollectedLine.{CollectedLine}
 use Rattle.record.proofs.Kept.{nothing_kept, one_more_kept}
 use Rattle.record.proofs.ConnectionTold.{held_most_room, unmarked_held, marked_held}
 use Rattle.record.specs.Facts.{Fills}
@@ -23,8 +23,8 @@ use Rattle.stream.proofs.UpToTheEnd.{up_to_keeps}
 use Rattle.stream.proofs.AllAtOnce.{collected_by}
 
 -- the line's part of a legal connection
-pub record LegalLine (phase : ℕ) (l : Line) : Type 0 where
-  pub kept : Fills line_room no_cr l.bytes l.held
+pub record LegalLine (phase : ℕ) (l : CollectedLine) : Type 0 where
+  pub kept : Fills line_room is_cr_free l.bytes l.held
   pub flag : l.overlong ≤ 1
   pub held : is_held phase (is_raised l.overlong) l.held ≡ true
 
@@ -35,29 +35,29 @@ empty_legal phase = grind (arith, nothing_kept, no_cr_of, unmarked_held)
 overlong_legal : (phase : ℕ) → is_collecting phase ≡ true → LegalLine phase overlong_line
 unfolding overlong_line
 overlong_legal phase e = record {
-  kept = nothing_kept line_room no_cr (no_cr_of [] refl);
+  kept = nothing_kept line_room is_cr_free (no_cr_of [] refl);
   flag = omega arith;
   held = marked_held phase e;
 }
 
-no_cr_more : (s : List ℕ) (b : ℕ) → no_cr s ≡ true → (b ≡ code "\r" → ⊥) → no_cr (s ++ (b ∷ [])) ≡ true
+no_cr_more : (s : List ℕ) (b : ℕ) → is_cr_free s ≡ true → (b ≡ code "\r" → ⊥) → is_cr_free (s ++ (b ∷ [])) ≡ true
 no_cr_more s b e n = grind (arith, no_cr_of, list_all-append, no_cr_each, both, ne_eqb)
 
-pub collected_legal : (phase : ℕ) (l : Line) (b : ℕ) → is_collecting phase ≡ true → (b ≡ code "\r" → ⊥)
+pub collected_legal : (phase : ℕ) (l : CollectedLine) (b : ℕ) → is_collecting phase ≡ true → (b ≡ code "\r" → ⊥)
     → LegalLine phase l → LegalLine phase (line_after (held_most phase) l b)
 unfolding overlong_line
 collected_legal phase l b e n p =
     collected_by _ (held_most phase) l b (LegalLine phase) (λ marked. p) (λ u full. overlong_legal phase e) (λ u room.
     let most = held_most_room phase in
     record {
-      kept = one_more_kept line_room no_cr l.bytes l.held b p.kept (omega arith)
+      kept = one_more_kept line_room is_cr_free l.bytes l.held b p.kept (omega arith)
           (no_cr_more (take l.held l.bytes) b p.kept.follows n);
       flag = omega arith;
       held = unmarked_held phase (l.held + 1) (omega arith);
     })
 
 -- and so does gathering
-pub gathered_legal : (phase : ℕ) (l : Line) (bs : List ℕ) → is_collecting phase ≡ true → LegalLine phase l
+pub gathered_legal : (phase : ℕ) (l : CollectedLine) (bs : List ℕ) → is_collecting phase ≡ true → LegalLine phase l
     → LegalLine phase (gathered_from (held_most phase) l bs).line
 unfolding gathered_from
 gathered_legal phase l bs e p =
@@ -69,7 +69,7 @@ zeros_by : (s : List ℕ) → list_all is_zero s ≡ true → s ≡ zeros (lengt
 zeros_by [] e = refl
 zeros_by (x ∷ s) e = grind (arith, zeros_by s (both_right (is_zero x) (list_all is_zero s) e))
 
-pub between_lines : (phase : ℕ) (l : Line) → LegalLine phase l → is_raised l.overlong ≡ false → l.held ≡ 0
+pub between_lines : (phase : ℕ) (l : CollectedLine) → LegalLine phase l → is_raised l.overlong ≡ false → l.held ≡ 0
     → l ≡ empty_line
 unfolding empty_line
 between_lines phase l p unmarked none =

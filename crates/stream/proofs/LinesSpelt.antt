@@ -4,7 +4,7 @@ use Rattle.std.proofs.Common.{ℕ, ◌≡◌, refl, false, true, List, [], ◌�
 use Rattle.text.specs.Flags.{is_raised}
 use Rattle.record.specs.Limits.{line_room}
 use Rattle.record.specs.Record.{zeros}
-use Rattle.record.specs.declared.types.Line.{Line}
+use Rattle.record.specs.declared.types.CollectedLine.{CollectedLine}
 use Rattle.stream.specs.Collecting.{empty_line, overlong_line, gathered_from}
 use Rattle.stream.specs.Machine.{Out, without_reply, reply_then, up_to, one_step, run_over}
 
@@ -20,7 +20,8 @@ pub overlong_marked : is_raised overlong_line.overlong ≡ true
 unfolding overlong_line
 overlong_marked = refl
 
-pub gathered_none : (most : ℕ) (l : Line) → gathered_from most l [] ≡ record { line = l; before = 0; ended = false }
+pub gathered_none : (most : ℕ) (l : CollectedLine) → gathered_from most l []
+    ≡ record { line = l; before = 0; ended = false }
 unfolding gathered_from up_to
 gathered_none most l = refl
 

@@ -4,7 +4,7 @@ use Rattle.std.proofs.Common.{arith, ◌≡◌, true, List, ◌∷◌, ◌++◌,
 use Rattle.std.specs.List.{list_all}
 use mathlib.Core.List.{foldl}
 use Prim.Native.Char.{code}
-use Rattle.record.specs.declared.types.Line.{Line}
+use Rattle.record.specs.declared.types.CollectedLine.{CollectedLine}
 use Rattle.stream.specs.Collecting.{Gathered}
 use Rattle.stream.specs.Collecting.{line_after, gathered_from}
 use Rattle.stream.specs.Machine.{Out, Took, up_to, without_reply, took_bytes, call_of, one_call}
@@ -30,13 +30,14 @@ module _ (end : ℕ) (D : Type 0) (collect : D → ℕ → D) (ends : D → Out 
   call_by d bs P none line = up_to_by end collect d bs (λ l g. P l (call_of (λ (x : D). x) ends g)) none line
 
 -- the same for a line that CR ends
-abbrev pub finished : {D : Type 0} → (Line → D) → (Line → Out D) → Gathered → Took D
+abbrev pub finished : {D : Type 0} → (CollectedLine → D) → (CollectedLine → Out D) → Gathered → Took D
 finished keep ending g = call_of keep ending (record { line = g.line; before = g.before; ended = g.ended })
 
-module _ (D : Type 0) (collects : D → ℕ → D) (ends : D → Out D) (most : ℕ) (keep : Line → D) (ending : Line → Out D)
-    (is-collect : (l : Line) (b : ℕ) → collects (keep l) b ≡ keep (line_after most l b))
-    (is-end : (l : Line) → ends (keep l) ≡ ending l) where
-  pub call_finishes : (l : Line) (bs : List ℕ)
+module _ (D : Type 0) (collects : D → ℕ → D) (ends : D → Out D) (most : ℕ) (keep : CollectedLine → D)
+    (ending : CollectedLine → Out D)
+    (is-collect : (l : CollectedLine) (b : ℕ) → collects (keep l) b ≡ keep (line_after most l b))
+    (is-end : (l : CollectedLine) → ends (keep l) ≡ ending l) where
+  pub call_finishes : (l : CollectedLine) (bs : List ℕ)
       → one_call (code "\r") D collects ends (keep l) bs ≡ finished keep ending (gathered_from most l bs)
   unfolding gathered_from
   call_finishes = call_gathers (code "\r") (line_after most) collects ends keep ending is-collect is-end

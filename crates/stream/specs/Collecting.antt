@@ -17,35 +17,35 @@ use mathlib.Core.List.{foldl}
 use Rattle.text.specs.Flags.{is_raised}
 use Rattle.record.specs.Limits.{line_room}
 use Rattle.record.specs.Record.{zeros, in_room}
-use Rattle.record.specs.declared.types.Line.{Line}
+use Rattle.record.specs.declared.types.CollectedLine.{CollectedLine}
 use Rattle.stream.specs.Machine.{UpTo, up_to}
 
-abbrev pub line_of : List ℕ → Line
+abbrev pub line_of : List ℕ → CollectedLine
 line_of xs = record { overlong = 0; held = length xs; bytes = in_room line_room xs }
 
-abbrev pub line_text : Line → List ℕ
+abbrev pub line_text : CollectedLine → List ℕ
 line_text l = take l.held l.bytes
 
-unfoldable pub empty_line : Line
+unfoldable pub empty_line : CollectedLine
 empty_line = record { overlong = 0; held = 0; bytes = zeros line_room }
 
-unfoldable pub overlong_line : Line
+unfoldable pub overlong_line : CollectedLine
 overlong_line = record { overlong = 1; held = 0; bytes = zeros line_room }
 
-unfoldable pub collected_in : (List ℕ → List ℕ) → ℕ → Line → ℕ → Line
+unfoldable pub collected_in : (List ℕ → List ℕ) → ℕ → CollectedLine → ℕ → CollectedLine
 collected_in left most l b =
     if is_raised l.overlong then l
     else if nat_le most l.held then record { overlong = 1; held = 0; bytes = left l.bytes }
     else record { overlong = 0; held = l.held + 1; bytes = set l.bytes l.held b }
 
-abbrev pub line_after : ℕ → Line → ℕ → Line
+abbrev pub line_after : ℕ → CollectedLine → ℕ → CollectedLine
 line_after most l b = collected_in (λ (m : List ℕ). zeros line_room) most l b
 
-abbrev pub collected_all : ℕ → Line → List ℕ → Line
+abbrev pub collected_all : ℕ → CollectedLine → List ℕ → CollectedLine
 collected_all most l bs = foldl (line_after most) l bs
 
 abbrev pub Gathered : Type 0
-Gathered = UpTo Line
+Gathered = UpTo CollectedLine
 
-unfoldable pub gathered_from : ℕ → Line → List ℕ → Gathered
+unfoldable pub gathered_from : ℕ → CollectedLine → List ℕ → Gathered
 gathered_from most l bs = up_to (code "\r") (line_after most) l bs

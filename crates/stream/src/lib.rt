@@ -7,7 +7,7 @@ ghost use Rattle.record.specs.Legal.{held_most};
 ghost use Rattle.record.specs.Views.{phase_number};
 ghost use Rattle.stream.specs.Collecting.{collected_all, gathered_from};
 
-use record::types::{LINE_ROOM, Line};
+use record::types::{CollectedLine, LINE_ROOM};
 use record::views::Phase;
 use text::flag;
 
@@ -22,14 +22,14 @@ pub struct Passed {
 }
 
 // The line that got longer than the phase allows: only its mark is kept.
-const OVERLONG: Line = Line {
+const OVERLONG: CollectedLine = CollectedLine {
     overlong: 1,
     held: 0,
     bytes: [0; LINE_ROOM],
 };
 
 // The bytes `more`, none of them CR, after those collected; or the overlong mark where there is no room for them all.
-fn collect(most: usize, l: &mut Line, more: &[u8])
+fn collect(most: usize, l: &mut CollectedLine, more: &[u8])
     requires { most ≤ line_room }
     ensures { l.new ≡ collected_all most l.old more.now }
 {
@@ -53,13 +53,13 @@ fn collect(most: usize, l: &mut Line, more: &[u8])
 }
 
 /// Collects the bytes up to the first CR in the line, as the phase allows.
-pub fn gather(phase: Phase, l: &mut Line, bytes: &[u8]) -> Passed
-    ensures line { l.new ≡ (gathered_from (held_most (phase_number phase)) l.old bytes.now).line }
-    ensures before { result.before ≡ (gathered_from (held_most (phase_number phase)) l.old bytes.now).before }
-    ensures ended { result.ended ≡ (gathered_from (held_most (phase_number phase)) l.old bytes.now).ended }
+pub fn gather(phase: Phase, line: &mut CollectedLine, bytes: &[u8]) -> Passed
+    ensures line { line.new ≡ (gathered_from (held_most (phase_number phase)) line.old bytes.now).line }
+    ensures before { result.before ≡ (gathered_from (held_most (phase_number phase)) line.old bytes.now).before }
+    ensures ended { result.ended ≡ (gathered_from (held_most (phase_number phase)) line.old bytes.now).ended }
 {
     let before = text::find(bytes, b'\r');
-    collect(phase.held_most(), l, &bytes[0..before]);
+    collect(phase.held_most(), line, &bytes[0..before]);
     Passed {
         before,
         ended: before < bytes.len(),

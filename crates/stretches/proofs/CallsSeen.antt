@@ -19,13 +19,14 @@ use Rattle.record.specs.declared.types.Device.{Device}
 use Rattle.record.proofs.Calls.{mark_set_by}
 use Rattle.clock.proofs.Cases.{passed_accepted}
 use Rattle.ours.specs.Board.{ours}
-use Rattle.demands.specs.Calls.{Call, opens, closes, receives, passes, marks, reports, enables}
-use Rattle.demands.specs.History.{Event, switched, a_second, mark_switched, Streams, seen, Stage, steady, streams_after}
+use Rattle.demands.specs.Calls.{Call, opens, closes, receives, passes, faults, reports, enables}
+use Rattle.demands.specs.History.{HistoryEvent, switched, a_second, mark_switched, Streams, seen, Stage, steady}
+use Rattle.demands.specs.History.{streams_after}
 use Rattle.demands.proofs.Agrees.{power_of, Agrees}
 use Rattle.demands.proofs.HistoryTold.{one_or_none}
 use Rattle.watch.specs.CallSteps.{seconds_of_call}
 
-pub data Seen (g : Stage) (n : ℕ) : List Event → Type 0 where
+pub data Seen (g : Stage) (n : ℕ) : List HistoryEvent → Type 0 where
   nothing : n ≡ 0 → Seen g n []
   time : Seen g n (replicate n a_second)
   power : (wanted : Bool) → n ≡ 0 → Seen g n (switched wanted ∷ [])
@@ -39,7 +40,7 @@ module _ (w : Wanted) (g : Stage) (ms : List Bool) (n : ℕ → ℕ) (stream : S
   pub seen_of_call : (c : Call) → Seen g (seconds_of_call c) (seen ours d (streams_after ours d stream c) c)
   seen_of_call (opens r m) = nothing refl
   seen_of_call (closes p) = nothing refl
-  seen_of_call (marks m) = nothing refl
+  seen_of_call (faults m) = nothing refl
   seen_of_call (reports ds) = nothing refl
   seen_of_call (receives p bs m) =
       if_all (Seen g 0) _ (one_or_none (Seen g 0) _ _ (nothing refl) (λ wanted. power wanted refl)) (nothing refl)

@@ -11,7 +11,7 @@ use Rattle.record.proofs.Started.{started_legal, set_up_started}
 use Rattle.stored.proofs.Results.{accepted_legal}
 use Rattle.ours.specs.Board.{ours}
 use Rattle.demands.specs.Calls.{Call}
-use Rattle.demands.specs.History.{Event, Streams, history, Stage, stage_is_burning, stage_from, marks_after}
+use Rattle.demands.specs.History.{HistoryEvent, Streams, history, Stage, is_burning_stage, stage_from, marks_after}
 use Rattle.demands.specs.History.{streams_after, seen}
 use Rattle.demands.specs.CountsSeconds.{Beginning, start_marks, begun_by, IsAccepted, history_of}
 use Rattle.demands.proofs.Agrees.{Agrees, lit_shown, Then}
@@ -32,12 +32,12 @@ use Rattle.stretches.proofs.StepTells.{one_is, by_seen}
 
 module _ (w : Wanted) (k : ℕ) (inside : k < length w.lamps) where
   burning_known : {g : Stage} {ms : List Bool} {n : ℕ → ℕ} {stream : Streams} {d : Device}
-      → Agrees w g ms n stream d → is_burning_in d ≡ stage_is_burning g
+      → Agrees w g ms n stream d → is_burning_in d ≡ is_burning_stage g
   burning_known {g} a = ap is_lit a.power ∙ lit_shown g
 
   -- the state of the watch, told by the outsider's clock and marks
   step_told : (s : Watching) (e : Step) {g : Stage} {ms : List Bool} {n : ℕ → ℕ} {stream now : Streams}
-      (xs ys : List Event) → Agrees w g ms n stream s.device → Then w g ms n xs now e.device
+      (xs ys : List HistoryEvent) → Agrees w g ms n stream s.device → Then w g ms n xs now e.device
       → Seen g e.seconds xs → s.from ≤ s.time
       → let t = watched_on s e in
       stretch_if (is_burning_in s.device && not (is_burning_in t.device) && is_marked_in t.device k

@@ -5,8 +5,9 @@
 use Rattle.std.proofs.Common.{ℕ, zero, suc, ◌+◌, ◌≤◌, ◌≡◌, refl, sym, ap, Bool, true, false, ◌&&◌, List, []}
 use Rattle.std.proofs.Common.{◌∷◌, ◌++◌, add-zero, arith, replicate, nat_lt}
 use Rattle.record.specs.Wanted.{Wanted}
-use Rattle.demands.specs.History.{Event, switched, a_second, mark_switched, Stage, towards, next_stage, marks_next}
-use Rattle.demands.specs.History.{stage_is_burning, stage_from}
+use Rattle.demands.specs.History.{HistoryEvent, switched, a_second, mark_switched, Stage, towards, next_stage}
+use Rattle.demands.specs.History.{marks_next}
+use Rattle.demands.specs.History.{is_burning_stage, stage_from}
 use Rattle.stretches.specs.Stretches.{Stretch, stretch_if, stretches_from, is_lit_then, seconds_lit_from}
 
 abbrev pub joined : Bool → ℕ → ℕ → List Bool → List Stretch
@@ -35,19 +36,19 @@ ends_here lit f t ls h = grind arith
 -- ---- the outsider's seconds
 
 -- while it cools nothing is lit
-pub cooling_dim : (w : Wanted) (ms : List Bool) (k n : ℕ) (es : List Event)
+pub cooling_dim : (w : Wanted) (ms : List Bool) (k n : ℕ) (es : List HistoryEvent)
     → Dim (seconds_lit_from w (towards false n) ms k es)
 cooling_dim w ms k n [] = tt
 cooling_dim w ms k n (a_second ∷ es) = refl
 cooling_dim w ms k n (switched wanted ∷ es) = cooling_dim w ms k n es
 cooling_dim w ms k n (mark_switched lamp mark ∷ es) = cooling_dim w (marks_next ms (mark_switched lamp mark)) k n es
 
-pub stage_is_burning-stage_from : (n : ℕ) (w : Wanted) (g : Stage) →
-    stage_is_burning (stage_from w g (replicate n a_second)) ≡ stage_is_burning g
-stage_is_burning-stage_from zero w g = refl
-stage_is_burning-stage_from (suc n) w g = grind (arith, stage_is_burning-stage_from n w (next_stage w g a_second))
+pub is_burning_stage-stage_from : (n : ℕ) (w : Wanted) (g : Stage) →
+    is_burning_stage (stage_from w g (replicate n a_second)) ≡ is_burning_stage g
+is_burning_stage-stage_from zero w g = refl
+is_burning_stage-stage_from (suc n) w g = grind (arith, is_burning_stage-stage_from n w (next_stage w g a_second))
 
-pub seconds_lit_from-append : (n : ℕ) (w : Wanted) (g : Stage) (ms : List Bool) (k : ℕ) (es : List Event)
+pub seconds_lit_from-append : (n : ℕ) (w : Wanted) (g : Stage) (ms : List Bool) (k : ℕ) (es : List HistoryEvent)
     → seconds_lit_from w g ms k (replicate n a_second ++ es)
     ≡ replicate n (is_lit_then g ms k) ++ seconds_lit_from w (stage_from w g (replicate n a_second)) ms k es
 seconds_lit_from-append zero w g ms k es = refl

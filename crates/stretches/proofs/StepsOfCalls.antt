@@ -6,7 +6,7 @@ use Rattle.std.proofs.Common.{ℕ, ◌≡◌, refl, sym, ap, subst, ◌∙◌, B
 use Rattle.std.proofs.lemmas.List.{length-replicate}
 use Rattle.text.proofs.Choices.{if_yes, if_no}
 use Rattle.record.specs.Legal.{is_legal}
-use Rattle.record.specs.Places.{connection_at, is_shut}
+use Rattle.record.specs.Places.{connection_at, is_closed}
 use Rattle.record.specs.declared.types.Device.{Device}
 use Rattle.device.specs.Calls.{Result, reply_room, received_at, opened_by}
 use Rattle.floorlog.specs.Events.{opens, receives, passes, closes, no_such}
@@ -16,10 +16,10 @@ use Rattle.ours.specs.Board.{ours}
 use Rattle.demands.specs.Calls.{Call, after, run, opens as opens_at}
 use Rattle.history.specs.Entries.{LogEntry, header, call, stated}
 use Rattle.recorded.specs.Playing.{reply_memory, played_call, entry_calls}
-use Rattle.watch.specs.Marking.{FloorEvent, logged, marked, done_by, seconds_by, floor_step, floor_steps}
+use Rattle.watch.specs.Marking.{WatchedLogEvent, logged, marked, done_by, seconds_by, floor_step, floor_steps}
 use Rattle.watch.specs.CallSteps.{seconds_of_call, call_step, call_steps, still_step, entry_steps}
 use Rattle.watch.specs.Watching.{Step, Watching, watched_on}
-use Rattle.watch.specs.Telling.{Telling, told_on, tellings, after_log}
+use Rattle.watch.specs.Telling.{LitStretch, told_on, lit_stretches, after_log}
 use Rattle.watch.proofs.DoneSpelt.{done_opening, done_receiving, done_passing, done_closing, done_nothing, done_marking}
 use Rattle.watch.proofs.LineLeaves.{done_legal}
 use Rattle.watch.proofs.TellingsSpelt.{tellings_more, after_none, after_more, still_leaves, still_tells}
@@ -34,17 +34,17 @@ pub data StepsOf : Device → List Step → List Call → Type 0 where
 -- ---- they tell and leave the same
 
 pub same_told : {es : List Step} {cs : List Call} (s : Watching) → StepsOf s.device es cs
-    → tellings s es ≡ tellings s (call_steps s.device cs)
+    → lit_stretches s es ≡ lit_stretches s (call_steps s.device cs)
 same_told s no_step = refl
 same_told s (no_call {es = es} more) =
     tellings_more s (still_step s.device) es
-    ∙ ap (λ (ts : List Telling). ts ++ tellings (watched_on s (still_step s.device)) es) (still_tells s)
-    ∙ ap (λ (t : Watching). tellings t es) (still_leaves s)
+    ∙ ap (λ (ts : List LitStretch). ts ++ lit_stretches (watched_on s (still_step s.device)) es) (still_tells s)
+    ∙ ap (λ (t : Watching). lit_stretches t es) (still_leaves s)
     ∙ same_told s more
 same_told s (a_call {es = es} {cs = cs} c more) =
     let e = call_step s.device c in
     tellings_more s e es
-    ∙ ap (λ (ts : List Telling). told_on s e ++ ts) (same_told (watched_on s e) more)
+    ∙ ap (λ (ts : List LitStretch). told_on s e ++ ts) (same_told (watched_on s e) more)
     ∙ sym (tellings_more s e (call_steps e.device cs))
 
 pub same_left : {es : List Step} {cs : List Call} (s : Watching) → StepsOf s.device es cs
@@ -80,7 +80,7 @@ memory_long : length reply_memory ≡ reply_room
 memory_long = length-replicate {A = ℕ} reply_room 0
 
 -- one event, before others that are steps
-module _ (d : Device) {es : List Step} {cs : List Call} (e : FloorEvent) (more : StepsOf (done_by d e) es cs) where
+module _ (d : Device) {es : List Step} {cs : List Call} (e : WatchedLogEvent) (more : StepsOf (done_by d e) es cs) where
   abbrev Here : Type 0
   Here = StepsOf d (floor_step d e ∷ es) (calls_by d e ++ cs)
 
@@ -96,11 +96,11 @@ module _ (d : Device) {es : List Step} {cs : List Call} (e : FloorEvent) (more :
       (subst (λ (f : Step). StepsOf d (f ∷ es) (c ∷ cs)) (λ i. record { device = leaves i; seconds = passed i })
       (a_call c (subst (λ (k : Device). StepsOf k es cs) (sym leaves) more)))
 
-event_step : (d : Device) → is_legal d ≡ true → {es : List Step} {cs : List Call} (e : FloorEvent)
+event_step : (d : Device) → is_legal d ≡ true → {es : List Step} {cs : List Call} (e : WatchedLogEvent)
     → StepsOf (done_by d e) es cs → StepsOf d (floor_step d e ∷ es) (calls_by d e ++ cs)
-event_step d legal {es} {cs} (logged (opens r)) more = by (is_shut (connection_at d log_place)) refl
+event_step d legal {es} {cs} (logged (opens r)) more = by (is_closed (connection_at d log_place)) refl
   where
-    by : (t : Bool) → is_shut (connection_at d log_place) ≡ t → Here d (logged (opens r)) more
+    by : (t : Bool) → is_closed (connection_at d log_place) ≡ t → Here d (logged (opens r)) more
     by true e =
         called d (logged (opens r)) more (opens_at r reply_memory) (if_yes _ _ e)
         (ap (λ (n : ℕ). (opened_by d r n).device) memory_long
@@ -117,7 +117,7 @@ event_step d legal (logged closes) more = called d (logged closes) more _ refl (
 event_step d legal (logged no_such) more = quiet d (logged no_such) more refl (done_nothing d) refl
 event_step d legal (marked lamp to) more = called d (marked lamp to) more _ refl (sym (done_marking d lamp to)) refl
 
-pub events_are_steps : (es : List FloorEvent) (d : Device) → is_legal d ≡ true
+pub events_are_steps : (es : List WatchedLogEvent) (d : Device) → is_legal d ≡ true
     → StepsOf d (floor_steps d es) (calls_of d es)
 events_are_steps [] d legal = no_step
 events_are_steps (e ∷ es) d legal = event_step d legal e (events_are_steps es (done_by d e) (done_legal d legal e))

@@ -13,7 +13,7 @@ use Rattle.demands.specs.Calls.{Call, after, run}
 use Rattle.demands.proofs.CallsDo.{settings_stay}
 use Rattle.demands.specs.CountsSeconds.{Beginning, start_marks, begun_by, IsAccepted, history_of}
 use Rattle.demands.proofs.CountsSeconds.{ours_counts_seconds}
-use Rattle.demands.specs.History.{Event, no_streams, steady}
+use Rattle.demands.specs.History.{HistoryEvent, no_streams, steady}
 use Rattle.demands.proofs.Agrees.{Agrees}
 use Rattle.demands.proofs.HistoryTold.{begun_agrees}
 use Rattle.history.specs.Calls.{LogCall}
@@ -23,7 +23,7 @@ use Rattle.recorded.specs.Playing.{played_call, entry_calls}
 use Rattle.recorded.proofs.Histories.{history_back}
 use Rattle.watch.specs.CallSteps.{entry_steps}
 use Rattle.watch.specs.Watching.{Step, Watching, watching_from, burnt_by}
-use Rattle.watch.specs.Telling.{Telling, floor_events, log_steps}
+use Rattle.watch.specs.Telling.{LitStretch, floor_events, log_steps}
 use Rattle.stretches.specs.Stretches.{StretchesTell}
 use Rattle.stretches.specs.LogTold.{calls_of, stretches_in, StepsTold, log_history}
 use Rattle.stretches.proofs.StepsOfCalls.{StepsOf, same_told, same_left, calls_leave, entries_are_steps}
@@ -60,7 +60,7 @@ module _ (b : Beginning) (w : Wanted) (h : IsAccepted ours b w) where
             ∙ ap (λ (q : Settings). q.lamp_count) (run_settings cs begun)
             ∙ counted;
         stretches = λ k inside.
-            subst (λ (ts : List Telling). StretchesTell w (start_marks b w) k (history_of ours b w cs)
+            subst (λ (ts : List LitStretch). StretchesTell w (start_marks b w) k (history_of ours b w cs)
             (stretches_in k ts)) (sym told)
             (call_stretches_tell b w h k inside cs);
         burnt = λ k inside.
@@ -81,6 +81,6 @@ module _ (b : Beginning) (w : Wanted) (h : IsAccepted ours b w) where
       → StepsTold b w (history_of ours b w cs) (entry_steps begun es)
   entries_watched cs es same =
       let made = map played_call (entry_calls es) in
-      subst (λ (hs : List Event). StepsTold b w hs (entry_steps begun es))
+      subst (λ (hs : List HistoryEvent). StepsTold b w hs (entry_steps begun es))
       (ap (λ (ls : List LogCall). history_of ours b w (map played_call ls)) same ∙ history_back begun no_streams cs)
       (steps_told made (entries_are_steps es begun))

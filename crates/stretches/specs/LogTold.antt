@@ -13,7 +13,7 @@
 -- Assumes nothing.
 use Rattle.std.specs.Prelude.{ℕ, ◌<◌, ◌≡◌, Bool, false, List, [], ◌∷◌, ◌++◌, length, if◌then◌else◌, slice_index_or}
 use Rattle.record.specs.Views.{marks_seen}
-use Rattle.record.specs.Places.{connection_at, is_shut}
+use Rattle.record.specs.Places.{connection_at, is_closed}
 use Rattle.record.specs.Wanted.{Wanted}
 use Rattle.record.specs.declared.types.Device.{Device}
 use Rattle.floorlog.specs.Events.{opens, receives, passes, closes, no_such}
@@ -22,43 +22,43 @@ use Rattle.ours.specs.Board.{ours}
 use Rattle.demands.specs.Calls.{Call, opens as opens_at, receives as receivesAt, passes as passesBy}
 use Rattle.demands.specs.Calls.{closes as closes_at, enables}
 use Rattle.demands.specs.CountsSeconds.{Beginning, IsAccepted, start_marks, begun_by, history_of}
-use Rattle.demands.specs.History.{Event, burning_seconds, lamp_with}
+use Rattle.demands.specs.History.{HistoryEvent, burning_seconds, lamp_with}
 use Rattle.history.specs.Entries.{LogEntry}
 use Rattle.recorded.specs.Playing.{reply_memory, entry_calls}
 use Rattle.recorded.specs.Recorded.{recorded}
-use Rattle.watch.specs.Marking.{FloorEvent, logged, marked, done_by}
+use Rattle.watch.specs.Marking.{WatchedLogEvent, logged, marked, done_by}
 use Rattle.watch.specs.CallSteps.{entry_steps}
 use Rattle.watch.specs.Watching.{Step, Watching, watching_from}
-use Rattle.watch.specs.Telling.{floor_events, log_steps, Telling, tellings, after_log, burnt_after}
+use Rattle.watch.specs.Telling.{floor_events, log_steps, LitStretch, lit_stretches, after_log, burnt_after}
 use Rattle.stretches.specs.Stretches.{Stretch, stretch_if, StretchesTell}
 
-abbrev pub calls_by : Device → FloorEvent → List Call
-calls_by d (logged (opens r)) = if is_shut (connection_at d log_place) then opens_at r reply_memory ∷ [] else []
+abbrev pub calls_by : Device → WatchedLogEvent → List Call
+calls_by d (logged (opens r)) = if is_closed (connection_at d log_place) then opens_at r reply_memory ∷ [] else []
 calls_by d (logged (receives bs)) = receivesAt log_place bs reply_memory ∷ []
 calls_by d (logged (passes n)) = passesBy n ∷ []
 calls_by d (logged closes) = closes_at log_place ∷ []
 calls_by d (logged no_such) = []
 calls_by d (marked lamp mark) = enables lamp mark ∷ []
 
-abbrev pub calls_of : Device → List FloorEvent → List Call
+abbrev pub calls_of : Device → List WatchedLogEvent → List Call
 calls_of d [] = []
 calls_of d (e ∷ es) = calls_by d e ++ calls_of (done_by d e) es
 
 abbrev pub is_marked_in : Device → ℕ → Bool
 is_marked_in d k = slice_index_or (marks_seen d.own) k false
 
-abbrev pub stretches_in : ℕ → List Telling → List Stretch
+abbrev pub stretches_in : ℕ → List LitStretch → List Stretch
 stretches_in k [] = []
 stretches_in k (t ∷ ts) = stretch_if (is_marked_in t.device k) t.from t.to ++ stretches_in k ts
 
 abbrev pub told_of : ℕ → Watching → List Step → List Stretch
-told_of k s es = stretches_in k (tellings s es)
+told_of k s es = stretches_in k (lit_stretches s es)
 
 abbrev pub burnt_of : ℕ → Watching → List Step → ℕ
 burnt_of k s es = slice_index_or (burnt_after s es) k 0
 
 -- however a history begins, with a set-up or with a stored form that loads
-pub record StepsTold (b : Beginning) (w : Wanted) (hs : List Event) (es : List Step) : Type 0 where
+pub record StepsTold (b : Beginning) (w : Wanted) (hs : List HistoryEvent) (es : List Step) : Type 0 where
   -- each lamp is told of
   pub count : (after_log (watching_from (begun_by ours b w).device) es).device.settings.lamp_count ≡ length w.lamps
   -- of each lamp its stretches in the history
@@ -73,7 +73,7 @@ pub record StepsTold (b : Beginning) (w : Wanted) (hs : List Event) (es : List S
       ≡ lamp_with (burning_seconds w (start_marks b w) k hs) (slice_index_or w.lamps k 0)
 
 -- what someone outside sees of a log of the first kind
-abbrev pub log_history : Beginning → Wanted → List ℕ → List Event
+abbrev pub log_history : Beginning → Wanted → List ℕ → List HistoryEvent
 log_history b w log = history_of ours b w (calls_of (begun_by ours b w).device (floor_events log))
 
 abbrev pub LogsWatched : Type 0

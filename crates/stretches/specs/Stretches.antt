@@ -14,22 +14,23 @@
 use Rattle.std.specs.Prelude.{ℕ, suc, ◌+◌, ◌-◌, ◌≤◌, ◌<◌, ◌≡◌, Bool, true, false, ◌&&◌, ◌||◌, List, [], ◌∷◌, ◌++◌}
 use Rattle.std.specs.Prelude.{if◌then◌else◌, nat_le, nat_lt, ◌==◌, slice_index_or}
 use Rattle.record.specs.Wanted.{Wanted}
-use Rattle.demands.specs.History.{Event, switched, a_second, mark_switched, Stage, steady, next_stage, marks_next}
+use Rattle.demands.specs.History.{HistoryEvent, switched, a_second, mark_switched, Stage, steady, next_stage}
+use Rattle.demands.specs.History.{marks_next}
 use Rattle.demands.specs.History.{burnt_in, burning_seconds}
 
 abbrev pub is_lit_then : Stage → List Bool → ℕ → Bool
 is_lit_then g ms k = burnt_in g ms k a_second == 1
 
-abbrev pub second_lit : Stage → List Bool → ℕ → Event → List Bool
+abbrev pub second_lit : Stage → List Bool → ℕ → HistoryEvent → List Bool
 second_lit g ms k a_second = is_lit_then g ms k ∷ []
 second_lit g ms k (switched wanted) = []
 second_lit g ms k (mark_switched lamp mark) = []
 
-abbrev pub seconds_lit_from : Wanted → Stage → List Bool → ℕ → List Event → List Bool
+abbrev pub seconds_lit_from : Wanted → Stage → List Bool → ℕ → List HistoryEvent → List Bool
 seconds_lit_from w g ms k [] = []
 seconds_lit_from w g ms k (e ∷ es) = second_lit g ms k e ++ seconds_lit_from w (next_stage w g e) (marks_next ms e) k es
 
-abbrev pub seconds_lit : Wanted → List Bool → ℕ → List Event → List Bool
+abbrev pub seconds_lit : Wanted → List Bool → ℕ → List HistoryEvent → List Bool
 seconds_lit w ms k es = seconds_lit_from w (steady false) ms k es
 
 pub record Stretch : Type 0 where
@@ -60,7 +61,8 @@ abbrev pub lengths_of : List Stretch → ℕ
 lengths_of [] = 0
 lengths_of (s ∷ ss) = s.to - s.from + lengths_of ss
 
-pub record StretchesTell (w : Wanted) (ms : List Bool) (k : ℕ) (es : List Event) (ss : List Stretch) : Type 0 where
+pub record StretchesTell (w : Wanted) (ms : List Bool) (k : ℕ) (es : List HistoryEvent)
+    (ss : List Stretch) : Type 0 where
   -- exactly the seconds of warm-up or power-on with its mark set
   pub exactly : (i : ℕ) → is_in ss i ≡ slice_index_or (seconds_lit w ms k es) i false
   -- in order, apart, none empty

@@ -4,7 +4,7 @@
 
 ghost use Rattle.std.specs.Prelude.{Bool, List, ℕ};
 ghost use Rattle.record.specs.Wanted.{Wanted};
-ghost use Rattle.demands.specs.History.{Event};
+ghost use Rattle.demands.specs.History.{HistoryEvent};
 ghost use Rattle.stretches.specs.LogTold.{LogsWatched, RecordedWatched};
 ghost use Rattle.stretches.specs.Stretches.{StretchesTell, seconds_lit, stretches_of};
 
@@ -25,6 +25,6 @@ pub fn recorded_logs_tell_stretches()
 /// For any history, also that of no log, and any marks that it begins with: the stretches of the lamp at place k are
 /// exactly its seconds, in order and apart, and add up to what it burnt.
 pub fn any_history_tells_its_stretches()
-    ensures { (w : Wanted) (marks : List Bool) (k : ℕ) (es : List Event)
+    ensures { (w : Wanted) (marks : List Bool) (k : ℕ) (es : List HistoryEvent)
         → StretchesTell w marks k es (stretches_of (seconds_lit w marks k es)) }
 {}

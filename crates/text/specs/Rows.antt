@@ -8,24 +8,24 @@
 use Rattle.std.specs.Prelude.{ℕ, ◌≡◌, Bool, false, not, List, [], ◌∷◌, if◌then◌else◌, ◌==◌}
 
 infix 30 ◌when◌
-pub record Row : Type 0 where
+pub record NumberRow : Type 0 where
   pub number : ℕ
   pub applies : Bool
 
-abbrev pub ◌when◌ : ℕ → Bool → Row
+abbrev pub ◌when◌ : ℕ → Bool → NumberRow
 n when t = record { number = n; applies = t }
 
-abbrev pub first_of : List Row → ℕ
+abbrev pub first_of : List NumberRow → ℕ
 first_of [] = 0
 first_of (row ∷ rows) = if row.applies then row.number else first_of rows
 
-abbrev pub by_rows : {R : Type 0} → List Row → (ℕ → R) → R → R
+abbrev pub by_rows : {R : Type 0} → List NumberRow → (ℕ → R) → R → R
 by_rows [] refuse done = done
 by_rows (row ∷ rows) refuse done = if row.applies then refuse row.number else by_rows rows refuse done
 
-abbrev pub NoneOf : List Row → Type 0
+abbrev pub NoneOf : List NumberRow → Type 0
 NoneOf [] = Unit {0}
 NoneOf (row ∷ rows) = (row.applies ≡ false) × NoneOf rows
 
-abbrev pub is_numbered : Row → Bool
+abbrev pub is_numbered : NumberRow → Bool
 is_numbered row = not (row.number == 0)

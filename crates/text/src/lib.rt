@@ -7,7 +7,7 @@ pub mod rooms;
 
 ghost use Rattle.std.specs.Prelude.{◌≡◌, ◌≢◌, ◌+◌, ◌≤◌, ◌<◌, All, length, take, slice_index};
 ghost use Rattle.std.proofs.lemmas.List.Edits.{sets};
-ghost use Rattle.text.specs.Scans.{same_by, itself, index_of};
+ghost use Rattle.text.specs.Scans.{is_same_by, itself, index_of};
 
 /// Copies all of `src` into `out`, from the place `at` on. It copies a byte at a time: the compiler cannot know that
 /// two buffers do not overlap, so `copy_from_slice` would be `memmove`, which the archive does not ask a host for.
@@ -21,26 +21,26 @@ pub fn put(out: &mut [u8], at: usize, src: &[u8])
 }
 
 /// Whether a and b hold the same bytes.
-pub fn same(a: &[u8], b: &[u8]) -> bool
-    ensures { result ≡ same_by itself a.now b.now }
+pub fn is_same(bytes: &[u8], other: &[u8]) -> bool
+    ensures { result ≡ is_same_by itself bytes.now other.now }
 {
-    if a.len() != b.len() {
+    if bytes.len() != other.len() {
         return false;
     }
-    for i in 0..a.len() {
-        if a[i] != b[i] {
+    for i in 0..bytes.len() {
+        if bytes[i] != other[i] {
             return false;
         }
     }
     true
 }
 
-/// Returns the place of the first `b` in `s`, or the length of `s` if there is none.
-pub fn find(s: &[u8], b: u8) -> usize
-    ensures place { result ≡ index_of b s.now }
-    ensures before { All (λ x. x ≢ b) (take result s.now) }
-    ensures found { result < length s.now → slice_index s.now result ≡ b }
-    ensures within { result ≤ length s.now }
+/// Returns the place of the first `byte` in `bytes`, or the length of `bytes` if there is none.
+pub fn find(bytes: &[u8], byte: u8) -> usize
+    ensures place { result ≡ index_of byte bytes.now }
+    ensures before { All (λ x. x ≢ byte) (take result bytes.now) }
+    ensures found { result < length bytes.now → slice_index bytes.now result ≡ byte }
+    ensures within { result ≤ length bytes.now }
 {
-    s.iter().position(|&x| x == b).unwrap_or(s.len())
+    bytes.iter().position(|&x| x == byte).unwrap_or(bytes.len())
 }

@@ -41,16 +41,16 @@ pub fn are_blank<T: Blank>(places: &[T]) -> bool
     blank
 }
 
-/// Returns the used part of a room, `n` items; `None` if the room is smaller, or if the rest is not blank.
+/// Returns the used part of a room, `count` items; `None` if the room is smaller, or if the rest is not blank.
 #[tactic(auto, using(crate::proofs::RoomsTold::used_by_tests))]
-pub fn used<T: Blank, const N: usize>(room: &[T; N], n: usize) -> Option<&[T]>
-    ensures { option_map (λ s. s.now) result ≡ used_part T.blank N room.now n }
+pub fn used<T: Blank, const N: usize>(room: &[T; N], count: usize) -> Option<&[T]>
+    ensures { option_map (λ s. s.now) result ≡ used_part T.blank N room.now count }
 {
-    if N < n {
+    if N < count {
         return None;
     }
     let places = &room[..];
-    let (items, rest) = places.split_at(n);
+    let (items, rest) = places.split_at(count);
     if !are_blank(rest) {
         return None;
     }
@@ -68,10 +68,10 @@ pub fn kept<T: Copy, const N: usize>(items: &[T], blank: T) -> [T; N]
     room
 }
 
-/// Returns the first `n` places of a room, or all.
-pub fn first<T, const N: usize>(room: &[T; N], n: usize) -> &[T]
-    ensures value { result.now ≡ take n room.now }
+/// Returns the first `count` places of a room, or all.
+pub fn first<T, const N: usize>(room: &[T; N], count: usize) -> &[T]
+    ensures value { result.now ≡ take count room.now }
     ensures within { length result.now ≤ N }
 {
-    &room[..n.min(N)]
+    &room[..count.min(N)]
 }

@@ -16,9 +16,9 @@ use Rattle.std.specs.declared.option.Option.{Option}
 use Rattle.std.specs.declared.io.Error.{Error}
 use Rattle.std.specs.Io.KnownBytes.{Consumes, IsAtEnd, Keeps}
 use Rattle.textio.specs.Lines.{LogLine, end_of, lines_in}
-use Rattle.textio.specs.declared.lines.Line.{Line}
-use Rattle.textio.specs.declared.lines.Shown.{Shown}
-use Rattle.textio.specs.declared.lines.Shown.TheVariants.{Part, Whole, End}
+use Rattle.textio.specs.declared.lines.LineRead.{LineRead}
+use Rattle.textio.specs.declared.lines.LineSeen.{LineSeen}
+use Rattle.textio.specs.declared.lines.LineSeen.TheVariants.{Part, Whole, End}
 use Rattle.textio.specs.declared.lines.Failure.{Failure}
 use Rattle.textio.specs.declared.lines.Failure.TheVariants.{Read, Write, TooLong}
 
@@ -31,7 +31,7 @@ pub record TakesPart (old new : Option (List ℕ)) (least : ℕ) (before memory 
   pub kept : take place memory ≡ take (length memory) (before ++ part)
   pub inside : place ≤ length memory
 
-abbrev pub ShowsPart : Option (List ℕ) → Option (List ℕ) → List ℕ → ℕ → List ℕ → Shown → Type 0
+abbrev pub ShowsPart : Option (List ℕ) → Option (List ℕ) → List ℕ → ℕ → List ℕ → LineSeen → Type 0
 ShowsPart old new before at after (Part place) = TakesPart old new 1 (take at before) after place []
 ShowsPart old new before at after (Whole place) = TakesPart old new 0 (take at before) after place (10 ∷ [])
 ShowsPart old new before at after End = IsAtEnd old × Keeps old new × (after ≡ before)
@@ -50,10 +50,10 @@ pub record ReadsPart (old new : Option (List ℕ)) : Type 0 where
   pub one_line : All (λ b. b ≢ 10) part
   pub taken : Consumes old new part
 
-abbrev pub line_in : List ℕ → Line → LogLine
+abbrev pub line_in : List ℕ → LineRead → LogLine
 line_in memory l = record { text = take l.held memory; ended = l.ended }
 
-abbrev pub IsNextLine : List ℕ → Option (List ℕ) → List ℕ → Option Line → Type 0
+abbrev pub IsNextLine : List ℕ → Option (List ℕ) → List ℕ → Option LineRead → Type 0
 IsNextLine log new memory (Some line) = IsLine log new (length memory) (line_in memory line)
 IsNextLine log new memory None = log ≡ []
 

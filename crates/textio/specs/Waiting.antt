@@ -1,14 +1,14 @@
--- What a clause reads of a `Writer`.
+-- What a clause reads of a `BufferedWriter`.
 --   waiting_in w     the bytes that the sink has yet to get
 --   held_by f w      those that it has got, and then these, where they are known
 -- Assumes nothing.
 use Rattle.std.specs.Prelude.{ℕ, List, slice_range}
 use Rattle.std.specs.declared.option.Option.{Option}
 use Rattle.std.specs.Io.KnownBytes.{append_known}
-use Rattle.textio.specs.declared.writer.Writer.{Writer}
+use Rattle.textio.specs.declared.writer.BufferedWriter.{BufferedWriter}
 
-abbrev pub waiting_in : {W : Type 0} → Writer W → List ℕ
+abbrev pub waiting_in : {W : Type 0} → BufferedWriter W → List ℕ
 waiting_in w = slice_range w.bytes w.start w.end
 
-abbrev pub held_by : {W : Type 0} → (W → Option (List ℕ)) → Writer W → Option (List ℕ)
+abbrev pub held_by : {W : Type 0} → (W → Option (List ℕ)) → BufferedWriter W → Option (List ℕ)
 held_by contents w = append_known (contents w.inner) (waiting_in w)

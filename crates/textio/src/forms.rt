@@ -12,11 +12,11 @@ use std::io;
 
 /// Writes the number in decimal digits, with no leading zero.
 #[tactic(auto, using(numbers::proofs::Digits::long_at_most_20))]
-pub fn put_number<W: ByteSink>(to: &mut W, n: u64) -> io::Result<()>
-    ensures { WritesText W.fails_with (W.contents to.old) (W.contents to.new) result (long_digits n) }
+pub fn put_number<W: ByteSink>(to: &mut W, number: u64) -> io::Result<()>
+    ensures { WritesText W.fails_with (W.contents to.old) (W.contents to.new) result (long_digits number) }
 {
     let mut digits = ArrayVec::<u8, 20>::new();
-    numbers::put_long(n, &mut digits);
+    numbers::put_long(number, &mut digits);
     put(to, digits.as_slice())
 }
 

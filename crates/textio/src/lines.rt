@@ -6,14 +6,14 @@ ghost use Rattle.textio.specs.Ahead.{ahead_of, left_in};
 ghost use Rattle.textio.specs.NextLine.{ShowsPart, ReadsPart, IsNextLine, FailureComesOf, OnFailedRead};
 
 use crate::memory;
-use crate::reader::{ByteSource, Reader};
+use crate::reader::{BufferedReader, ByteSource};
 use crate::writer::ByteSink;
 use std::io;
 use std::io::Error;
 
 /// A line that was read.
 #[derive(Clone, Copy)]
-pub struct Line {
+pub struct LineRead {
     /// How many of its bytes, without its LF, are at the start of the buffer.
     pub held: usize,
     /// Whether an LF ended it. The last line of a log may have none.
@@ -33,14 +33,18 @@ pub enum Failure {
 
 // How far a line came; the place after what is kept of it.
 #[derive(Clone, Copy)]
-enum Shown {
+enum LineSeen {
     Part(usize),
     Whole(usize),
     End,
 }
 
 // What is read ahead of a line is taken, with its LF.
-fn take_shown<R: ByteSource>(from: &mut Reader<R>, line: &mut [u8], at: usize) -> io::Result<Shown>
+fn take_shown<R: ByteSource>(
+    from: &mut BufferedReader<R>,
+    line: &mut [u8],
+    at: usize,
+) -> io::Result<LineSeen>
     requires { at ≤ length line.old }
     ensures ok { IfOk result
         (ShowsPart (left_in R.remaining from.old) (left_in R.remaining from.new) line.old at line.new) }
@@ -52,20 +56,23 @@ fn take_shown<R: ByteSource>(from: &mut Reader<R>, line: &mut [u8], at: usize) -
     let shown = from.ahead();
     let count = shown.len();
     if count == 0 {
-        return Ok(Shown::End);
+        return Ok(LineSeen::End);
     }
     let end = text::find(shown, b'\n');
     let place = memory::append(line, at, &shown[..end]);
     if end < count {
         from.consume(end + 1);
-        return Ok(Shown::Whole(place));
+        return Ok(LineSeen::Whole(place));
     }
     from.consume(count);
-    Ok(Shown::Part(place))
+    Ok(LineSeen::Part(place))
 }
 
 /// Flushes the sink if no byte is read ahead: the next read may wait.
-pub fn flush_before_read<R: ByteSource, W: ByteSink>(from: &Reader<R>, to: &mut W) -> io::Result<()>
+pub fn flush_before_read<R: ByteSource, W: ByteSink>(
+    from: &BufferedReader<R>,
+    to: &mut W,
+) -> io::Result<()>
     ensures keeps { Keeps (W.contents to.old) (W.contents to.new) }
     ensures err { IfErr result W.fails_with }
     ensures none_waits { OnOk result (length (ahead_of from.now) ≡ 0 → W.waiting to.new ≡ []) }
@@ -80,10 +87,10 @@ pub fn flush_before_read<R: ByteSource, W: ByteSink>(from: &Reader<R>, to: &mut 
 /// ended the line; `None` at the end of the source. Of a line that is longer than the buffer only the part that fits is
 /// stored. Flushes `to` before each read, which may wait. Errors: `Failure`.
 pub fn next_line<R: ByteSource, W: ByteSink>(
-    from: &mut Reader<R>,
+    from: &mut BufferedReader<R>,
     to: &mut W,
     line: &mut [u8],
-) -> Result<Option<Line>, Failure>
+) -> Result<Option<LineRead>, Failure>
     requires { 0 < length line.old }
     ensures next { IfOk result (λ next. IfSome (left_in R.remaining from.old) (λ log.
         IsNextLine log (left_in R.remaining from.new) line.new next)) }
@@ -99,15 +106,15 @@ pub fn next_line<R: ByteSource, W: ByteSink>(
     for _ in 0..u64::MAX {
         flush_before_read(from, to).map_err(Failure::Write)?;
         match take_shown(from, line, held) {
-            Ok(Shown::Part(place)) => held = place,
-            Ok(Shown::Whole(place)) => {
-                return Ok(Some(Line {
+            Ok(LineSeen::Part(place)) => held = place,
+            Ok(LineSeen::Whole(place)) => {
+                return Ok(Some(LineRead {
                     held: place,
                     ended: true,
                 }));
             }
-            Ok(Shown::End) if held == 0 => return Ok(None),
-            Ok(Shown::End) => return Ok(Some(Line { held, ended: false })),
+            Ok(LineSeen::End) if held == 0 => return Ok(None),
+            Ok(LineSeen::End) => return Ok(Some(LineRead { held, ended: false })),
             Err(e) => return Err(Failure::Read(e)),
         }
     }

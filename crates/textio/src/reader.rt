@@ -22,29 +22,29 @@ pub trait ByteSource {
         ensures err { IfErr result fails_with };
 }
 
-const ROOM: usize = 65536;
+const READER_ROOM: usize = 65536;
 
 /// A source with a buffer: the bytes from `start` to `end` are read and not yet consumed.
 #[derive(Drop)]
-pub struct Reader<R> {
+pub struct BufferedReader<R> {
     inner: R,
-    bytes: [u8; ROOM],
+    bytes: [u8; READER_ROOM],
     start: usize,
     end: usize,
     ghost ordered: { start ≤ end },
     ghost in_bounds: { end ≤ 65536 },
 }
 
-impl<R: ByteSource> Reader<R> {
+impl<R: ByteSource> BufferedReader<R> {
     ghost use Rattle.textio.specs.Ahead.{ahead_of, left_in};
 
     /// Returns a reader of the source, with nothing read ahead.
-    pub fn new(inner: R) -> Reader<R>
+    pub fn new(inner: R) -> BufferedReader<R>
         ensures { left_in R.remaining result ≡ R.remaining inner }
     {
-        Reader {
+        BufferedReader {
             inner,
-            bytes: [0; ROOM],
+            bytes: [0; READER_ROOM],
             start: 0,
             end: 0,
         }

@@ -36,12 +36,12 @@ impl ByteSource for Pieces {
     }
 }
 
-const ROOM: usize = 64;
+const TRIAL_ROOM: usize = 64;
 
 /// A sink for tests: it takes at most `spare` + 1 bytes a write, and fails when it has `room` bytes, 64 at most.
 #[derive(Drop)]
-pub struct Taken {
-    bytes: [u8; ROOM],
+pub struct TrialSink {
+    bytes: [u8; TRIAL_ROOM],
     count: usize,
     flushed: usize,
     spare: usize,
@@ -49,14 +49,14 @@ pub struct Taken {
     ghost inside: { count ≤ 64 },
 }
 
-impl Taken {
+impl TrialSink {
     /// Returns an empty sink.
-    pub fn new(spare: usize, room: usize) -> Taken
+    pub fn new(spare: usize, room: usize) -> TrialSink
         ensures empty { (result.count ≡ 0) × (result.flushed ≡ 0) }
         ensures limits { (result.spare ≡ spare) × (result.room ≡ room) }
     {
-        Taken {
-            bytes: [0; ROOM],
+        TrialSink {
+            bytes: [0; TRIAL_ROOM],
             count: 0,
             flushed: 0,
             spare,
@@ -86,7 +86,7 @@ impl Taken {
     }
 }
 
-impl ByteSink for Taken {
+impl ByteSink for TrialSink {
     ghost contents = { λ t. Some (take t.count t.bytes) };
 
     ghost waiting = { λ t. drop t.flushed (take t.count t.bytes) };
@@ -94,7 +94,7 @@ impl ByteSink for Taken {
     ghost fails_with = { λ _. ⊤ };
 
     fn write(&mut self, buf: &[u8]) -> io::Result<usize> {
-        let end = self.room.min(ROOM);
+        let end = self.room.min(TRIAL_ROOM);
         if self.count >= end {
             return Err(Error::from(ErrorKind::Other));
         }

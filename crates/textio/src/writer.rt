@@ -60,29 +60,29 @@ pub fn put<W: ByteSink>(to: &mut W, bytes: &[u8]) -> io::Result<()>
     told
 }
 
-const ROOM: usize = 65536;
+const WRITER_ROOM: usize = 65536;
 
 /// A sink with a buffer: the bytes from `start` to `end` are not yet passed on to it.
 #[derive(Drop)]
-pub struct Writer<W> {
+pub struct BufferedWriter<W> {
     inner: W,
-    bytes: [u8; ROOM],
+    bytes: [u8; WRITER_ROOM],
     start: usize,
     end: usize,
     ghost ordered: { start ≤ end },
     ghost in_bounds: { end ≤ 65536 },
 }
 
-impl<W: ByteSink> Writer<W> {
+impl<W: ByteSink> BufferedWriter<W> {
     ghost use Rattle.textio.specs.Waiting.{held_by};
 
     /// Returns a writer of the sink, with an empty buffer.
-    pub fn new(inner: W) -> Writer<W>
+    pub fn new(inner: W) -> BufferedWriter<W>
         ensures { held_by W.contents result ≡ W.contents inner }
     {
-        Writer {
+        BufferedWriter {
             inner,
-            bytes: [0; ROOM],
+            bytes: [0; WRITER_ROOM],
             start: 0,
             end: 0,
         }
@@ -109,14 +109,14 @@ impl<W: ByteSink> Writer<W> {
         ensures room { OnOk result (self.new.end < 65536) }
         ensures err { IfErr result W.fails_with }
     {
-        if self.end < ROOM {
+        if self.end < WRITER_ROOM {
             return Ok(());
         }
         self.drain()
     }
 }
 
-impl<W: ByteSink> ByteSink for Writer<W> {
+impl<W: ByteSink> ByteSink for BufferedWriter<W> {
     ghost use Rattle.textio.specs.Waiting.{waiting_in, held_by};
 
     ghost contents = { held_by W.contents };

@@ -13,23 +13,23 @@ use Rattle.floorlog.specs.Told.{Drives}
 use Rattle.floorlog.proofs.Driven.{none_pass, itself_kept, did_drives}
 use Rattle.floorlog.proofs.EventsLeave.{event_result-settings, did_legality}
 use Rattle.floorlog.proofs.EventSeconds.{event_seconds}
-use Rattle.watch.specs.Marking.{FloorEvent, logged, marked, done_by, seconds_by, floor_event}
+use Rattle.watch.specs.Marking.{WatchedLogEvent, logged, marked, done_by, seconds_by, floor_event}
 
 module _ (d : Device) where
-  pub done_settings : (e : FloorEvent) → (done_by d e).settings ≡ d.settings
+  pub done_settings : (e : WatchedLogEvent) → (done_by d e).settings ≡ d.settings
   unfolding done_by
   done_settings (logged e) = event_result-settings d e
   done_settings (marked lamp mark) =
       mark_set_by d (λ (r : Given Device). r.device.settings ≡ d.settings) lamp mark (λ n z. refl) (λ h i l p. refl)
 
-  pub done_legality : (e : FloorEvent) → is_legal (done_by d e) ≡ is_legal d
+  pub done_legality : (e : WatchedLogEvent) → is_legal (done_by d e) ≡ is_legal d
   unfolding done_by
   done_legality e = grind (arith, did_legality, mark_legal, mark_not_legal)
 
-  pub done_legal : is_legal d ≡ true → (e : FloorEvent) → is_legal (done_by d e) ≡ true
+  pub done_legal : is_legal d ≡ true → (e : WatchedLogEvent) → is_legal (done_by d e) ≡ true
   done_legal legal e = done_legality e ∙ legal
 
-  pub done_drives : (e : FloorEvent) → Drives (seconds_by e) d (done_by d e)
+  pub done_drives : (e : WatchedLogEvent) → Drives (seconds_by e) d (done_by d e)
   unfolding done_by
   done_drives (logged e) = did_drives d e
   done_drives (marked lamp mark) =
@@ -40,7 +40,8 @@ module _ (d : Device) where
       Stays after = set d.connections log_place (connection_at after log_place) ≡ after.connections
 
   -- along an equation for what is left
-  pub driven : (e : FloorEvent) {n : ℕ} {after : Device} → n ≡ seconds_by e → after ≡ done_by d e → Drives n d after
+  pub driven : (e : WatchedLogEvent) {n : ℕ} {after : Device} → n ≡ seconds_by e → after ≡ done_by d e
+      → Drives n d after
   driven e {n} {after} passed left = grind (arith, done_drives)
 
 -- ---- the seconds of a line

@@ -2,7 +2,7 @@
 -- Assumes nothing.
 use Rattle.std.proofs.Common.{ℕ, ◌≤◌, ◌≡◌, refl, arith, List, Option, Some, None}
 use Rattle.clock.specs.Passing.{seconds_most}
-use Rattle.history.specs.Calls.{opens, receives, passes, closes, marks, reports, enables}
+use Rattle.history.specs.Calls.{opens, receives, passes, closes, faults, reports, enables}
 use Rattle.history.specs.Entries.{LogEntry, header, call, stated, entry_in}
 use Rattle.history.proofs.SecondsSaid.{passing_most}
 use Rattle.watch.specs.CallSteps.{seconds_of_said, said_seconds}
@@ -18,6 +18,6 @@ said_most l = by (entry_in l) refl
     by (Some (call (receives p bs))) is = omega arith
     by (Some (call (passes n))) is = passing_most l n is
     by (Some (call (closes p))) is = omega arith
-    by (Some (call (marks m))) is = omega arith
+    by (Some (call (faults m))) is = omega arith
     by (Some (call (reports ds))) is = omega arith
     by (Some (call (enables k m))) is = omega arith

@@ -7,12 +7,12 @@ use Rattle.clock.specs.Passing.{seconds_most}
 use Rattle.watch.specs.Marking.{floor_event, seconds_by}
 use Rattle.watch.specs.CallSteps.{still_step}
 use Rattle.watch.specs.Watching.{Step, Watching, is_burning_in, gained_by, is_long, watched_on}
-use Rattle.watch.specs.Telling.{telling_if, told_on, told_at_end, tellings, after_log}
+use Rattle.watch.specs.Telling.{lit_stretch_if, told_on, told_at_end, lit_stretches, after_log}
 use Rattle.watch.proofs.LineLeaves.{floor_seconds}
 
 module _ (s : Watching) where
-  pub tellings_none : tellings s [] ≡ told_at_end s
-  unfolding tellings
+  pub tellings_none : lit_stretches s [] ≡ told_at_end s
+  unfolding lit_stretches
   tellings_none = refl
 
   pub after_none : after_log s [] ≡ s
@@ -20,8 +20,8 @@ module _ (s : Watching) where
   after_none = refl
 
   module _ (e : Step) (es : List Step) where
-    pub tellings_more : tellings s (e ∷ es) ≡ told_on s e ++ tellings (watched_on s e) es
-    unfolding tellings
+    pub tellings_more : lit_stretches s (e ∷ es) ≡ told_on s e ++ lit_stretches (watched_on s e) es
+    unfolding lit_stretches
     tellings_more = refl
 
     pub after_more : after_log s (e ∷ es) ≡ after_log (watched_on s e) es
@@ -48,7 +48,7 @@ module _ (s : Watching) where
   pub still_leaves : watched_on s (still_step s.device) ≡ s
   still_leaves = stood_still (is_burning_in s.device)
 
-  told_dark : (b long : Bool) (t : Watching) → telling_if ((b && not b) && long) t ≡ []
+  told_dark : (b long : Bool) (t : Watching) → lit_stretch_if ((b && not b) && long) t ≡ []
   told_dark true long t = refl
   told_dark false long t = refl
 

@@ -3,7 +3,7 @@
 -- eight lamps, so a number is one digit.
 --   is_mark_line l    l has that form
 --   mark_said l       the place of the lamp that it names, from 0, and the mark, if it is one
---   FloorEvent        an event of such a log
+--   WatchedLogEvent        an event of such a log
 --   floor_event l     that of the line l
 --   watched_said e    the same of an event as the code has it
 --   done_by d e       the device after it
@@ -36,36 +36,36 @@ is_mark_line l =
 unfoldable pub mark_said : List ℕ → Option (ℕ × Bool)
 mark_said l = if is_mark_line l then Some ((l at 2) - code "1", l at 4 is "1") else None
 
-pub data FloorEvent : Type 0 where
-  logged : LogEvent → FloorEvent
-  marked : (lamp : ℕ) (mark : Bool) → FloorEvent
+pub data WatchedLogEvent : Type 0 where
+  logged : LogEvent → WatchedLogEvent
+  marked : (lamp : ℕ) (mark : Bool) → WatchedLogEvent
 
-abbrev pub event_by : Option (ℕ × Bool) → LogEvent → FloorEvent
+abbrev pub event_by : Option (ℕ × Bool) → LogEvent → WatchedLogEvent
 event_by (Some (lamp, mark)) e = marked lamp mark
 event_by None e = logged e
 
-unfoldable pub floor_event : List ℕ → FloorEvent
+unfoldable pub floor_event : List ℕ → WatchedLogEvent
 floor_event l = event_by (mark_said l) (event l)
 
-abbrev pub watched_said : WatchedEvent → FloorEvent
+abbrev pub watched_said : WatchedEvent → WatchedLogEvent
 watched_said (Logged e) = logged (event_said e)
 watched_said (Marked lamp mark) = marked lamp mark
 
-unfoldable pub done_by : Device → FloorEvent → Device
+unfoldable pub done_by : Device → WatchedLogEvent → Device
 done_by d (logged e) = (event_result d e).device
 done_by d (marked lamp mark) = (left_by d (mark_set d lamp mark))
 
-abbrev pub watched_answer : Device → FloorEvent → Option ℕ
+abbrev pub watched_answer : Device → WatchedLogEvent → Option ℕ
 watched_answer d (logged e) = answer d e
 watched_answer d (marked lamp mark) = Some (outcome_number refusal_number (mark_set d lamp mark))
 
-abbrev pub seconds_by : FloorEvent → ℕ
+abbrev pub seconds_by : WatchedLogEvent → ℕ
 seconds_by (logged e) = seconds_of e
 seconds_by (marked lamp mark) = 0
 
-abbrev pub floor_step : Device → FloorEvent → Step
+abbrev pub floor_step : Device → WatchedLogEvent → Step
 floor_step d e = record { device = done_by d e; seconds = seconds_by e }
 
-abbrev pub floor_steps : Device → List FloorEvent → List Step
+abbrev pub floor_steps : Device → List WatchedLogEvent → List Step
 floor_steps d [] = []
 floor_steps d (e ∷ es) = floor_step d e ∷ floor_steps (done_by d e) es

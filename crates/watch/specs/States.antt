@@ -16,14 +16,14 @@ use Rattle.recorded.specs.Following.{line_told}
 use Rattle.watch.specs.CallSteps.{entry_step}
 use Rattle.recorded.specs.declared.chain.Why.{Why}
 use Rattle.watch.specs.declared.Watch.{Watch}
-use Rattle.watch.specs.Watching.{Step, Watching, watched_on, dark_with, is_long}
+use Rattle.watch.specs.Watching.{Step, Watching, watched_on, is_dark_with, is_long}
 
 abbrev pub state_of : Watch → Watching
 state_of w = record { device = w.tested.device; time = w.time; from = w.from; burnt = w.burnt }
 
 pub record IsWatched (s : Watching) (e : Step) (after : Watching) (ended : Bool) : Type 0 where
   pub state : after ≡ watched_on s e
-  pub told : ended ≡ (dark_with s after.device && is_long after)
+  pub told : ended ≡ (is_dark_with s after.device && is_long after)
 
 pub record IsLeft (s after : Watching) : Type 0 where
   pub settings : after.device.settings ≡ s.device.settings

@@ -1,9 +1,10 @@
 -- What is told of a whole log, step by step (RULES, Floor log).
 --   floor_events log      the events of a log of the first kind;    log_steps d log   its steps, from the device d on
---   Telling               the lamps whose marks are set burnt from a second on and before another, and burn no longer
+--   LitStretch               the lamps whose marks are set burnt from a second on and before another, and burn no
+--                            longer
 --   told_on s e           what is told with the step e: a stretch that is empty is not
 --   told_at_end s         what is told where the log ends in the state s: it ends the stretches that are under way
---   tellings s es         what is told with the steps es, from the state s on, and at their end
+--   lit_stretches s es         what is told with the steps es, from the state s on, and at their end
 --   after_log s es        the state that they leave
 --   burnt_after s es      the seconds that each lamp burnt, when the log has ended
 --   floor_unplayed d log  what of a log of the first kind is not played, from the device d on
@@ -14,32 +15,32 @@ use Rattle.record.specs.declared.types.Device.{Device}
 use Rattle.textio.specs.Lines.{lines_of}
 use Rattle.floorlog.specs.Unplayed.{none_unplayed, said_line, unplayed_by}
 use Rattle.floorlog.specs.declared.unplayed.Unplayed.{Unplayed}
-use Rattle.watch.specs.Marking.{FloorEvent, floor_event, floor_steps, done_by, seconds_by, watched_answer}
-use Rattle.watch.specs.Watching.{Step, Watching, is_burning_in, is_long, dark_with, watched_on, burnt_by}
+use Rattle.watch.specs.Marking.{WatchedLogEvent, floor_event, floor_steps, done_by, seconds_by, watched_answer}
+use Rattle.watch.specs.Watching.{Step, Watching, is_burning_in, is_long, is_dark_with, watched_on, burnt_by}
 
-abbrev pub floor_events : List ℕ → List FloorEvent
+abbrev pub floor_events : List ℕ → List WatchedLogEvent
 floor_events log = map floor_event (lines_of log)
 
 abbrev pub log_steps : Device → List ℕ → List Step
 log_steps d log = floor_steps d (floor_events log)
 
-pub record Telling : Type 0 where
+pub record LitStretch : Type 0 where
   pub device : Device
   pub from : ℕ
   pub to : ℕ
 
-abbrev pub telling_if : Bool → Watching → List Telling
-telling_if told s = if told then record { device = s.device; from = s.from; to = s.time } ∷ [] else []
+abbrev pub lit_stretch_if : Bool → Watching → List LitStretch
+lit_stretch_if told s = if told then record { device = s.device; from = s.from; to = s.time } ∷ [] else []
 
-abbrev pub told_on : Watching → Step → List Telling
-told_on s e = let t = watched_on s e in telling_if (dark_with s t.device && is_long t) t
+abbrev pub told_on : Watching → Step → List LitStretch
+told_on s e = let t = watched_on s e in lit_stretch_if (is_dark_with s t.device && is_long t) t
 
-abbrev pub told_at_end : Watching → List Telling
-told_at_end s = telling_if (is_burning_in s.device && is_long s) s
+abbrev pub told_at_end : Watching → List LitStretch
+told_at_end s = lit_stretch_if (is_burning_in s.device && is_long s) s
 
-unfoldable pub tellings : Watching → List Step → List Telling
-tellings s [] = told_at_end s
-tellings s (e ∷ es) = told_on s e ++ tellings (watched_on s e) es
+unfoldable pub lit_stretches : Watching → List Step → List LitStretch
+lit_stretches s [] = told_at_end s
+lit_stretches s (e ∷ es) = told_on s e ++ lit_stretches (watched_on s e) es
 
 unfoldable pub after_log : Watching → List Step → Watching
 after_log s [] = s

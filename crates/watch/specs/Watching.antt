@@ -8,7 +8,7 @@
 --   is_burning_in d       the lamps burn, those whose marks are set
 --   gained_by d n burnt   these burnt n seconds more
 --   watched_on s e        the state after the step e
---   dark_with s d         with a step that leaves d the lamps burn no longer: it ends stretches, those of the lamps
+--   is_dark_with s d         with a step that leaves d the lamps burn no longer: it ends stretches, those of the lamps
 --                         whose marks are set, from `from` to `time` of the state after it
 --   is_long s             these are not empty
 --   burnt_by s            the seconds that each lamp burnt, should the log end here
@@ -53,8 +53,8 @@ watched_by s d n =
 abbrev pub watched_on : Watching → Step → Watching
 watched_on s e = watched_by s e.device e.seconds
 
-abbrev pub dark_with : Watching → Device → Bool
-dark_with s d = is_burning_in s.device && not (is_burning_in d)
+abbrev pub is_dark_with : Watching → Device → Bool
+is_dark_with s d = is_burning_in s.device && not (is_burning_in d)
 
 abbrev pub is_long : Watching → Bool
 is_long s = nat_lt s.from s.time

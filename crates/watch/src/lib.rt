@@ -13,14 +13,15 @@ ghost use Rattle.watch.specs.Watching.{is_burning_in, gained_by, is_sound};
 
 use device::calls::REPLY_ROOM;
 use floorlog::kept::KeptLine;
-use history::call::Call;
+use history::call::RecordedCall;
 use history::entry::Entry;
 use history::read::Bytes;
 use history::recorder::Recorder;
 use record::legality::Tested;
-use record::types::{Device, LAMPS_MOST};
+use record::types::Device;
 use recorded::chain::{self, Why};
 use text::flag;
+use words::lamp::LAMPS_MOST;
 
 /// A log as it is watched: its record, tested where the log began; the seconds gone since the log began; the second at
 /// which the lamps began to burn last; and the seconds that each lamp burnt in stretches that have ended.
@@ -87,7 +88,7 @@ fn seconds_of(entry: &Entry<'_>) -> u32
     ensures { result ≡ seconds_of_entry (entry_seen entry.now) }
 {
     match entry {
-        Entry::Call(Call::Passes(seconds)) => *seconds,
+        Entry::Call(RecordedCall::Passes(seconds)) => *seconds,
         _ => 0,
     }
 }

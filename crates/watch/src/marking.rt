@@ -75,15 +75,15 @@ fn set_mark(t: &mut Tested, lamp: u8, mark: bool) -> u32
 
 /// An event on any record. Returns the number that its call gives, 0 where it was served; none of a line of no form.
 #[tactic(auto, unfolding(crate::specs::Marking::done_by))]
-pub fn call(t: &mut Tested, event: &WatchedEvent<'_>) -> Option<u32>
-    ensures device { t.new.device ≡ done_by t.old.device (watched_said event.now) }
-    ensures answer { result ≡ watched_answer t.old.device (watched_said event.now) }
+pub fn call(tested: &mut Tested, event: &WatchedEvent<'_>) -> Option<u32>
+    ensures device { tested.new.device ≡ done_by tested.old.device (watched_said event.now) }
+    ensures answer { result ≡ watched_answer tested.old.device (watched_said event.now) }
 {
     match event {
         WatchedEvent::Logged(event) => {
             let mut reply = [0; REPLY_ROOM];
-            event::call(t, event, &mut reply).answer()
+            event::call(tested, event, &mut reply).answer()
         }
-        WatchedEvent::Marked(lamp, mark) => Some(set_mark(t, *lamp, *mark)),
+        WatchedEvent::Marked(lamp, mark) => Some(set_mark(tested, *lamp, *mark)),
     }
 }

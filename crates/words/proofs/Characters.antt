@@ -4,7 +4,7 @@ use Rattle.std.proofs.Common.{arith, ℕ, ◌≤◌, ◌≡◌, refl, ap, Bool, 
 use Rattle.std.specs.List.{list_all}
 use Prim.Native.Char.{Char, code}
 use Rattle.text.specs.Words.{◌is◌, ◌from◌to◌}
-use Rattle.words.specs.Bytes.{is_alnum, not_cr, no_cr}
+use Rattle.words.specs.Bytes.{is_alnum, is_not_cr, is_cr_free}
 
 pub in_range : (b : ℕ) (l h : Char) → b from l to h ≡ true → (code l ≤ b) × (b ≤ code h)
 in_range b l h e = grind arith
@@ -13,16 +13,16 @@ in_range b l h e = grind arith
 pub either_by : {P : Type 0} (t u : Bool) → (t || u) ≡ true → (t ≡ true → P) → (u ≡ true → P) → P
 either_by t u h g e = grind arith
 
-pub no_cr_of : (s : List ℕ) → list_all not_cr s ≡ true → no_cr s ≡ true
-unfolding no_cr
+pub no_cr_of : (s : List ℕ) → list_all is_not_cr s ≡ true → is_cr_free s ≡ true
+unfolding is_cr_free
 no_cr_of s e = e
 
-pub no_cr_each : (s : List ℕ) → no_cr s ≡ true → list_all not_cr s ≡ true
-unfolding no_cr
+pub no_cr_each : (s : List ℕ) → is_cr_free s ≡ true → list_all is_not_cr s ≡ true
+unfolding is_cr_free
 no_cr_each s e = e
 
 pub alnum_isnt : (x : Char) → is_alnum (code x) ≡ false → (b : ℕ) → is_alnum b ≡ true → (b is x) ≡ false
 alnum_isnt x other b e = grind arith
 
-pub alnum_not_cr : (b : ℕ) → is_alnum b ≡ true → not_cr b ≡ true
+pub alnum_not_cr : (b : ℕ) → is_alnum b ≡ true → is_not_cr b ≡ true
 alnum_not_cr b e = ap not (alnum_isnt "\r" refl b e)

@@ -4,7 +4,7 @@
 use Rattle.std.proofs.lemmas.Grind.{common_steps}
 use Rattle.std.proofs.Common.{ℕ, ◌≡◌, sym, ap, ◌∙◌, true, [], ◌∷◌, arith, Some, None}
 use Rattle.text.proofs.Choices.{if_yes}
-use Rattle.words.specs.Sources.{same_input, number_character, input_for}
+use Rattle.words.specs.Sources.{is_same_input, number_character, input_for}
 use Rattle.words.specs.Inputs.{is_input_text, source_named, input_named, read_input, is_input, source_digit, input_text}
 use Rattle.words.specs.declared.input.Input.{Input}
 use Rattle.words.proofs.InputsReadBack.{input_read_back, read_input_by, named_widely, named_text}
@@ -34,5 +34,5 @@ stands_only a b i e =
     (reader_follows a b ∙ e)
 
 -- inputs of the same type and number are the same
-pub same_input_is_one : (i j : Input) → same_input i j ≡ true → i ≡ j
+pub same_input_is_one : (i j : Input) → is_same_input i j ≡ true → i ≡ j
 same_input_is_one i j e = grind arith

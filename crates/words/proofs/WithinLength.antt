@@ -4,10 +4,10 @@ use Rattle.std.specs.List.{list_all}
 use Rattle.std.proofs.Common.{ℕ, ◌<◌, ◌≤◌, ◌≡◌, false, not, ◌&&◌, List, length, le-leb}
 use Rattle.std.proofs.lemmas.Bool.{lt-leb}
 use Rattle.words.specs.Bytes.{is_alnum}
-use Rattle.words.specs.Texts.{is_refusal, is_text_byte, is_text, is_password, password_most}
+use Rattle.words.specs.Texts.{is_error_reply, is_text_byte, is_text, is_password, password_most}
 
 module _ (s : List ℕ) where
-  pub text_within : (n : ℕ) → length s ≤ n → is_text n s ≡ (list_all is_text_byte s && not (is_refusal s))
+  pub text_within : (n : ℕ) → length s ≤ n → is_text n s ≡ (list_all is_text_byte s && not (is_error_reply s))
   unfolding is_text
   text_within n h = rw (le-leb (length s) n h)
 

@@ -2,7 +2,7 @@
 --   s at i           the byte of s at the place i
 --   is_alnum b       an ASCII letter or digit
 --   upper_of b       the upper case of a letter; any other byte as it is
---   no_cr s          no byte of s is CR, which ends a line
+--   is_cr_free s          no byte of s is CR, which ends a line
 --   command_most     no command line is longer, without its CR: seven bytes of head and a parameter of 128
 -- Assumes nothing.
 use Rattle.std.specs.List.{list_all}
@@ -19,11 +19,11 @@ is_alnum b = b from "0" to "9" || b from "A" to "Z" || b from "a" to "z"
 abbrev pub upper_of : ℕ → ℕ
 upper_of b = if b from "a" to "z" then b - 32 else b
 
-abbrev pub not_cr : ℕ → Bool
-not_cr b = not (b is "\r")
+abbrev pub is_not_cr : ℕ → Bool
+is_not_cr b = not (b is "\r")
 
-unfoldable pub no_cr : List ℕ → Bool
-no_cr s = list_all not_cr s
+unfoldable pub is_cr_free : List ℕ → Bool
+is_cr_free s = list_all is_not_cr s
 
 abbrev pub command_most : ℕ
 command_most = 135

@@ -3,13 +3,14 @@
 -- Assumes nothing.
 use Rattle.std.specs.Char.{encode_utf8}
 use Rattle.std.specs.Str.{chars, is_utf8}
-use Rattle.words.specs.Bytes.{no_cr}
+use Rattle.words.specs.Bytes.{is_cr_free}
 use Rattle.words.specs.Sources.{number_for, number_character, input_for}
 use Rattle.words.specs.Inputs.{source_named, read_input, input_of}
-use Rattle.words.specs.Texts.{is_refusal, is_text, is_name, is_password}
+use Rattle.words.specs.Texts.{is_error_reply, is_text, is_name, is_password}
 
 unfoldable pub computing : Unit {0}
 unfolding
-    chars encode_utf8 is_utf8 no_cr number_for number_character input_for source_named read_input input_of is_refusal
+    chars encode_utf8 is_utf8 is_cr_free number_for number_character input_for source_named read_input input_of
+    is_error_reply
     is_text is_name is_password
 computing = tt

@@ -25,14 +25,14 @@ use Rattle.words.specs.Lamps.{lamp_text, lamp_hours, is_lamp_hours, WritesLampHo
 use Rattle.words.specs.Muting.{halves_text, mutes_text, mutes_of, all_mutes, mutes_read}
 use Rattle.words.specs.ErrorDigits.{is_error_digit, error_named, is_errors, errors_text, errors_read}
 use Rattle.words.specs.Classes.{class_code, classes, class_text, class_read}
-use Rattle.words.specs.Refusing.{refusal_code, refusals, refusal_text, refusal_read}
+use Rattle.words.specs.Refusing.{refusal_code, refusals, error_reply_text, error_reply_read}
 use Rattle.words.specs.declared.class.ClassNumber.TheVariants.{One, Two}
 use Rattle.words.specs.declared.input.Input.{Input}
 use Rattle.words.specs.declared.input.Source.{Source}
 use Rattle.words.specs.declared.input.Source.TheVariants.{Rgb, Video, Digital, Storage, Network, Internal}
 use Rattle.words.specs.declared.lamp.LampHours.{LampHours}
-use Rattle.words.specs.declared.power.Power.TheVariants.{Off, On, Cooling, WarmUp}
-use Rattle.words.specs.declared.refusal.Refusal.TheVariants.{Undefined, OutOfParameter, Unavailable, Failure}
+use Rattle.words.specs.declared.power.PowerStatus.TheVariants.{Off, On, Cooling, WarmUp}
+use Rattle.words.specs.declared.error_reply.ErrorReply.TheVariants.{Undefined, OutOfParameter, Unavailable, Failure}
 use Rattle.words.specs.Combinations.{bind_some, cond_is, counted_codec, named_codec}
 use Rattle.words.specs.Combinations.{pair_back, pair_sound, past_codec, spelled_codec}
 
@@ -45,7 +45,7 @@ switch_codec = named_codec switch_code (false ∷ true ∷ []) (elim [ false ↦
 pub class_codec : Codec Ends (λ _. true) class_text (Plain (λ _. true) class_text) class_read
 class_codec = named_codec class_code classes (elim [ One ↦ refl | Two ↦ refl ])
 
-pub refusal_codec : Codec Ends (λ _. true) refusal_text (Plain (λ _. true) refusal_text) refusal_read
+pub refusal_codec : Codec Ends (λ _. true) error_reply_text (Plain (λ _. true) error_reply_text) error_reply_read
 refusal_codec =
     past_codec "E" (past_codec "R" (past_codec "R" (named_codec refusal_code refusals
     (elim [ Undefined ↦ refl | OutOfParameter ↦ refl | Unavailable ↦ refl | Failure ↦ refl ]))))

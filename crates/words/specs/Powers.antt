@@ -7,25 +7,25 @@
 use Rattle.std.specs.Prelude.{ℕ, Bool, true, false, List, [], ◌∷◌, Option}
 use Prim.Native.Char.{code}
 use Rattle.words.specs.Codec.{first_named, letter}
-use Rattle.words.specs.declared.power.Power.{Power}
-use Rattle.words.specs.declared.power.Power.TheVariants.{Off, On, Cooling, WarmUp}
+use Rattle.words.specs.declared.power.PowerStatus.{PowerStatus}
+use Rattle.words.specs.declared.power.PowerStatus.TheVariants.{Off, On, Cooling, WarmUp}
 
-abbrev pub power_code : Power → ℕ
+abbrev pub power_code : PowerStatus → ℕ
 power_code Off = code "0"
 power_code On = code "1"
 power_code Cooling = code "2"
 power_code WarmUp = code "3"
 
-abbrev pub powers : List Power
+abbrev pub powers : List PowerStatus
 powers = Off ∷ On ∷ Cooling ∷ WarmUp ∷ []
 
-abbrev pub power_named : ℕ → Option Power
+abbrev pub power_named : ℕ → Option PowerStatus
 power_named b = first_named power_code powers b
 
-abbrev pub power_text : Power → List ℕ
+abbrev pub power_text : PowerStatus → List ℕ
 power_text p = power_code p ∷ []
 
-abbrev pub power_read : List ℕ → Option (Power × List ℕ)
+abbrev pub power_read : List ℕ → Option (PowerStatus × List ℕ)
 power_read s = letter power_named s
 
 abbrev pub switch_code : Bool → ℕ

@@ -3,7 +3,7 @@
 -- definitions of its own (Inputs), which are proved to follow this table (proofs/SourcesFollowed), and so has the C
 -- face for its codes (`source_number` of codes/specs/Commands; `face_follows` of codes/proofs/CommandsCoded).
 --   type_of s               the type of a source, 1 to 6
---   same_input i j          i and j have the same type and the same number
+--   is_same_input i j          i and j have the same type and the same number
 --   character n             the character of a number below ten
 --   is_number_character b   a character that numbers an input: 1 to 9, A to Z
 --   number_for b            the number that it stands for: 1 to 9, and 10 to 35 for A to Z
@@ -29,8 +29,8 @@ type_of Internal = 6
 abbrev pub sources : List Source
 sources = Rgb ∷ Video ∷ Digital ∷ Storage ∷ Network ∷ Internal ∷ []
 
-abbrev pub same_input : Input → Input → Bool
-same_input i j = type_of i.source == type_of j.source && i.number == j.number
+abbrev pub is_same_input : Input → Input → Bool
+is_same_input i j = type_of i.source == type_of j.source && i.number == j.number
 
 abbrev pub character : ℕ → ℕ
 character n = code "0" + n

@@ -1,5 +1,5 @@
 -- Texts of the set-up and of replies (RULES, The legal record and Controller; PJLink 1.04, 4.10 to 4.13 and 5.1).
---   is_refusal s      s is exactly ERR1, ERR2, ERR3 or ERR4
+--   is_error_reply s      s is exactly ERR1, ERR2, ERR3 or ERR4
 --   is_text n s       0 to n bytes, each 0x20 to 0xFF, and no refusal: a reader couldn't tell it from one
 --   is_name s         the rule of the name: such a text of at most 64 bytes, in UTF-8 (RULES, Texts), which is by
 --                     the table of specs/Utf8
@@ -14,14 +14,14 @@ use Rattle.std.specs.Str.{is_utf8}
 use Rattle.text.specs.Words.{◌is◌, ◌from◌to◌}
 use Rattle.words.specs.Bytes.{is_alnum, ◌at◌}
 
-unfoldable pub is_refusal : List ℕ → Bool
-is_refusal s = length s == 4 && s at 0 is "E" && s at 1 is "R" && s at 2 is "R" && s at 3 from "1" to "4"
+unfoldable pub is_error_reply : List ℕ → Bool
+is_error_reply s = length s == 4 && s at 0 is "E" && s at 1 is "R" && s at 2 is "R" && s at 3 from "1" to "4"
 
 abbrev pub is_text_byte : ℕ → Bool
 is_text_byte b = nat_le 0x20 b && nat_le b 0xFF
 
 unfoldable pub is_text : ℕ → List ℕ → Bool
-is_text n s = nat_le (length s) n && list_all is_text_byte s && not (is_refusal s)
+is_text n s = nat_le (length s) n && list_all is_text_byte s && not (is_error_reply s)
 
 abbrev pub name_most : ℕ
 name_most = 64

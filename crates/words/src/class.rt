@@ -4,7 +4,7 @@ ghost use Rattle.words.specs.Codec.{Plain};
 ghost use Rattle.words.specs.Classes.{class_as_number, class_code, class_named, class_text, class_read};
 ghost use Rattle.words.specs.Laws.{class_codec};
 
-use crate::codec::{self, Line, Wire};
+use crate::codec::{self, LineBytes, Wire};
 
 /// The class of a projector, of a body, and of a line.
 #[derive(Clone, Copy)]
@@ -53,12 +53,12 @@ impl Wire for ClassNumber {
 
     ghost read = { class_read };
 
-    fn put(self, out: &mut Line) {
+    fn put(self, out: &mut LineBytes) {
         out.push(self.code());
     }
 
-    fn take(s: &[u8]) -> Option<(ClassNumber, &[u8])> {
-        codec::letter(s, class_named)
+    fn take(bytes: &[u8]) -> Option<(ClassNumber, &[u8])> {
+        codec::letter(bytes, class_named)
     }
 
     ghost codec = { class_codec };

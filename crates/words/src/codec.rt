@@ -9,7 +9,7 @@ use arrayvec::ArrayVec;
 pub const LINE_MOST: usize = 136;
 
 /// A line that is being written.
-pub type Line = ArrayVec<u8, LINE_MOST>;
+pub type LineBytes = ArrayVec<u8, LINE_MOST>;
 
 /// A value at one place of a line, with the bytes that say it.
 pub trait Wire: Copy {
@@ -26,44 +26,44 @@ pub trait Wire: Copy {
     ghost read: { List ℕ → Option (Self × List ℕ) };
 
     /// Writes the value to the end of the line.
-    fn put(self, out: &mut Line)
+    fn put(self, out: &mut LineBytes)
         requires { array_vec_len out.old + length (text self) ≤ LINE_MOST }
         ensures { out.new.items ≡ out.old.items ++ text self };
 
-    /// Reads the value at the front of `s`, and returns it with the bytes after it.
-    fn take(s: &[u8]) -> Option<(Self, &[u8])>
-        ensures { taken_value result ≡ read s.now };
+    /// Reads the value at the front of `bytes`, and returns it with the bytes after it.
+    fn take(bytes: &[u8]) -> Option<(Self, &[u8])>
+        ensures { taken_value result ≡ read bytes.now };
 
     /// A text that says a value is read as that value, and a text that is read says its value.
     ghost codec: { Codec Ends legal text writes read };
 }
 
-/// Returns the value that all of `s` says.
-pub fn parse<T: Wire>(s: &[u8]) -> Option<T>
-    ensures { result ≡ whole_value T.read s.now }
+/// Returns the value that all of `bytes` says.
+pub fn parse<T: Wire>(bytes: &[u8]) -> Option<T>
+    ensures { result ≡ whole_value T.read bytes.now }
 {
-    match T::take(s) {
+    match T::take(bytes) {
         Some((x, [])) => Some(x),
         _ => None,
     }
 }
 
 /// Returns the value that the first byte names, and the bytes after that byte.
-pub fn letter<T, F: Fn(u8) -> Option<T>>(s: &[u8], named: F) -> Option<(T, &[u8])>
+pub fn letter<T, F: Fn(u8) -> Option<T>>(bytes: &[u8], named: F) -> Option<(T, &[u8])>
     requires { F.IsAlwaysCallable named }
     ensures { (f : ℕ → Option T) → ((b : ℕ) (r : Option T) → F.post named b r → r ≡ f b)
-        → taken_value result ≡ letter f s.now }
+        → taken_value result ≡ letter f bytes.now }
 {
-    let (&b, rest) = s.split_first()?;
+    let (&b, rest) = bytes.split_first()?;
     Some((named(b)?, rest))
 }
 
 /// Writes bytes as they are to the end of the line.
-pub fn put_all(s: &[u8], out: &mut Line)
-    requires { array_vec_len out.old + length s.now ≤ LINE_MOST }
-    ensures { out.new.items ≡ out.old.items ++ s.now }
+pub fn put_all(bytes: &[u8], out: &mut LineBytes)
+    requires { array_vec_len out.old + length bytes.now ≤ LINE_MOST }
+    ensures { out.new.items ≡ out.old.items ++ bytes.now }
 {
-    for &b in s {
+    for &b in bytes {
         out.push(b);
     }
 }

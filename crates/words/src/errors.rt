@@ -4,11 +4,11 @@ ghost use Rattle.words.specs.Codec.{Plain};
 ghost use Rattle.words.specs.ErrorDigits.{error_named, is_errors, errors_text, errors_read};
 ghost use Rattle.words.specs.Laws.{errors_codec};
 
-use crate::codec::{self, Line, Wire};
+use crate::codec::{self, LineBytes, Wire};
 use crate::input;
 
 /// Fan, lamp, temperature, cover, filter, other: 0 no error or not known, 1 a warning, 2 an error.
-pub type Errors = [u8; 6];
+pub type ErrorStatus = [u8; 6];
 
 fn error_named(b: u8) -> Option<u8>
     ensures { result ≡ error_named b }
@@ -28,20 +28,20 @@ impl Wire for [u8; 6] {
 
     ghost read = { errors_read };
 
-    fn put(self, out: &mut Line) {
+    fn put(self, out: &mut LineBytes) {
         for digit in self {
             out.push(input::number_digit(digit));
         }
     }
 
-    fn take(s: &[u8]) -> Option<([u8; 6], &[u8])> {
-        let (fan, s) = codec::letter(s, error_named)?;
-        let (lamp, s) = codec::letter(s, error_named)?;
-        let (temperature, s) = codec::letter(s, error_named)?;
-        let (cover, s) = codec::letter(s, error_named)?;
-        let (filter, s) = codec::letter(s, error_named)?;
-        let (other, s) = codec::letter(s, error_named)?;
-        Some(([fan, lamp, temperature, cover, filter, other], s))
+    fn take(bytes: &[u8]) -> Option<([u8; 6], &[u8])> {
+        let (fan, bytes) = codec::letter(bytes, error_named)?;
+        let (lamp, bytes) = codec::letter(bytes, error_named)?;
+        let (temperature, bytes) = codec::letter(bytes, error_named)?;
+        let (cover, bytes) = codec::letter(bytes, error_named)?;
+        let (filter, bytes) = codec::letter(bytes, error_named)?;
+        let (other, bytes) = codec::letter(bytes, error_named)?;
+        Some(([fan, lamp, temperature, cover, filter, other], bytes))
     }
 
     ghost codec = { errors_codec };

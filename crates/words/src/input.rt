@@ -6,7 +6,10 @@ ghost use Rattle.words.specs.Inputs.{number_digit, input_text, input_read};
 ghost use Rattle.words.specs.Codec.{Plain};
 ghost use Rattle.words.specs.Laws.{input_codec};
 
-use crate::codec::{self, Line, Wire};
+use crate::codec::{self, LineBytes, Wire};
+
+/// The most inputs: as many as the standard allows (RULES, Inputs).
+pub const INPUTS_MOST: usize = 32;
 
 /// The type of an input, 1 to 6 in this order; 6 is of Class 2 only (RULES, Inputs).
 #[derive(Clone, Copy, Default)]
@@ -42,15 +45,16 @@ fn is_number_character(b: u8) -> bool
     ((b'1' <= b) & (b <= b'9')) | ((b'A' <= b) & (b <= b'Z'))
 }
 
-/// Whether two characters name an input of class `k`: 11 and 59 do; 10 and 20 do not; 61 and 1A do in Class 2 only.
-/// Every `k` other than 1 is read as Class 2.
-pub fn is_input_text(k: u8, a: u8, b: u8) -> bool
-    ensures { result ≡ is_input_text k a b }
+/// Whether two characters name an input of class `class`: 11 and 59 do; 10 and 20 do not; 61 and 1A do in Class 2 only.
+/// Every `class` other than 1 is read as Class 2.
+pub fn is_input_text(class: u8, source_byte: u8, number_byte: u8) -> bool
+    ensures { result ≡ is_input_text class source_byte number_byte }
 {
-    if k == 1 {
-        return ((b'1' <= a) & (a <= b'5')) & ((b'1' <= b) & (b <= b'9'));
+    if class == 1 {
+        return ((b'1' <= source_byte) & (source_byte <= b'5'))
+            & ((b'1' <= number_byte) & (number_byte <= b'9'));
     }
-    ((b'1' <= a) & (a <= b'6')) & is_number_character(b)
+    ((b'1' <= source_byte) & (source_byte <= b'6')) & is_number_character(number_byte)
 }
 
 #[tactic(auto, unfolding(crate::specs::Inputs::source_named))]
@@ -80,37 +84,37 @@ fn number_for(b: u8) -> u8
 
 /// Returns the input of either class that two characters name, or `None`.
 #[tactic(auto, unfolding(crate::specs::Inputs::read_input))]
-pub fn read_input(a: u8, b: u8) -> Option<Input>
-    ensures { result ≡ read_input a b }
+pub fn read_input(source_byte: u8, number_byte: u8) -> Option<Input>
+    ensures { result ≡ read_input source_byte number_byte }
 {
-    if !is_input_text(2, a, b) {
+    if !is_input_text(2, source_byte, number_byte) {
         return None;
     }
-    let source = source_named(a);
-    let number = number_for(b);
+    let source = source_named(source_byte);
+    let number = number_for(number_byte);
     Some(Input { source, number })
 }
 
 /// Returns the input that a word of two characters names, or `None`.
 #[tactic(auto, unfolding(crate::specs::Inputs::input_of))]
-pub fn input_of(w: &[u8]) -> Option<Input>
-    ensures { result ≡ input_of w.now }
+pub fn input_of(bytes: &[u8]) -> Option<Input>
+    ensures { result ≡ input_of bytes.now }
 {
-    codec::parse(w)
+    codec::parse(bytes)
 }
 
 /// Whether two characters can name the input.
-pub fn is_input(i: Input) -> bool
-    ensures { result ≡ is_input i }
+pub fn is_input(input: Input) -> bool
+    ensures { result ≡ is_input input }
 {
-    1 <= i.number && i.number <= 35
+    1 <= input.number && input.number <= 35
 }
 
 /// Returns the character of a source: its type, 1 to 6.
-pub fn source_digit(s: Source) -> u8
-    ensures { result ≡ source_digit s }
+pub fn source_digit(source: Source) -> u8
+    ensures { result ≡ source_digit source }
 {
-    match s {
+    match source {
         Source::Rgb => b'1',
         Source::Video => b'2',
         Source::Digital => b'3',
@@ -122,27 +126,27 @@ pub fn source_digit(s: Source) -> u8
 
 /// Returns the character of a number of 1 to 35: a digit up to 9, a letter from 10 on.
 #[tactic(auto, unfolding(crate::specs::Sources::number_character))]
-pub fn number_character(n: u8) -> u8
-    ensures { result ≡ number_character n }
+pub fn number_character(number: u8) -> u8
+    ensures { result ≡ number_character number }
 {
-    if n <= 9 {
-        return b'0' + n;
+    if number <= 9 {
+        return b'0' + number;
     }
-    b'A' + (n - 10) % 26
+    b'A' + (number - 10) % 26
 }
 
 /// Returns the two characters of an input, the type's first.
-pub fn input_text(i: Input) -> [u8; 2]
-    ensures { result ≡ input_text i }
+pub fn input_text(input: Input) -> [u8; 2]
+    ensures { result ≡ input_text input }
 {
-    [source_digit(i.source), number_character(i.number)]
+    [source_digit(input.source), number_character(input.number)]
 }
 
 /// Returns the last decimal digit of a number, as a character.
-pub fn number_digit(n: u8) -> u8
-    ensures { result ≡ number_digit n }
+pub fn number_digit(number: u8) -> u8
+    ensures { result ≡ number_digit number }
 {
-    b'0' + n % 10
+    b'0' + number % 10
 }
 
 impl Wire for Input {
@@ -154,12 +158,12 @@ impl Wire for Input {
 
     ghost read = { input_read };
 
-    fn put(self, out: &mut Line) {
+    fn put(self, out: &mut LineBytes) {
         codec::put_all(&input_text(self), out);
     }
 
-    fn take(s: &[u8]) -> Option<(Input, &[u8])> {
-        let [a, b, rest @ ..] = s else {
+    fn take(bytes: &[u8]) -> Option<(Input, &[u8])> {
+        let [a, b, rest @ ..] = bytes else {
             return None;
         };
         Some((read_input(*a, *b)?, rest))

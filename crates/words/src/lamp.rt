@@ -2,7 +2,10 @@
 ghost use Rattle.words.specs.Lamps.{lamp_text, is_lamp_hours, WritesLampHours, lamp_read};
 ghost use Rattle.words.specs.Laws.{lamp_codec};
 
-use crate::codec::{Line, Wire};
+use crate::codec::{LineBytes, Wire};
+
+/// The most lamps of a projector (RULES, Lamps).
+pub const LAMPS_MOST: usize = 8;
 
 /// What a projector answers for one lamp.
 #[derive(Clone, Copy, Default)]
@@ -22,14 +25,14 @@ impl Wire for LampHours {
 
     ghost read = { lamp_read };
 
-    fn put(self, out: &mut Line) {
+    fn put(self, out: &mut LineBytes) {
         self.hours.put(out);
         out.push(b' ');
         self.lit.put(out);
     }
 
-    fn take(s: &[u8]) -> Option<(LampHours, &[u8])> {
-        let (hours, rest) = u32::take(s)?;
+    fn take(bytes: &[u8]) -> Option<(LampHours, &[u8])> {
+        let (hours, rest) = u32::take(bytes)?;
         let [b' ', rest @ ..] = rest else {
             return None;
         };

@@ -4,6 +4,7 @@
 pub mod byte;
 pub mod class;
 pub mod codec;
+pub mod error_reply;
 pub mod errors;
 pub mod input;
 pub mod lamp;
@@ -11,6 +12,5 @@ pub mod list;
 pub mod mutes;
 pub mod number;
 pub mod power;
-pub mod refusal;
 pub mod texts;
 pub mod theorems;

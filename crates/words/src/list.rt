@@ -4,15 +4,15 @@ ghost use Rattle.std.specs.Option.{option_map};
 ghost use Rattle.arrayvec.specs.ArrayVec.{array_vec_len};
 ghost use Rattle.words.specs.Joined.{list_text, list_read};
 
-use crate::codec::{LINE_MOST, Line, Wire};
+use crate::codec::{LINE_MOST, LineBytes, Wire};
 use arrayvec::ArrayVec;
 
-/// Writes the values of `xs` to the end of the line, with a space between any two.
-pub fn put_list<T: Wire>(xs: &[T], out: &mut Line)
-    requires { array_vec_len out.old + length (list_text T.text xs.now) ≤ LINE_MOST }
-    ensures { out.new.items ≡ out.old.items ++ list_text T.text xs.now }
+/// Writes the values of `items` to the end of the line, with a space between any two.
+pub fn put_list<T: Wire>(items: &[T], out: &mut LineBytes)
+    requires { array_vec_len out.old + length (list_text T.text items.now) ≤ LINE_MOST }
+    ensures { out.new.items ≡ out.old.items ++ list_text T.text items.now }
 {
-    let [first, rest @ ..] = xs else {
+    let [first, rest @ ..] = items else {
         return;
     };
     first.put(out);
@@ -22,12 +22,12 @@ pub fn put_list<T: Wire>(xs: &[T], out: &mut Line)
     }
 }
 
-/// Returns the values that all of `s` says, one to `N` of them.
-pub fn parse_list<T: Wire + Default, const N: usize>(s: &[u8]) -> Option<ArrayVec<T, N>>
-    ensures { option_map (λ v. v.items) result ≡ list_read T.read N s.now }
+/// Returns the values that all of `bytes` says, one to `N` of them.
+pub fn parse_list<T: Wire + Default, const N: usize>(bytes: &[u8]) -> Option<ArrayVec<T, N>>
+    ensures { option_map (λ v. v.items) result ≡ list_read T.read N bytes.now }
 {
     let mut xs = ArrayVec::new();
-    let mut rest = s;
+    let mut rest = bytes;
     for _k in 0..N {
         let (x, after) = T::take(rest)?;
         xs.push(x);

@@ -4,7 +4,7 @@ ghost use Rattle.words.specs.Codec.{Plain};
 ghost use Rattle.words.specs.Muting.{mutes_text, mutes_read};
 ghost use Rattle.words.specs.Laws.{mutes_codec};
 
-use crate::codec::{self, Line, Wire};
+use crate::codec::{self, LineBytes, Wire};
 
 /// What is muted.
 #[derive(Clone, Copy)]
@@ -35,12 +35,12 @@ impl Wire for Mutes {
 
     ghost read = { mutes_read };
 
-    fn put(self, out: &mut Line) {
+    fn put(self, out: &mut LineBytes) {
         codec::put_all(&mutes_text(self), out);
     }
 
-    fn take(s: &[u8]) -> Option<(Mutes, &[u8])> {
-        let (video, audio, rest) = match s {
+    fn take(bytes: &[u8]) -> Option<(Mutes, &[u8])> {
+        let (video, audio, rest) = match bytes {
             [b'1', b'1', rest @ ..] => (true, false, rest),
             [b'2', b'1', rest @ ..] => (false, true, rest),
             [b'3', b'1', rest @ ..] => (true, true, rest),

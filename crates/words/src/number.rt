@@ -4,7 +4,7 @@ ghost use Rattle.numbers.specs.Decimal.{digits, WritesNumber};
 ghost use Rattle.words.specs.Numerals.{is_numeral, figures, number_read};
 ghost use Rattle.words.specs.Laws.{number_codec};
 
-use crate::codec::{Line, Wire};
+use crate::codec::{LineBytes, Wire};
 
 // How many digits stand at the front.
 fn figures(s: &[u8]) -> usize
@@ -28,12 +28,12 @@ impl Wire for u32 {
 
     ghost read = { number_read };
 
-    fn put(self, out: &mut Line) {
+    fn put(self, out: &mut LineBytes) {
         numbers::put_number(self, out);
     }
 
-    fn take(s: &[u8]) -> Option<(u32, &[u8])> {
-        let (figures, rest) = s.split_at(figures(s));
+    fn take(bytes: &[u8]) -> Option<(u32, &[u8])> {
+        let (figures, rest) = bytes.split_at(figures(bytes));
         Some((numbers::read_number(figures)?, rest))
     }
 

@@ -5,11 +5,11 @@ ghost use Rattle.words.specs.Powers.{power_code, power_named, power_text, power_
 ghost use Rattle.words.specs.Powers.{switch_code, switch_named, switch_text, switch_read};
 ghost use Rattle.words.specs.Laws.{power_codec, switch_codec};
 
-use crate::codec::{self, Line, Wire};
+use crate::codec::{self, LineBytes, Wire};
 
 /// The power as a projector answers it.
 #[derive(Clone, Copy)]
-pub enum Power {
+pub enum PowerStatus {
     /// The lamps are off.
     Off,
     /// The lamps burn.
@@ -20,30 +20,30 @@ pub enum Power {
     WarmUp,
 }
 
-fn power_code(p: Power) -> u8
+fn power_code(p: PowerStatus) -> u8
     ensures { result ≡ power_code p }
 {
     match p {
-        Power::Off => b'0',
-        Power::On => b'1',
-        Power::Cooling => b'2',
-        Power::WarmUp => b'3',
+        PowerStatus::Off => b'0',
+        PowerStatus::On => b'1',
+        PowerStatus::Cooling => b'2',
+        PowerStatus::WarmUp => b'3',
     }
 }
 
-fn power_named(b: u8) -> Option<Power>
+fn power_named(b: u8) -> Option<PowerStatus>
     ensures { result ≡ power_named b }
 {
     match b {
-        b'0' => Some(Power::Off),
-        b'1' => Some(Power::On),
-        b'2' => Some(Power::Cooling),
-        b'3' => Some(Power::WarmUp),
+        b'0' => Some(PowerStatus::Off),
+        b'1' => Some(PowerStatus::On),
+        b'2' => Some(PowerStatus::Cooling),
+        b'3' => Some(PowerStatus::WarmUp),
         _ => None,
     }
 }
 
-impl Wire for Power {
+impl Wire for PowerStatus {
     ghost legal = { λ _. true };
 
     ghost text = { power_text };
@@ -52,12 +52,12 @@ impl Wire for Power {
 
     ghost read = { power_read };
 
-    fn put(self, out: &mut Line) {
+    fn put(self, out: &mut LineBytes) {
         out.push(power_code(self));
     }
 
-    fn take(s: &[u8]) -> Option<(Power, &[u8])> {
-        codec::letter(s, power_named)
+    fn take(bytes: &[u8]) -> Option<(PowerStatus, &[u8])> {
+        codec::letter(bytes, power_named)
     }
 
     ghost codec = { power_codec };
@@ -89,12 +89,12 @@ impl Wire for bool {
 
     ghost read = { switch_read };
 
-    fn put(self, out: &mut Line) {
+    fn put(self, out: &mut LineBytes) {
         out.push(switch_code(self));
     }
 
-    fn take(s: &[u8]) -> Option<(bool, &[u8])> {
-        codec::letter(s, switch_named)
+    fn take(bytes: &[u8]) -> Option<(bool, &[u8])> {
+        codec::letter(bytes, switch_named)
     }
 
     ghost codec = { switch_codec };

@@ -4,7 +4,7 @@ ghost use Rattle.std.specs.List.{list_all};
 ghost use Rattle.std.specs.Str.{is_utf8};
 ghost use Rattle.text.specs.Words.{◌from◌to◌};
 ghost use Rattle.words.specs.Bytes.{is_alnum};
-ghost use Rattle.words.specs.Texts.{is_refusal, is_text_byte, is_text, is_name, is_info, is_input_name};
+ghost use Rattle.words.specs.Texts.{is_error_reply, is_text_byte, is_text, is_name, is_info, is_input_name};
 ghost use Rattle.words.specs.Texts.{is_password};
 
 use crate::byte;
@@ -28,15 +28,15 @@ fn is_refusal_digit(b: u8) -> bool
 }
 
 /// Whether s is exactly ERR1, ERR2, ERR3 or ERR4.
-#[tactic(auto, unfolding(crate::specs::Texts::is_refusal))]
-pub fn is_refusal(s: &[u8]) -> bool
-    ensures { result ≡ is_refusal s.now }
+#[tactic(auto, unfolding(crate::specs::Texts::is_error_reply))]
+pub fn is_error_reply(bytes: &[u8]) -> bool
+    ensures { result ≡ is_error_reply bytes.now }
 {
-    matches!(s, [b'E', b'R', b'R', digit] if is_refusal_digit(*digit))
+    matches!(bytes, [b'E', b'R', b'R', digit] if is_refusal_digit(*digit))
 }
 
 // Each byte is 0x20 to 0xFF. No turn leaves early, so that sixteen bytes go at once.
-fn all_text(s: &[u8]) -> bool
+fn are_text_bytes(s: &[u8]) -> bool
     ensures { result ≡ list_all is_text_byte s.now }
 {
     let mut ok = true;
@@ -46,44 +46,44 @@ fn all_text(s: &[u8]) -> bool
     ok
 }
 
-/// Whether `s` is a text: 0 to `most` bytes, each 0x20 to 0xFF, and no refusal.
+/// Whether `bytes` is a text: 0 to `most` bytes, each 0x20 to 0xFF, and no refusal.
 #[tactic(auto, unfolding(crate::specs::Texts::is_text))]
-pub fn is_text(s: &[u8], most: usize) -> bool
-    ensures { result ≡ is_text most s.now }
+pub fn is_text(bytes: &[u8], most: usize) -> bool
+    ensures { result ≡ is_text most bytes.now }
 {
-    s.len() <= most && all_text(s) && !is_refusal(s)
+    bytes.len() <= most && are_text_bytes(bytes) && !is_error_reply(bytes)
 }
 
 /// Whether s is well-formed UTF-8, by the table of RFC 3629 (`theorems::bytes_and_numbers_agree`).
-pub fn is_utf8(s: &[u8]) -> bool
-    ensures { result ≡ is_utf8 s.now }
+pub fn is_utf8(bytes: &[u8]) -> bool
+    ensures { result ≡ is_utf8 bytes.now }
 {
-    str::from_utf8(s).is_ok()
+    str::from_utf8(bytes).is_ok()
 }
 
-/// Whether `s` can be the projector's name, for set-up, legality and reader alike (RULES, Texts).
-pub fn is_name(s: &[u8]) -> bool
-    ensures { result ≡ is_name s.now }
+/// Whether `bytes` can be the projector's name, for set-up, legality and reader alike (RULES, Texts).
+pub fn is_name(bytes: &[u8]) -> bool
+    ensures { result ≡ is_name bytes.now }
 {
-    is_text(s, NAME_MOST) && is_utf8(s)
+    is_text(bytes, NAME_MOST) && is_utf8(bytes)
 }
 
-/// Whether `s` can be maker, model, other information, serial number or version.
-pub fn is_info(s: &[u8]) -> bool
-    ensures { result ≡ is_info s.now }
+/// Whether `bytes` can be maker, model, other information, serial number or version.
+pub fn is_info(bytes: &[u8]) -> bool
+    ensures { result ≡ is_info bytes.now }
 {
-    is_text(s, INFO_MOST)
+    is_text(bytes, INFO_MOST)
 }
 
-/// Whether `s` can be an input's name (RULES, Class 2).
-pub fn is_input_name(s: &[u8]) -> bool
-    ensures { result ≡ is_input_name s.now }
+/// Whether `bytes` can be an input's name (RULES, Class 2).
+pub fn is_input_name(bytes: &[u8]) -> bool
+    ensures { result ≡ is_input_name bytes.now }
 {
-    is_text(s, INPUT_NAME_MOST)
+    is_text(bytes, INPUT_NAME_MOST)
 }
 
 // No turn leaves early, so that sixteen bytes go at once.
-fn all_alnum(s: &[u8]) -> bool
+fn are_alnum(s: &[u8]) -> bool
     ensures { result ≡ list_all is_alnum s.now }
 {
     let mut ok = true;
@@ -93,10 +93,10 @@ fn all_alnum(s: &[u8]) -> bool
     ok
 }
 
-/// Whether `s` is 0 to 32 ASCII letters and digits.
+/// Whether `bytes` is 0 to 32 ASCII letters and digits.
 #[tactic(auto, unfolding(crate::specs::Texts::is_password))]
-pub fn is_password(s: &[u8]) -> bool
-    ensures { result ≡ is_password s.now }
+pub fn is_password(bytes: &[u8]) -> bool
+    ensures { result ≡ is_password bytes.now }
 {
-    s.len() <= PASSWORD_MOST && all_alnum(s)
+    bytes.len() <= PASSWORD_MOST && are_alnum(bytes)
 }

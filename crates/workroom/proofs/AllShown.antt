@@ -4,9 +4,9 @@
 -- Assumes nothing.
 use Rattle.std.proofs.Common.{arith, ℕ, ◌+◌, ◌<◌, ◌≡◌, refl, sym, ap, subst, ◌∙◌, true, false, List, [], ◌∷◌}
 use Rattle.std.proofs.lemmas.Bool.{false≢true}
-use Rattle.record.specs.Limits.{age_end, awaiting, opened}
+use Rattle.record.specs.Limits.{age_end, phase_awaiting, phase_open}
 use Rattle.record.specs.Legal.{is_legal, is_timed}
-use Rattle.record.specs.Places.{connection_at, is_shut}
+use Rattle.record.specs.Places.{connection_at, is_closed}
 use Rattle.record.specs.declared.types.Settings.{Settings}
 use Rattle.record.specs.declared.types.Own.{Own}
 use Rattle.record.specs.declared.types.Connection.{Connection}
@@ -26,7 +26,7 @@ use Rattle.panel.specs.AnyPanel.{ours_panel}
 use Rattle.panel.specs.Entries.{Talk, Shown, talk_of, shown_of}
 use Rattle.panel.specs.Showing.{showing}
 use Rattle.panel.specs.LegalPanels.{is_panel}
-use Rattle.panel.specs.declared.types.Entry.{Entry}
+use Rattle.panel.specs.declared.types.PanelEntry.{PanelEntry}
 use Rattle.panel.specs.declared.types.Panel.{Panel}
 use Rattle.panel.proofs.OnlyItsEntry.{OnlyAt, step_touches_its_entry, command_touches_its_entry}
 use Rattle.panel.proofs.PanelsLegal.{commanded_stays_legal, stepped_stays_legal}
@@ -45,7 +45,7 @@ record FitsStill (t : Talk) (c : Connection) : Type 0 where
   between : c.line ≡ empty_line
 
 abbrev UnlessShut : Talk → Connection → Type 0
-UnlessShut t c = is_shut c ≡ false → FitsStill t c
+UnlessShut t c = is_closed c ≡ false → FitsStill t c
 
 older_fits : {t : Talk} (c : Connection) (age : ℕ) → Fit t c
     → Fit t (record { phase = c.phase; age = age; random = c.random; line = c.line })
@@ -54,12 +54,12 @@ older_fits c age fit = grind arith
 seconds_fit : (t : Talk) (n : ℕ) (c : Connection) → FitsStill t c → UnlessShut t (times connection_second n c)
 seconds_fit t n c fits =
     connection_then (UnlessShut t)
-    (λ live. absurd (false≢true (sym live ∙ ap is_shut closed_spelt)))
+    (λ live. absurd (false≢true (sym live ∙ ap is_closed closed_spelt)))
     (λ k age still live. record { fit = older_fits k age (still live).fit; between = (still live).between })
     n c (λ live. fits)
 
 module _ (i p : ℕ) (w : Workroom) (j : IsJoined i p w) where
-  abbrev entry : Entry
+  abbrev entry : PanelEntry
   entry = our_entry i w
 
   abbrev device : Device
@@ -68,7 +68,7 @@ module _ (i p : ℕ) (w : Workroom) (j : IsJoined i p w) where
   abbrev connection : Connection
   connection = connection_at device p
 
-  time_keeps : (n : ℕ) → is_shut (connection_at (left_by device (time_passed device n)) p) ≡ false
+  time_keeps : (n : ℕ) → is_closed (connection_at (left_by device (time_passed device n)) p) ≡ false
       → ShownAs i p w (shown_of entry) (own_at device.settings device.own (waits n))
       (happened ours_panel i p w (waits n))
   time_keeps n live =
@@ -77,7 +77,7 @@ module _ (i p : ℕ) (w : Workroom) (j : IsJoined i p w) where
       let here : connection_at (parts_after n device) p ≡ times connection_second n connection
       = ap (λ (d : Device). connection_at d p) (sym (parts_pass n device)) ∙ place_passes n device p in
       let still = seconds_fit (talk_of entry) n connection (record { fit = j.fit; between = j.between })
-      (ap is_shut (sym here) ∙ sym (ap (λ (d : Device). is_shut (connection_at d p)) then) ∙ live) in
+      (ap is_closed (sym here) ∙ sym (ap (λ (d : Device). is_closed (connection_at d p)) then) ∙ live) in
       subst (λ (d : Device). ShownAs i p w (shown_of entry) (own_at device.settings device.own (waits n))
       (room_of w.panel d)) (sym then)
       (shown_as_it_stands j.acquainted (panel_as_it_was j) j.place
@@ -131,18 +131,18 @@ module _ (i p : ℕ) where
   abbrev phase : Workroom → ℕ
   phase w = (our_connection p w).phase
 
-  connection_at-left_by : (w : Workroom) (n : ℕ) → phase w ≡ opened
+  connection_at-left_by : (w : Workroom) (n : ℕ) → phase w ≡ phase_open
       → connection_at (left_by w.device (time_passed w.device n)) p ≡ our_connection p w
   connection_at-left_by w n stands = (passed_leaves w.device n).connection p (ap is_timed stands)
 
-  open_kept_up : (w : Workroom) (h : RoomMove) → phase w ≡ opened → IsOther i p w h → IsKeptUp i p w h
+  open_kept_up : (w : Workroom) (h : RoomMove) → phase w ≡ phase_open → IsOther i p w h → IsKeptUp i p w h
   open_kept_up w h stands other = grind (arith, connection_at-left_by)
 
-  still_open : (w : Workroom) (h : RoomMove) → IsJoined i p w → phase w ≡ opened → IsOther i p w h
-      → phase (happened ours_panel i p w h) ≡ opened
+  still_open : (w : Workroom) (h : RoomMove) → IsJoined i p w → phase w ≡ phase_open → IsOther i p w h
+      → phase (happened ours_panel i p w h) ≡ phase_open
   still_open w h j stands other = grind (arith, open_asked, connection_at-left_by)
 
-  pub open_throughout : (w : Workroom) (hs : List RoomMove) → IsJoined i p w → phase w ≡ opened
+  pub open_throughout : (w : Workroom) (hs : List RoomMove) → IsJoined i p w → phase w ≡ phase_open
       → AllOther i p ours_panel w hs → AllKeptUp i p ours_panel w hs
   open_throughout w [] j stands others = tt
   open_throughout w (h ∷ hs) j stands others =
@@ -150,7 +150,7 @@ module _ (i p : ℕ) where
       let next = (shown_then i p w j h kept).joined in
       (kept, open_throughout (happened ours_panel i p w h) hs next (still_open w h j stands others.0) others.1)
 
-  pub young_kept_up : (w : Workroom) (n : ℕ) → IsJoined i p w → phase w ≡ awaiting
+  pub young_kept_up : (w : Workroom) (n : ℕ) → IsJoined i p w → phase w ≡ phase_awaiting
       → (our_connection p w).age + n < age_end
       → IsKeptUp i p w (waits n)
   young_kept_up w n j waited young = grind (arith, passed_accepted, place_passes, grows_older)

@@ -12,10 +12,10 @@ use Rattle.digest.specs.Hex.{leading_digest}
 use Rattle.pjlink.specs.Commands.{command_class, is_command, command_line}
 use Rattle.pjlink.specs.declared.command.Command.{Command}
 use Rattle.pjlink.specs.Said.{Said}
-use Rattle.record.specs.Limits.{awaiting, opened}
+use Rattle.record.specs.Limits.{phase_awaiting, phase_open}
 use Rattle.record.specs.Legal.{is_legal}
-use Rattle.record.specs.Places.{connection_at, is_shut, with_place}
-use Rattle.record.specs.declared.types.Line.{Line}
+use Rattle.record.specs.Places.{connection_at, is_closed, with_place}
+use Rattle.record.specs.declared.types.CollectedLine.{CollectedLine}
 use Rattle.record.specs.declared.types.Own.{Own}
 use Rattle.record.specs.declared.types.Connection.{Connection}
 use Rattle.record.specs.declared.types.Device.{Device}
@@ -41,7 +41,7 @@ use Rattle.panel.specs.Showing.{showing}
 use Rattle.panel.specs.Stepping.{answered_entry, sent_entry, heard_line, is_unready, line_sent}
 use Rattle.panel.specs.StepTable.{IsUnderWay, answers}
 use Rattle.panel.specs.PanelCalls.{PanelAs, entry_at, sent_at, command_at, stepped_at}
-use Rattle.panel.specs.declared.types.Entry.{Entry}
+use Rattle.panel.specs.declared.types.PanelEntry.{PanelEntry}
 use Rattle.panel.specs.declared.types.Panel.{Panel}
 use Rattle.panel.proofs.Cases.{Commands, commanded_by, commanded_done}
 use Rattle.panel.proofs.LinesSent.{line_sent_whole}
@@ -60,7 +60,7 @@ use Rattle.workroom.proofs.Standing.{shown_as_it_stands, joined_served, device_a
 fit_greeted : {t : Talk} {c : Connection} → Fit t c → t.greeting ≡ ungreeted → ⊥
 fit_greeted fit = grind arith
 
-fit_live : {t : Talk} {c : Connection} → Fit t c → is_shut c ≡ false
+fit_live : {t : Talk} {c : Connection} → Fit t c → is_closed c ≡ false
 fit_live fit = grind arith
 
 -- nothing leads what follows a first command
@@ -69,7 +69,7 @@ none_leads true = refl
 none_leads false = refl
 
 module _ (i p : ℕ) (w : Workroom) (j : IsJoined i p w) where
-  abbrev entry : Entry
+  abbrev entry : PanelEntry
   entry = our_entry i w
 
   abbrev device : Device
@@ -104,10 +104,10 @@ module _ (i p : ℕ) (w : Workroom) (j : IsJoined i p w) where
     Answers r l = received_at device p l reply_room ≡ r (length l)
 
     unmarked : is_raised connection.line.overlong ≡ false
-    unmarked = ap (λ (l : Line). is_raised l.overlong) (j.between ∙ empty_spelt)
+    unmarked = ap (λ (l : CollectedLine). is_raised l.overlong) (j.between ∙ empty_spelt)
 
     none_held : connection.line.held ≡ 0
-    none_held = ap (λ (l : Line). l.held) (j.between ∙ empty_spelt)
+    none_held = ap (λ (l : CollectedLine). l.held) (j.between ∙ empty_spelt)
 
     led_alike : (led : Bool) → leads_next (talk_of entry) ≡ led → {random : ℕ} → entry.random ≡ random
         → sent ≡ led_by led random (set_up_password device.settings) ++ command_line c
@@ -116,8 +116,8 @@ module _ (i p : ℕ) (w : Workroom) (j : IsJoined i p w) where
     abbrev led_line : List ℕ
     led_line = leading_digest connection.random (set_up_password device.settings) ++ command_line c
 
-    taken_by_fit : (r : ℕ → Result Device) → (connection.phase ≡ opened → Answers r (command_line c))
-        → (connection.phase ≡ awaiting → Answers r led_line) → Fit (talk_of entry) connection → Answers r sent
+    taken_by_fit : (r : ℕ → Result Device) → (connection.phase ≡ phase_open → Answers r (command_line c))
+        → (connection.phase ≡ phase_awaiting → Answers r led_line) → Fit (talk_of entry) connection → Answers r sent
     taken_by_fit r plain led (both_open phase greeted later) =
         subst (Answers r) (sym (led_alike false later refl)) (plain phase)
     taken_by_fit r plain led (both_secured phase greeted first same) =
@@ -166,9 +166,9 @@ module _ (i p : ℕ) (w : Workroom) (j : IsJoined i p w) where
 
     -- the device afterwards, with the own part o
     abbrev left : Own → Device
-    left o = with_place device o p (phase_start connection opened)
+    left o = with_place device o p (phase_start connection phase_open)
 
-    left_open : (o : Own) → connection_at (left o) p ≡ phase_start connection opened
+    left_open : (o : Own) → connection_at (left o) p ≡ phase_start connection phase_open
     left_open o = placed_here device (legal_places device j.acquainted.device) p j.place o _
 
     module _ (there back : List ℕ) where
@@ -181,7 +181,7 @@ module _ (i p : ℕ) (w : Workroom) (j : IsJoined i p w) where
           ≡ room_of (delivered ours_panel i sending.panel back (r (length sent)).reply) (r (length sent)).device
       asked_as_lem r taken whole = grind (arith, done_sending, handed_in_cuts, fit_live)
 
-      phase_then : {o : Own} {q : Panel} → asking ≡ room_of q (left o) → (our_connection p asking).phase ≡ opened
+      phase_then : {o : Own} {q : Panel} → asking ≡ room_of q (left o) → (our_connection p asking).phase ≡ phase_open
       phase_then {o} so =
           ap (λ (x : Workroom). (our_connection p x).phase) so ∙ ap (λ (c : Connection). c.phase) (left_open o)
 
@@ -209,7 +209,7 @@ module _ (i p : ℕ) (w : Workroom) (j : IsJoined i p w) where
         entry_then : entry_at after i ≡ answered_entry (sent_entry entry k) told
         entry_then =
             entry_at-stepped_at sending.panel i sent_there (reply_to c told)
-            ∙ ap (λ (e : Entry). heard_line e (reply_to c told)) entry_sent
+            ∙ ap (λ (e : PanelEntry). heard_line e (reply_to c told)) entry_sent
             ∙ row_steps (sent_entry entry k) (reply_to c told) (answers c told under_way told_back)
 
         reply_shown : ShownAs i p w (showing (shown_of entry) told) own asking
@@ -246,10 +246,10 @@ module _ (i p : ℕ) (w : Workroom) (j : IsJoined i p w) where
         (λ n other. if_no _ _ (ne_eqb n 0 other)) (λ can. cc (ap is_some none, can.named))
 
     -- once something was asked the connection is open, answered or not, and an open one stays so
-    pub asked_open : is_some (coded_command k) ≡ true → (our_connection p then).phase ≡ opened
+    pub asked_open : is_some (coded_command k) ≡ true → (our_connection p then).phase ≡ phase_open
     asked_open named = by (coded_command k) refl
       where
-        by : (m : Option Command) → coded_command k ≡ m → (our_connection p then).phase ≡ opened
+        by : (m : Option Command) → coded_command k ≡ m → (our_connection p then).phase ≡ phase_open
         by (Some c) is =
             ⊎_elim
             (λ (within : command_class c ≤ device.settings.class_number).
@@ -259,7 +259,7 @@ module _ (i p : ℕ) (w : Workroom) (j : IsJoined i p w) where
             (le_or_lt (command_class c) device.settings.class_number)
         by None none = cc (ap is_some none, named)
 
-    pub open_asked : connection.phase ≡ opened → (our_connection p then).phase ≡ opened
+    pub open_asked : connection.phase ≡ phase_open → (our_connection p then).phase ≡ phase_open
     open_asked stands = grind (arith, asked_open, refused_so)
 
     pub command_shown : IsWithin device.settings (coded_command k)

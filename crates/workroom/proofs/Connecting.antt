@@ -9,10 +9,10 @@ use Rattle.text.specs.Flags.{is_raised}
 use Rattle.text.proofs.Orders.{le_or_lt}
 use Rattle.pjlink.specs.Forms.{greeting_open, greeting_secured}
 use Rattle.digest.specs.Hex.{hex_digits}
-use Rattle.record.specs.Limits.{places_count, awaiting, opened}
+use Rattle.record.specs.Limits.{places_count, phase_awaiting, phase_open}
 use Rattle.words.specs.Texts.{is_password}
 use Rattle.record.specs.Legal.{is_connection, is_legal}
-use Rattle.record.specs.Places.{no_connection, connection_at, with_place, is_shut, lowest_shut}
+use Rattle.record.specs.Places.{no_connection, connection_at, with_place, is_closed, lowest_closed}
 use Rattle.record.specs.Record.{closed}
 use Rattle.record.specs.declared.types.Connection.{Connection}
 use Rattle.record.specs.declared.types.Device.{Device}
@@ -25,7 +25,7 @@ use Rattle.device.specs.Calls.{Result, reply_room, place_taken, closed_by}
 use Rattle.device.proofs.Cases.{opened_greeted, opened_lowest, greeted_by_lem, closed_by_lem, closed_at_place}
 use Rattle.device.proofs.Legal.{greeted_legal, closing_legal}
 use Rattle.device.proofs.Untouched.{closing_keeps_settings, closing_keeps_own}
-use Rattle.record.proofs.LowestShut.{below_lowest}
+use Rattle.record.proofs.LowestClosed.{below_lowest}
 use Rattle.pjlink.specs.Greetings.{read_greeting}
 use Rattle.pjlink.proofs.GreetingsHeard.{open_heard, secured_heard}
 use Rattle.panel.specs.AnyPanel.{ours_panel}
@@ -34,7 +34,7 @@ use Rattle.panel.specs.Passwords.{password_room}
 use Rattle.panel.specs.LegalPanels.{panel_most, is_panel}
 use Rattle.panel.specs.Stepping.{with_talk, greeted_as}
 use Rattle.panel.specs.PanelCalls.{PanelAs, entry_at, grown_by, added_to, stepped_at}
-use Rattle.panel.specs.declared.types.Entry.{Entry}
+use Rattle.panel.specs.declared.types.PanelEntry.{PanelEntry}
 use Rattle.panel.specs.declared.types.Panel.{Panel}
 use Rattle.panel.proofs.Cases.{added_by, added_done}
 use Rattle.panel.proofs.PanelsLegal.{added_stays_legal}
@@ -49,18 +49,19 @@ use Rattle.workroom.proofs.EntriesStep.{delivered-cons}
 use Rattle.workroom.proofs.Standing.{acquainted_then, shown_as_it_stands}
 
 -- a closed place is free
-shut_free : (cs : List Connection) (p : ℕ) → is_shut (slice_index_or cs p no_connection) ≡ true → lowest_shut cs ≤ p
-shut_free cs p e = grind (arith, below_lowest, le_or_lt)
+closed_is_free : (cs : List Connection) (p : ℕ) → is_closed (slice_index_or cs p no_connection) ≡ true
+    → lowest_closed cs ≤ p
+closed_is_free cs p e = grind (arith, below_lowest, le_or_lt)
 
 module _ (i : ℕ) (w : Workroom) where
-  abbrev entry : Entry
+  abbrev entry : PanelEntry
   entry = our_entry i w
 
   abbrev device : Device
   device = w.device
 
   abbrev lowest : ℕ
-  lowest = lowest_shut device.connections
+  lowest = lowest_closed device.connections
 
   abbrev with_connection : Connection → Device
   with_connection c = with_place device device.own lowest c
@@ -116,12 +117,12 @@ module _ (i : ℕ) (w : Workroom) where
         subst (λ (p : Panel). ShownAs i lowest w (shown_of entry) device.own (room_of p (with_connection c)))
         (sym whole) (greeting_joins g c t legal fits between rests heard)
 
-    secured_joins : (r : ℕ) → r < 2 ^ 32 → JoinsBy (greeting_secured (hex_digits 8 r)) (begun_in awaiting r)
+    secured_joins : (r : ℕ) → r < 2 ^ 32 → JoinsBy (greeting_secured (hex_digits 8 r)) (begun_in phase_awaiting r)
     secured_joins r word =
         joins _ _ (greeted_by greeted_secured r) (delivered-cons i w.panel back _ _)
         (both_secured refl (λ none. omega arith) refl refl) refl refl (ap (greeted_as entry) (secured_heard r word))
 
-    open_joins : (r : ℕ) → JoinsBy greeting_open (begun_in opened r)
+    open_joins : (r : ℕ) → JoinsBy greeting_open (begun_in phase_open r)
     open_joins r =
         joins _ _ (greeted_by greeted_open 0) (delivered-cons i w.panel back _ _)
         (both_open refl (λ none. omega arith) refl) refl refl (ap (greeted_as entry) open_heard)
@@ -145,35 +146,36 @@ module _ (i p : ℕ) (w : Workroom) (known : IsAcquainted i w) (place : p < plac
   abbrev gone : Device
   gone = (closed_by before p).device
 
-  closed_there : is_shut (connection_at gone p) ≡ true
-  closed_there = by (is_shut (connection_at before p)) refl
+  closed_there : is_closed (connection_at gone p) ≡ true
+  closed_there = by (is_closed (connection_at before p)) refl
     where
       closes : connection_at (with_place before before.own p closed) p ≡ closed
       closes = placed_here before (legal_places before known.device) p place before.own closed
 
-      by : (t : Bool) → is_shut (connection_at before p) ≡ t → is_shut (connection_at gone p) ≡ true
+      by : (t : Bool) → is_closed (connection_at before p) ≡ t → is_closed (connection_at gone p) ≡ true
       by true e =
-          closed_by_lem before p (λ r. is_shut (connection_at r.device p) ≡ true) (λ n other. e)
-          (λ legal there live. ap is_shut (closes ∙ closed_spelt))
+          closed_by_lem before p (λ r. is_closed (connection_at r.device p) ≡ true) (λ n other. e)
+          (λ legal there live. ap is_closed (closes ∙ closed_spelt))
       by false e =
-          ap (λ (r : Result Device). is_shut (connection_at r.device p)) (closed_at_place before p known.device place e)
-          ∙ ap is_shut (closes ∙ closed_spelt)
+          ap (λ (r : Result Device). is_closed (connection_at r.device p)) (closed_at_place before p known.device place
+          e)
+          ∙ ap is_closed (closes ∙ closed_spelt)
 
   pub parted_apart : PartedAs i w (parted ours_panel i p w)
   parted_apart =
       let served = known_served i w known in
       let lost = entry_at-lost_at w.panel i served in
-      let free = shut_free gone.connections p closed_there in
+      let free = closed_is_free gone.connections p closed_there in
       record {
-        shows = ap (λ (e : Entry). shown_of e) lost;
-        strays = ap (λ (e : Entry). e.strays) lost;
+        shows = ap (λ (e : PanelEntry). shown_of e) lost;
+        strays = ap (λ (e : PanelEntry). e.strays) lost;
         settings = closing_keeps_settings before p;
         does = closing_keeps_own before p;
         apart = record {
           acquainted = acquainted_then known
               (record { served = lost_served w.panel i served; stands = lost; password = refl; strays = refl })
               (closing_legal before known.device p) (closing_keeps_settings before p);
-          waiting = ap (λ (e : Entry). e.greeting) lost;
+          waiting = ap (λ (e : PanelEntry). e.greeting) lost;
           free = omega (arith, place, free);
         };
       }
@@ -181,7 +183,8 @@ module _ (i p : ℕ) (w : Workroom) (known : IsAcquainted i w) (place : p < plac
 -- a projector just added
 module _ (p : Panel) (s : List ℕ) (d : Device) where
   abbrev Begun : PanelAs → Type 0
-  Begun r = r.number ≡ 0 → is_legal d ≡ true → lowest_shut d.connections < places_count → set_up_password d.settings ≡ s
+  Begun r = r.number ≡ 0 → is_legal d ≡ true → lowest_closed d.connections < places_count → set_up_password d.settings
+      ≡ s
       → BegunAs p.count (room_of r.panel d)
 
   module _ (legal : is_panel p ≡ true) (word : is_password s ≡ true) (free : p.count < panel_most) where
@@ -204,8 +207,8 @@ module _ (p : Panel) (s : List ℕ) (d : Device) where
       (λ legal word free zero known place same.
       let last = placed_last legal word free in
       record {
-        shows = ap (λ (e : Entry). shown_of e) last;
-        strays = ap (λ (e : Entry). e.strays) last;
+        shows = ap (λ (e : PanelEntry). shown_of e) last;
+        strays = ap (λ (e : PanelEntry). e.strays) last;
         apart = record {
           acquainted = record {
             panel = grown_legal legal word free;
@@ -213,7 +216,7 @@ module _ (p : Panel) (s : List ℕ) (d : Device) where
             device = known;
             password = ap password_in last ∙ password_in-fresh_entry legal word free ∙ sym same;
           };
-          waiting = ap (λ (e : Entry). e.greeting) last;
+          waiting = ap (λ (e : PanelEntry). e.greeting) last;
           free = place;
         };
       })

@@ -6,7 +6,7 @@ use Rattle.std.proofs.Common.{drop, take-append-drop}
 use Rattle.std.proofs.Math.Seq.{take-append_seam, drop-append_seam}
 use Rattle.record.specs.Limits.{places_count}
 use Rattle.record.specs.Legal.{is_legal}
-use Rattle.record.specs.Places.{connection_at, is_shut}
+use Rattle.record.specs.Places.{connection_at, is_closed}
 use Rattle.record.specs.declared.types.Device.{Device}
 use Rattle.stream.specs.Machine.{stream_of}
 use Rattle.stream.proofs.WholeParts.{uncut_none, uncut_more, handed_parts-cons}
@@ -31,7 +31,7 @@ list_all_cutting p [] = ap (λ (l : List ℕ). l ∷ []) (one_part p)
 list_all_cutting p (q ∷ ps) = grind (arith, uncut_more, take-append_seam, drop-append_seam, list_all_cutting q ps)
 
 pub handed_in_cuts : (d : Device) (p : ℕ) (there l : List ℕ) → p < places_count → is_legal d ≡ true
-    → is_shut (connection_at d p) ≡ false
+    → is_closed (connection_at d p) ≡ false
     → let r = received_at d p l reply_room in
     r.taken ≡ length l → handed_there d p there l ≡ record { state = r.device; reply = r.reply }
 handed_in_cuts d p there l place legal live all =

@@ -6,7 +6,7 @@ use Rattle.panel.specs.AnyPanel.{ours_panel}
 use Rattle.panel.specs.Stepping.{lost_entry, sent_entry, heard_line}
 use Rattle.panel.specs.LegalPanels.{is_panel, is_entry}
 use Rattle.panel.specs.PanelCalls.{PanelAs, entry_at, with_entry, command_at, stepped_at, lost_at}
-use Rattle.panel.specs.declared.types.Entry.{Entry}
+use Rattle.panel.specs.declared.types.PanelEntry.{PanelEntry}
 use Rattle.panel.specs.declared.types.Panel.{Panel}
 use Rattle.panel.proofs.PanelsTold.{panel_told, entry_at_legal}
 use Rattle.panel.proofs.PanelsLegal.{commanded_stays_legal, stepped_stays_legal, lost_stays_legal}
@@ -17,7 +17,7 @@ use Rattle.workroom.specs.PanelDemand.{IsServed}
 use Rattle.workroom.proofs.Cuts.{stream_of-cut_at}
 
 module _ (p : Panel) (i : ℕ) (served : IsServed p i) where
-  placed : (e : Entry) → entry_at (with_entry p i e) i ≡ e
+  placed : (e : PanelEntry) → entry_at (with_entry p i e) i ≡ e
   placed e = grind (arith, panel_told, get_or-set_same)
 
   pub entry_legal_there : is_entry (entry_at p i) ≡ true

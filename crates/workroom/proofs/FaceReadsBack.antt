@@ -7,9 +7,9 @@
 use Rattle.std.proofs.Common.{arith, ℕ, ◌^◌, ◌≤◌, ◌<◌, ◌≡◌, true, false, List, Option, Some, Ok}
 use Rattle.pjlink.specs.Commands.{command_class}
 use Rattle.pjlink.specs.declared.command.Command.{Command}
-use Rattle.record.specs.Limits.{places_count, awaiting, opened}
+use Rattle.record.specs.Limits.{places_count, phase_awaiting, phase_open}
 use Rattle.record.specs.Legal.{is_legal}
-use Rattle.record.specs.Places.{connection_at, lowest_shut}
+use Rattle.record.specs.Places.{connection_at, lowest_closed}
 use Rattle.record.specs.declared.types.Device.{Device}
 use Rattle.stream.specs.Collecting.{empty_line}
 use Rattle.meaning.specs.Meaning.{answer_for}
@@ -48,7 +48,7 @@ module _ (d : Device) (p : ℕ) (there : p < places_count) (legal : is_legal d �
       → ToldBy write (coded_command k)
   told write through = grind arith
 
-  pub face_reads_back : (connection_at d p).phase ≡ opened → (random : ℕ) (password : List ℕ)
+  pub face_reads_back : (connection_at d p).phase ≡ phase_open → (random : ℕ) (password : List ℕ)
       → ToldBy (λ m. written_by m false random password memory) (coded_command k)
   face_reads_back phase random password =
       told (λ m. written_by m false random password memory)
@@ -56,14 +56,14 @@ module _ (d : Device) (p : ℕ) (there : p < places_count) (legal : is_legal d �
       random password)
 
   -- with the device's own random number and password
-  pub face_reads_back_secured : (connection_at d p).phase ≡ awaiting
+  pub face_reads_back_secured : (connection_at d p).phase ≡ phase_awaiting
       → ToldBy (λ m. written_by m true (connection_at d p).random (set_up_password d.settings) memory) (coded_command k)
   face_reads_back_secured phase =
       told (λ m. written_by m true (connection_at d p).random (set_up_password d.settings) memory)
       (written_reads_back_secured d p there legal between c (command_writable k c named) within room enough memory lent
       phase)
 
-pub face_greets_back : (d : Device) (r room : ℕ) → is_legal d ≡ true → lowest_shut d.connections < places_count
+pub face_greets_back : (d : Device) (r room : ℕ) → is_legal d ≡ true → lowest_closed d.connections < places_count
     → reply_room ≤ room → r < 2 ^ 32
     → let o = opened_by d r room in
     flat_greeting (read_greeting o.reply) ≡ flat_greeting (greeted_on (connection_at o.device (place_taken d room)))

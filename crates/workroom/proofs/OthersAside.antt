@@ -4,7 +4,7 @@
 use Rattle.std.proofs.Common.{ℕ, ◌<◌, ◌≡◌, refl, true, false, arith}
 use Rattle.record.specs.Limits.{places_count}
 use Rattle.record.specs.Legal.{is_legal}
-use Rattle.record.specs.Places.{connection_at, is_shut, lowest_shut}
+use Rattle.record.specs.Places.{connection_at, is_closed, lowest_closed}
 use Rattle.record.specs.declared.types.Device.{Device}
 use Rattle.record.proofs.LegalTold.{legal_places}
 use Rattle.record.proofs.ConnectionsTold.{placed_elsewhere}
@@ -13,18 +13,18 @@ use Rattle.record.proofs.HostKept.{fault_legal, errors_legal, mark_legal}
 use Rattle.device.specs.Calls.{opened_by}
 use Rattle.device.proofs.Cases.{opened_by_lem}
 use Rattle.device.proofs.Legal.{receiving_legal, opening_legal, closing_legal}
-use Rattle.record.proofs.LowestShut.{lowest_is_shut}
+use Rattle.record.proofs.LowestClosed.{lowest_is_closed}
 use Rattle.device.proofs.Untouched.{receiving_keeps_settings, receiving_keeps_others, closing_keeps_settings}
 use Rattle.device.proofs.Untouched.{connection_at-closed_by, opening_keeps_settings}
 use Rattle.workroom.specs.ShowsWhatWasMeant.{OthersAside}
 
 module _ (p : ℕ) (d : Device) (legal : is_legal d ≡ true) where
   -- opening takes a place that is closed, so not one that is not
-  other_place : is_shut (connection_at d p) ≡ false → lowest_shut d.connections < places_count
-      → p ≡ lowest_shut d.connections → ⊥
-  other_place live free same = grind (arith, lowest_is_shut, legal_places)
+  other_place : is_closed (connection_at d p) ≡ false → lowest_closed d.connections < places_count
+      → p ≡ lowest_closed d.connections → ⊥
+  other_place live free same = grind (arith, lowest_is_closed, legal_places)
 
-  opening_elsewhere : (random room : ℕ) → is_shut (connection_at d p) ≡ false
+  opening_elsewhere : (random room : ℕ) → is_closed (connection_at d p) ≡ false
       → connection_at (opened_by d random room).device p ≡ connection_at d p
   opening_elsewhere random room live =
       opened_by_lem d random room (λ r. connection_at r.device p ≡ connection_at d p) (λ n other. refl)

@@ -3,7 +3,7 @@
 use Rattle.std.proofs.Common.{arith, ℕ, ◌<◌, ◌≡◌, refl, sym, ap, ◌∙◌, true, List, [], get_or-set_same}
 use Rattle.std.proofs.Common.{get_or-set_other, Option, Some, None, is_some}
 use Rattle.std.proofs.lemmas.Bool.{false≢true}
-use Rattle.text.specs.Rows.{Row, first_of}
+use Rattle.text.specs.Rows.{NumberRow, first_of}
 use Rattle.pjlink.specs.declared.command.Command.{Command}
 use Rattle.codes.specs.Commands.{coded_command}
 use Rattle.codes.specs.declared.command.Coded.{Coded}
@@ -14,7 +14,7 @@ use Rattle.panel.specs.Stepping.{lost_entry, sent_entry, line_sent}
 use Rattle.panel.specs.LegalPanels.{panel_most, is_panel}
 use Rattle.panel.specs.PanelCalls.{PanelAs, entry_at, with_entry, grown_by, adding_rows, commanding_rows}
 use Rattle.panel.specs.PanelCalls.{projector_rows, added_to, command_at, stepped_at, lost_at}
-use Rattle.panel.specs.declared.types.Entry.{Entry}
+use Rattle.panel.specs.declared.types.PanelEntry.{PanelEntry}
 use Rattle.panel.specs.declared.types.Panel.{Panel}
 use Rattle.panel.proofs.Cases.{Refusals, Commands, added_by, commanded_by, stepped_by, told_refused, lost_by}
 use Rattle.panel.proofs.LinesSent.{line_sent_whole}
@@ -25,7 +25,7 @@ use Rattle.panel.proofs.Refusals.{adding_number, commanding_number, hearing_numb
 use Rattle.workroom.specs.PanelCallsDone.{OnlyThere, GrownBy, line_due, CallDone, PanelCallsDone}
 
 module _ (p : Panel) (legal : is_panel p ≡ true) where
-  only_there : (i : ℕ) → i < p.count → (e : Entry) → OnlyThere p i e (with_entry p i e)
+  only_there : (i : ℕ) → i < p.count → (e : PanelEntry) → OnlyThere p i e (with_entry p i e)
   only_there i there e =
       let told = panel_told p legal in
       record {
@@ -34,7 +34,7 @@ module _ (p : Panel) (legal : is_panel p ≡ true) where
         others = λ j other. get_or-set_other p.entries i j e blank_entry other;
       }
 
-  grown : p.count < panel_most → (e : Entry) → GrownBy p e (grown_by p e)
+  grown : p.count < panel_most → (e : PanelEntry) → GrownBy p e (grown_by p e)
   grown free e =
       let told = panel_told p legal in
       record {
@@ -60,7 +60,7 @@ module _ (p : Panel) (line : List ℕ) (Left : Panel → Type 0) where
   done : {r : PanelAs} → r.number ≡ 0 → r.line ≡ line → Left r.panel → ByCases r
   done z sent left = record { kept = λ some. absurd (some z); line_sent_then = λ y. sent; left_then = λ y. left }
 
-  call_done : (rows : List Row) (r : PanelAs) → r.number ≡ first_of rows → ByCases r
+  call_done : (rows : List NumberRow) (r : PanelAs) → r.number ≡ first_of rows → ByCases r
       → (is_panel p ≡ true → is_panel r.panel ≡ true) → CallDone p rows line Left r
   call_done rows r number cases legal = record {
     number = number;

@@ -7,7 +7,7 @@ use Rattle.panel.specs.Entries.{talk_of, shown_of}
 use Rattle.panel.specs.StepTable.{StepTo, greets_open, greets_secured, strays, answers, refuses}
 use Rattle.panel.specs.PanelCalls.{entry_at, stepped_at, told_at}
 use Rattle.panel.specs.Hearing.{line_heard}
-use Rattle.panel.specs.declared.types.Entry.{Entry}
+use Rattle.panel.specs.declared.types.PanelEntry.{PanelEntry}
 use Rattle.panel.specs.declared.types.Panel.{Panel}
 use Rattle.panel.proofs.Cases.{told_done}
 use Rattle.panel.proofs.LinesHeard.{greeting_told, no_greeting_told, late_told, reply_told}
@@ -17,15 +17,15 @@ use Rattle.workroom.specs.PanelDemand.{IsServed, PartsAre, ShownBy, stays_shown,
 use Rattle.workroom.proofs.EntriesStep.{entry_legal_there, entry_at-stepped_at}
 
 module _ (p : Panel) (i : ℕ) (l : List ℕ) (served : IsServed p i) where
-  abbrev before : Entry
+  abbrev before : PanelEntry
   before = entry_at p i
 
   -- a row that keeps the password
-  by_row : {f : Entry} → StepTo before l f → f.password ≡ before.password
+  by_row : {f : PanelEntry} → StepTo before l f → f.password ≡ before.password
       → PartsAre (entry_at (stepped_at p i l).panel i) before (talk_of f) (shown_of f) f.strays
   by_row row same = grind (arith, entry_at-stepped_at, row_steps)
 
-  row_shown : {f : Entry} → StepTo before l f → ShownBy before l f
+  row_shown : {f : PanelEntry} → StepTo before l f → ShownBy before l f
   row_shown (greets_open g r) = stays_shown refl
   row_shown (greets_secured random g r) = stays_shown refl
   row_shown (strays s) = stays_shown refl

@@ -6,7 +6,7 @@
 use Rattle.std.proofs.Common.{ℕ, refl, [], ◌∷◌, arith, replicate, codes}
 use Rattle.pjlink.specs.declared.command.Command.TheVariants.{Query}
 use Rattle.pjlink.specs.declared.body.Body.TheVariants.{Powr, Lamp}
-use Rattle.record.specs.Limits.{opened}
+use Rattle.record.specs.Limits.{phase_open}
 use Rattle.record.specs.Record.{start_device}
 use Rattle.record.specs.Wanted.{wanted_of}
 use Rattle.record.specs.Places.{with_place}
@@ -18,7 +18,7 @@ use Rattle.panel.specs.Entries.{Talk, entry_of, greeted_open, greeted_by, sent_o
 use Rattle.panel.specs.Showing.{with_power_shown}
 use Rattle.panel.specs.StepTable.{IsUnderWay}
 use Rattle.panel.specs.PanelCalls.{entry_at}
-use Rattle.panel.specs.declared.types.Entry.{Entry}
+use Rattle.panel.specs.declared.types.PanelEntry.{PanelEntry}
 use Rattle.panel.specs.declared.types.Panel.{Panel}
 use Rattle.workroom.specs.Workroom.{Workroom, room_of}
 use Rattle.workroom.specs.MeantThrough.{IsWithin}
@@ -26,10 +26,10 @@ use Rattle.workroom.specs.ShowsWhatWasMeant.{IsJoined}
 use Rattle.workroom.specs.PanelDemand.{IsServed}
 use Rattle.workroom.specs.Computing.{computing}
 
-abbrev talking : Talk → ℕ → Entry
+abbrev talking : Talk → ℕ → PanelEntry
 talking t strays = entry_of (password_of []) t (with_power_shown nothing_shown 1) strays
 
-abbrev alone : Entry → Panel
+abbrev alone : PanelEntry → Panel
 alone e = record { count = 1; entries = e ∷ replicate 7 blank_entry }
 
 abbrev open_talk : Talk
@@ -61,7 +61,7 @@ abbrev opening : Device
 opening = start_device (wanted_of [] [] [] [] [] (codes "11") (0 ∷ []) 20 60)
 
 abbrev pub workroom : Workroom
-workroom = room_of (resting 0) (with_place opening opening.own 0 (begun_in opened 0))
+workroom = room_of (resting 0) (with_place opening opening.own 0 (begun_in phase_open 0))
 
 pub workroom_joined : IsJoined 0 0 workroom
 unfolding computing

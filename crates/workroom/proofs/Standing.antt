@@ -12,13 +12,13 @@ use Rattle.record.specs.declared.types.Device.{Device}
 use Rattle.stream.specs.Collecting.{empty_line}
 use Rattle.panel.specs.Entries.{talk_of, shown_of, password_in}
 use Rattle.panel.specs.PanelCalls.{entry_at}
-use Rattle.panel.specs.declared.types.Entry.{Entry}
+use Rattle.panel.specs.declared.types.PanelEntry.{PanelEntry}
 use Rattle.panel.specs.declared.types.Panel.{Panel}
 use Rattle.workroom.specs.Workroom.{Workroom, room_of}
 use Rattle.workroom.specs.ShowsWhatWasMeant.{Fit, our_entry, our_connection, IsAcquainted, IsJoined, ShownAs}
 use Rattle.workroom.specs.PanelDemand.{IsServed}
 
-pub record PanelStands (i : ℕ) (w : Workroom) (q : Panel) (e : Entry) : Type 0 where
+pub record PanelStands (i : ℕ) (w : Workroom) (q : Panel) (e : PanelEntry) : Type 0 where
   pub served : IsServed q i
   pub stands : entry_at q i ≡ e
   pub password : password_in e ≡ password_in (our_entry i w)
@@ -30,7 +30,8 @@ pub record DeviceStands (p : ℕ) (w : Workroom) (d : Device) (c : Connection) :
   pub stands : connection_at d p ≡ c
   pub between : c.line ≡ empty_line
 
-module _ {i : ℕ} {w : Workroom} {q : Panel} {e : Entry} (known : IsAcquainted i w) (panel : PanelStands i w q e) where
+module _ {i : ℕ} {w : Workroom} {q : Panel} {e : PanelEntry} (known : IsAcquainted i w)
+    (panel : PanelStands i w q e) where
   pub acquainted_then : {d : Device} → is_legal d ≡ true → d.settings ≡ w.device.settings → IsAcquainted i (room_of q d)
   acquainted_then legal settings = grind arith
 

@@ -3,7 +3,7 @@
 use Rattle.std.proofs.Common.{ℕ, ◌≡◌, refl, sym, ap, ◌∙◌, Bool, true, false, List, ◌==◌, arith, leb-false}
 use Rattle.std.proofs.Common.{eqb-true, ext_get_or}
 use Rattle.std.proofs.lemmas.Bool.{eqb-false, not-false}
-use Rattle.text.specs.Rows.{Row, first_of}
+use Rattle.text.specs.Rows.{NumberRow, first_of}
 use Rattle.codes.specs.declared.command.Coded.{Coded}
 use Rattle.panel.specs.AnyPanel.{AnyPanel, ours_panel}
 use Rattle.pjlink.specs.Greetings.{read_greeting}
@@ -14,7 +14,7 @@ use Rattle.panel.specs.LegalPanels.{is_panel}
 use Rattle.panel.specs.PanelCalls.{PanelAs, entry_at, adding_rows, commanding_rows, projector_rows}
 use Rattle.panel.specs.StepTable.{is_greeting, IsUnderWay, IsStray, ungreeted_malformed, late, malformed, foreign}
 use Rattle.panel.specs.StepTable.{not_allowed, StepTo, greets_open, greets_secured, strays, answers, refuses}
-use Rattle.panel.specs.declared.types.Entry.{Entry}
+use Rattle.panel.specs.declared.types.PanelEntry.{PanelEntry}
 use Rattle.panel.specs.declared.types.Panel.{Panel}
 use Rattle.panel.proofs.PanelsTold.{panel_told}
 use Rattle.panel.proofs.Unused.{past_count_blank}
@@ -44,7 +44,7 @@ served_then p i z = grind (arith, not-false, leb-false)
 -- ---- two panels that are p but for one entry
 
 module _ (p q r : Panel) (legal : is_panel q ≡ true) (right : is_panel r ≡ true) where
-  same_entries : (i : ℕ) {e : Entry} → entry_at q i ≡ e → entry_at r i ≡ e
+  same_entries : (i : ℕ) {e : PanelEntry} → entry_at q i ≡ e → entry_at r i ≡ e
       → ((j : ℕ) → (j ≡ i → ⊥) → entry_at q j ≡ entry_at p j)
       → ((j : ℕ) → (j ≡ i → ⊥) → entry_at r j ≡ entry_at p j)
       → q.entries ≡ r.entries
@@ -58,12 +58,12 @@ module _ (p q r : Panel) (legal : is_panel q ≡ true) (right : is_panel r ≡ t
           ap (entry_at q) at ∙ here ∙ sym (ap (entry_at r) at ∙ there)
       by j false e = let other = eqb-false j i e in others j other ∙ sym (rest j other)
 
-  same_but_there : {i : ℕ} {e : Entry} → OnlyThere p i e q → OnlyThere p i e r → q ≡ r
+  same_but_there : {i : ℕ} {e : PanelEntry} → OnlyThere p i e q → OnlyThere p i e r → q ≡ r
   same_but_there {i} h g =
       let entries = same_entries i h.here g.here h.others g.others in
       (λ k. record { count = (h.count ∙ sym g.count) k; entries = entries k })
 
-  same_grown : {e : Entry} → GrownBy p e q → GrownBy p e r → q ≡ r
+  same_grown : {e : PanelEntry} → GrownBy p e q → GrownBy p e r → q ≡ r
   same_grown h g =
       let entries = same_entries p.count h.here g.here h.others g.others in
       (λ k. record { count = (h.count ∙ sym g.count) k; entries = entries k })
@@ -78,7 +78,7 @@ module _ (p q r : Panel) (legal : is_panel q ≡ true) (right : is_panel r ≡ t
 
 -- ---- two results of one call
 
-module _ {p : Panel} {rows : List Row} {line : List ℕ} {Left : Panel → Type 0} (r s : PanelAs)
+module _ {p : Panel} {rows : List NumberRow} {line : List ℕ} {Left : Panel → Type 0} (r s : PanelAs)
     (h : CallDone p rows line Left r) (g : CallDone p rows line Left s) where
   same_result : r.line ≡ s.line → r.panel ≡ s.panel → r ≡ s
   same_result l q = (λ k. record { number = (h.number ∙ sym g.number) k; line = l k; panel = q k })
@@ -96,10 +96,10 @@ module _ {p : Panel} {rows : List Row} {line : List ℕ} {Left : Panel → Type 
 
 module _ (P : AnyPanel) (does : DoesWhatIsAsked P) (p : Panel) (i : ℕ) (l : List ℕ) (served : IsServed p i) where
   -- an entry by its parts
-  entry_is : {f e : Entry} {t : Talk} {s : Shown} {n : ℕ} → PartsAre f e t s n → f ≡ entry_of e.password t s n
+  entry_is : {f e : PanelEntry} {t : Talk} {s : Shown} {n : ℕ} → PartsAre f e t s n → f ≡ entry_of e.password t s n
   entry_is h = (λ k. entry_of (h.same_password k) (h.talks k) (h.shows k) (h.counts k))
 
-  row_taken : {f : Entry} → StepTo (entry_at p i) l f → after_line P p i l ≡ f
+  row_taken : {f : PanelEntry} → StepTo (entry_at p i) l f → after_line P p i l ≡ f
   row_taken (greets_open u r) = entry_is (does.steps.open_greets p i l served u r)
   row_taken (greets_secured random u r) = entry_is (does.steps.secured_greets p i l random served u r)
   row_taken (strays s) = entry_is (does.steps.strays_counted p i l served s)
@@ -135,7 +135,7 @@ module _ (P Q : AnyPanel) (does : DoesWhatIsAsked P) (does_too : DoesWhatIsAsked
     stray_alike served (foreign c u n) = replies_alike c served u
     stray_alike served (not_allowed c u n) = replies_alike c served u
 
-    row_alike : IsServed p i → {f : Entry} → StepTo (entry_at p i) l f → P.tell p i l ≡ Q.tell p i l
+    row_alike : IsServed p i → {f : PanelEntry} → StepTo (entry_at p i) l f → P.tell p i l ≡ Q.tell p i l
     row_alike served (greets_open u r) = greetings_alike served u (ap is_greeting r)
     row_alike served (greets_secured random u r) = greetings_alike served u (ap is_greeting r)
     row_alike served (strays s) = stray_alike served s

@@ -11,7 +11,7 @@ use Rattle.panel.specs.Entries.{Talk, Shown}
 use Rattle.panel.specs.StepTable.{IsStray, late, malformed, foreign}
 use Rattle.panel.specs.Hearing.{heard_kind}
 use Rattle.panel.specs.PanelCalls.{entry_at}
-use Rattle.panel.specs.declared.types.Entry.{Entry}
+use Rattle.panel.specs.declared.types.PanelEntry.{PanelEntry}
 use Rattle.workroom.specs.Workroom.{asks}
 use Rattle.workroom.specs.ShowsWhatWasMeant.{ShowsWhatWasMeant}
 use Rattle.workroom.specs.PanelDemand.{PanelDemand}
@@ -97,7 +97,7 @@ pub forgets_at_addition_falls : PanelCallsDone forgets_at_addition → ⊥
 unfolding computing
 forgets_at_addition_falls h =
     differ 0 65535 refl
-    (ap (λ (e : Entry). e.strays) (((h.adds (resting 65535) []).leaves refl).others 0 (λ z. omega arith)))
+    (ap (λ (e : PanelEntry). e.strays) (((h.adds (resting 65535) []).leaves refl).others 0 (λ z. omega arith)))
 
 -- a byte more than the least: the first byte sent, where the password is none
 pub tells_the_password_falls : PanelCallsDone tells_the_password → ⊥

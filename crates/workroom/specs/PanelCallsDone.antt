@@ -12,7 +12,7 @@
 --   IsNone r             what gave r made the panel of no projector
 -- Assumes nothing.
 use Rattle.std.specs.Prelude.{ℕ, ◌+◌, ◌≡◌, true, List, [], ◌++◌, Option, Some, None}
-use Rattle.text.specs.Rows.{Row, first_of}
+use Rattle.text.specs.Rows.{NumberRow, first_of}
 use Rattle.pjlink.specs.Commands.{command_line}
 use Rattle.pjlink.specs.declared.command.Command.{Command}
 use Rattle.controller.specs.Writing.{led_by}
@@ -23,24 +23,25 @@ use Rattle.panel.specs.Entries.{talk_of, password_in, leads_next, fresh_entry}
 use Rattle.panel.specs.Stepping.{lost_entry, sent_entry}
 use Rattle.panel.specs.LegalPanels.{is_panel}
 use Rattle.panel.specs.PanelCalls.{PanelAs, entry_at, adding_rows, commanding_rows, projector_rows}
-use Rattle.panel.specs.declared.types.Entry.{Entry}
+use Rattle.panel.specs.declared.types.PanelEntry.{PanelEntry}
 use Rattle.panel.specs.declared.types.Panel.{Panel}
 
-pub record OnlyThere (p : Panel) (i : ℕ) (e : Entry) (q : Panel) : Type 0 where
+pub record OnlyThere (p : Panel) (i : ℕ) (e : PanelEntry) (q : Panel) : Type 0 where
   pub count : q.count ≡ p.count
   pub here : entry_at q i ≡ e
   pub others : (j : ℕ) → (j ≡ i → ⊥) → entry_at q j ≡ entry_at p j
 
-pub record GrownBy (p : Panel) (e : Entry) (q : Panel) : Type 0 where
+pub record GrownBy (p : Panel) (e : PanelEntry) (q : Panel) : Type 0 where
   pub count : q.count ≡ p.count + 1
   pub here : entry_at q p.count ≡ e
   pub others : (j : ℕ) → (j ≡ p.count → ⊥) → entry_at q j ≡ entry_at p j
 
-abbrev pub line_due : Entry → Option Command → List ℕ
+abbrev pub line_due : PanelEntry → Option Command → List ℕ
 line_due e (Some c) = led_by (leads_next (talk_of e)) e.random (password_in e) ++ command_line c
 line_due e None = []
 
-pub record CallDone (p : Panel) (rows : List Row) (line : List ℕ) (Left : Panel → Type 0) (r : PanelAs) : Type 0 where
+pub record CallDone (p : Panel) (rows : List NumberRow) (line : List ℕ) (Left : Panel → Type 0)
+    (r : PanelAs) : Type 0 where
   -- "the first of them that applies, in the order of the table"
   pub number : r.number ≡ first_of rows
   -- "a refusal keeps the panel and writes nothing"

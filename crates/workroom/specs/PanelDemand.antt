@@ -9,7 +9,7 @@
 --   OnlyCounted e f    e and f differ in the count of strays alone, which is one more, or has stopped
 --   EndedBy e m f      the command is ended, and m is shown
 --   ForgotIn e f       the command is ended, all is unknown, a new greeting is awaited
---   Greeted e t f      the greeting is accepted, t is the state of the connection now
+--   IsGreeted e t f      the greeting is accepted, t is the state of the connection now
 --   ShownBy e l f      what f shows is what e showed, or the line l was an accepted reply and f shows what it says, or
 --                      it was the ERRA line and f shows nothing
 -- Assumes nothing.
@@ -29,7 +29,7 @@ use Rattle.panel.specs.Hearing.{greets, no_greeting, too_late, replies}
 use Rattle.panel.specs.LegalPanels.{is_panel}
 use Rattle.panel.specs.StepTable.{is_greeting, IsUnderWay, IsStray}
 use Rattle.panel.specs.PanelCalls.{entry_at}
-use Rattle.panel.specs.declared.types.Entry.{Entry}
+use Rattle.panel.specs.declared.types.PanelEntry.{PanelEntry}
 use Rattle.panel.specs.declared.types.Panel.{Panel}
 
 pub record IsServed (p : Panel) (i : ℕ) : Type 0 where
@@ -37,25 +37,25 @@ pub record IsServed (p : Panel) (i : ℕ) : Type 0 where
   pub there : i < p.count
 
 -- an entry's four parts, afterwards
-pub record PartsAre (f : Entry) (e : Entry) (talk : Talk) (shown : Shown) (strays : ℕ) : Type 0 where
+pub record PartsAre (f : PanelEntry) (e : PanelEntry) (talk : Talk) (shown : Shown) (strays : ℕ) : Type 0 where
   pub same_password : f.password ≡ e.password
   pub talks : talk_of f ≡ talk
   pub shows : shown_of f ≡ shown
   pub counts : f.strays ≡ strays
 
-abbrev pub OnlyCounted : Entry → Entry → Type 0
+abbrev pub OnlyCounted : PanelEntry → PanelEntry → Type 0
 OnlyCounted e f = PartsAre f e (talk_of e) (shown_of e) (min 65535 (e.strays + 1))
 
-abbrev pub EndedBy : Entry → Said → Entry → Type 0
+abbrev pub EndedBy : PanelEntry → Said → PanelEntry → Type 0
 EndedBy e m f = PartsAre f e (rested_on (talk_of e)) (showing (shown_of e) m) e.strays
 
-abbrev pub ForgotIn : Entry → Entry → Type 0
+abbrev pub ForgotIn : PanelEntry → PanelEntry → Type 0
 ForgotIn e f = PartsAre f e no_talk nothing_shown e.strays
 
-abbrev pub Greeted : Entry → Talk → Entry → Type 0
-Greeted e t f = PartsAre f e t (shown_of e) e.strays
+abbrev pub IsGreeted : PanelEntry → Talk → PanelEntry → Type 0
+IsGreeted e t f = PartsAre f e t (shown_of e) e.strays
 
-pub data ShownBy (e : Entry) (l : List ℕ) (f : Entry) : Type 0 where
+pub data ShownBy (e : PanelEntry) (l : List ℕ) (f : PanelEntry) : Type 0 where
   stays_shown : shown_of f ≡ shown_of e → ShownBy e l f
   by_reply : (c : Command) (m : Said) → IsUnderWay e c → read_reply c l ≡ meaning m →
       shown_of f ≡ showing (shown_of e) m
@@ -63,7 +63,7 @@ pub data ShownBy (e : Entry) (l : List ℕ) (f : Entry) : Type 0 where
   by_erra : (c : Command) → IsUnderWay e c → l ≡ erra_line → shown_of f ≡ nothing_shown → ShownBy e l f
 
 module _ (P : AnyPanel) where
-  abbrev pub after_line : Panel → ℕ → List ℕ → Entry
+  abbrev pub after_line : Panel → ℕ → List ℕ → PanelEntry
   after_line p i l = entry_at (P.hear p i l).panel i
 
   pub record PanelDemand : Type 0 where
@@ -81,11 +81,11 @@ module _ (P : AnyPanel) where
     -- "Until a greeting is accepted": each of the two is
     pub open_greets : (p : Panel) (i : ℕ) (l : List ℕ) → IsServed p i → (entry_at p i).greeting ≡ ungreeted
         → read_greeting l ≡ Some Open
-        → Greeted (entry_at p i) (greeted_by greeted_open 0) (after_line p i l)
+        → IsGreeted (entry_at p i) (greeted_by greeted_open 0) (after_line p i l)
     pub secured_greets : (p : Panel) (i : ℕ) (l : List ℕ) (random : ℕ)
         → IsServed p i → (entry_at p i).greeting ≡ ungreeted
         → read_greeting l ≡ Some (Secured random)
-        → Greeted (entry_at p i) (greeted_by greeted_secured random) (after_line p i l)
+        → IsGreeted (entry_at p i) (greeted_by greeted_secured random) (after_line p i l)
     -- "The step touches only the named projector's entry"
     pub others_stay : (p : Panel) (i : ℕ) (l : List ℕ) (j : ℕ) → (j ≡ i → ⊥)
         → entry_at (P.hear p i l).panel j ≡ entry_at p j

@@ -30,9 +30,9 @@ use Rattle.text.specs.Flags.{is_raised}
 use Rattle.pjlink.specs.Commands.{command_class}
 use Rattle.pjlink.specs.declared.command.Command.{Command}
 use Rattle.record.specs.Given.{left_by}
-use Rattle.record.specs.Limits.{places_count, age_end, awaiting, opened}
+use Rattle.record.specs.Limits.{places_count, age_end, phase_awaiting, phase_open}
 use Rattle.record.specs.Legal.{is_legal}
-use Rattle.record.specs.Places.{connection_at, is_shut, lowest_shut}
+use Rattle.record.specs.Places.{connection_at, is_closed, lowest_closed}
 use Rattle.record.specs.HostCalls.{fault_set, errors_set, mark_set}
 use Rattle.record.specs.declared.types.Own.{Own}
 use Rattle.record.specs.declared.types.Connection.{Connection}
@@ -49,15 +49,15 @@ use Rattle.panel.specs.Showing.{showing}
 use Rattle.panel.specs.LegalPanels.{is_panel}
 use Rattle.panel.specs.StepTable.{IsUnderWay}
 use Rattle.panel.specs.PanelCalls.{entry_at}
-use Rattle.panel.specs.declared.types.Entry.{Entry}
+use Rattle.panel.specs.declared.types.PanelEntry.{PanelEntry}
 use Rattle.panel.specs.declared.types.Panel.{Panel}
 use Rattle.workroom.specs.Workroom.{Workroom, room_of, RoomMove, asks, waits, asks_another, hears_another, meanwhile}
 use Rattle.workroom.specs.Workroom.{connected, happened, all_happened, parted}
 use Rattle.workroom.specs.MeantThrough.{IsWithin, said_at, own_at, shown_through, own_through}
 
 pub data Fit (t : Talk) (c : Connection) : Type 0 where
-  both_open : c.phase ≡ opened → (t.greeting ≡ ungreeted → ⊥) → leads_next t ≡ false → Fit t c
-  both_secured : c.phase ≡ awaiting → (t.greeting ≡ ungreeted → ⊥) → leads_next t ≡ true → t.random ≡ c.random
+  both_open : c.phase ≡ phase_open → (t.greeting ≡ ungreeted → ⊥) → leads_next t ≡ false → Fit t c
+  both_secured : c.phase ≡ phase_awaiting → (t.greeting ≡ ungreeted → ⊥) → leads_next t ≡ true → t.random ≡ c.random
       → Fit t c
 
 pub record Aside (p : ℕ) (before after : Device) : Type 0 where
@@ -66,7 +66,7 @@ pub record Aside (p : ℕ) (before after : Device) : Type 0 where
   pub connection : connection_at after p ≡ connection_at before p
 
 module _ (i : ℕ) where
-  abbrev pub our_entry : Workroom → Entry
+  abbrev pub our_entry : Workroom → PanelEntry
   our_entry w = entry_at w.panel i
 
   pub record IsAcquainted (w : Workroom) : Type 0 where
@@ -78,7 +78,7 @@ module _ (i : ℕ) where
   pub record Apart (w : Workroom) : Type 0 where
     pub acquainted : IsAcquainted w
     pub waiting : (our_entry w).greeting ≡ ungreeted
-    pub free : lowest_shut w.device.connections < places_count
+    pub free : lowest_closed w.device.connections < places_count
 
   pub record PartedAs (w x : Workroom) : Type 0 where
     pub shows : shown_of (our_entry x) ≡ shown_of (our_entry w)
@@ -119,7 +119,7 @@ module _ (i p : ℕ) where
   IsOther w (meanwhile d) = Aside p w.device d
 
   abbrev pub IsKeptUp : Workroom → RoomMove → Type 0
-  IsKeptUp w (waits n) = is_shut (connection_at (left_by w.device (time_passed w.device n)) p) ≡ false
+  IsKeptUp w (waits n) = is_closed (connection_at (left_by w.device (time_passed w.device n)) p) ≡ false
   IsKeptUp w h = IsOther w h
 
   -- each, where it comes
@@ -145,7 +145,7 @@ module _ (i p : ℕ) where
 pub record OthersAside (p : ℕ) (d : Device) : Type 0 where
   pub receiving : (q : ℕ) (bs : List ℕ) (room : ℕ) → (p ≡ q → ⊥) → Aside p d (received_at d q bs room).device
   pub closing : (q : ℕ) → (p ≡ q → ⊥) → Aside p d (closed_by d q).device
-  pub opening : (random room : ℕ) → is_shut (connection_at d p) ≡ false → Aside p d (opened_by d random room).device
+  pub opening : (random room : ℕ) → is_closed (connection_at d p) ≡ false → Aside p d (opened_by d random room).device
   pub fault : (mark : Bool) → Aside p d (left_by d (fault_set d mark))
   pub errors : (digits : List ℕ) → Aside p d (left_by d (errors_set d digits))
   pub marks : (lamp : ℕ) (mark : Bool) → Aside p d (left_by d (mark_set d lamp mark))
@@ -153,7 +153,7 @@ pub record OthersAside (p : ℕ) (d : Device) : Type 0 where
 pub record ShowsWhatWasMeant (P : AnyPanel) : Type 0 where
   -- a projector just added, with the password of a device that has a free place: "unknown at first"
   pub begins : (p : Panel) (s : List ℕ) (d : Device) → (P.add p s).number ≡ 0 → is_legal d ≡ true
-      → lowest_shut d.connections < places_count → set_up_password d.settings ≡ s
+      → lowest_closed d.connections < places_count → set_up_password d.settings ≡ s
       → BegunAs p.count (room_of (P.add p s).panel d)
   -- the device greets, with or without security, and they are joined at the place that opening took; nothing else is
   -- shown yet
@@ -179,13 +179,13 @@ pub record ShowsWhatWasMeant (P : AnyPanel) : Type 0 where
   -- a connection that is open, as it is once anything was asked on it, never closes of age: then the commands and the
   -- seconds may be any
   pub stays_open : (i p : ℕ) (w : Workroom) (hs : List RoomMove) → IsJoined i p w
-      → (our_connection p w).phase ≡ opened → AllOther i p P w hs
+      → (our_connection p w).phase ≡ phase_open → AllOther i p P w hs
       → AllKeptUp i p P w hs
   pub asking_opens : (i p : ℕ) (w : Workroom) (k : Coded) (there back : List ℕ) → IsJoined i p w
       → is_some (coded_command k) ≡ true
-      → (our_connection p (happened P i p w (asks k there back))).phase ≡ opened
+      → (our_connection p (happened P i p w (asks k there back))).phase ≡ phase_open
   -- and one whose digest is awaited does not close before its age is 30 seconds
-  pub stays_awaited : (i p : ℕ) (w : Workroom) (n : ℕ) → IsJoined i p w → (our_connection p w).phase ≡ awaiting
+  pub stays_awaited : (i p : ℕ) (w : Workroom) (n : ℕ) → IsJoined i p w → (our_connection p w).phase ≡ phase_awaiting
       → (our_connection p w).age + n < age_end
       → IsKeptUp i p w (waits n)
   -- a connection that is gone, in whatever state, can be made again, and the readings stay until then

@@ -9,7 +9,7 @@ use Rattle.pjlink.specs.declared.body.Body.TheVariants.{Powr}
 use Rattle.pjlink.specs.declared.command.Command.{Command}
 use Rattle.pjlink.specs.Said.{Said}
 use Rattle.controller.specs.Writing.{command_room}
-use Rattle.controller.specs.Reading.{ReadAs, Outcome, means_it, erra_said, not_a_line, other_command, read_reply}
+use Rattle.controller.specs.Reading.{ReadAs, ReadingOutcome, means_it, erra_said, not_a_line, other_command, read_reply}
 use Rattle.codes.specs.Commands.{coded_command}
 use Rattle.panel.specs.AnyPanel.{AnyPanel, ours_hearing, ours_panel}
 use Rattle.panel.specs.Entries.{talk_of, shown_of, entry_of, rested_on, password_in, fresh_entry, blank_entry}
@@ -18,22 +18,22 @@ use Rattle.panel.specs.Stepping.{with_stray, with_talk, lost_entry, heard_as, he
 use Rattle.panel.specs.PanelCalls.{PanelAs, panel_made, entry_at, with_entry, added_to, command_at, stepped_at}
 use Rattle.panel.specs.PanelCalls.{told_at, lost_at}
 use Rattle.panel.specs.Hearing.{HeardAs, replies}
-use Rattle.panel.specs.declared.types.Entry.{Entry}
+use Rattle.panel.specs.declared.types.PanelEntry.{PanelEntry}
 use Rattle.panel.specs.declared.types.Panel.{Panel}
 
-abbrev stepping_by : (Entry → List ℕ → Entry) → AnyPanel
+abbrev stepping_by : (PanelEntry → List ℕ → PanelEntry) → AnyPanel
 stepping_by f = ours_hearing (λ p i l. panel_made (with_entry p i (f (entry_at p i) l)))
 
-abbrev replied_as : (Entry → List ℕ → ReadAs → Entry) → Entry → List ℕ → Option Command → Entry
+abbrev replied_as : (PanelEntry → List ℕ → ReadAs → PanelEntry) → PanelEntry → List ℕ → Option Command → PanelEntry
 replied_as f e l (Some c) = f e l (read_reply c l)
 replied_as f e l None = with_stray e
 
-abbrev hearing_as : (Entry → List ℕ → ReadAs → Entry) → AnyPanel
+abbrev hearing_as : (PanelEntry → List ℕ → ReadAs → PanelEntry) → AnyPanel
 hearing_as f =
     stepping_by (λ e l. if is_raised e.under_way then replied_as f e l (coded_command e.command) else heard_line e l)
 
 -- takes a foreign reply for the one under way: a power reading is shown whatever was asked
-abbrev taken_foreign : Entry → List ℕ → Outcome → Said → Entry
+abbrev taken_foreign : PanelEntry → List ℕ → ReadingOutcome → Said → PanelEntry
 taken_foreign e l other_command m = heard_by e (read_reply (Query Powr) l)
 taken_foreign e l o m = heard_as e o m
 
@@ -41,7 +41,7 @@ abbrev pub takes_foreign : AnyPanel
 takes_foreign = hearing_as (λ e l r. taken_foreign e l r.outcome r.said)
 
 -- ends the command on a malformed line
-abbrev ended_malformed : Entry → Outcome → Said → Entry
+abbrev ended_malformed : PanelEntry → ReadingOutcome → Said → PanelEntry
 ended_malformed e not_a_line m = with_stray (with_talk e (rested_on (talk_of e)))
 ended_malformed e o m = heard_as e o m
 
@@ -49,7 +49,7 @@ abbrev pub ends_on_malformed : AnyPanel
 ends_on_malformed = hearing_as (λ e l r. ended_malformed e r.outcome r.said)
 
 -- keeps its readings after ERRA
-abbrev erra_kept : Entry → Outcome → Said → Entry
+abbrev erra_kept : PanelEntry → ReadingOutcome → Said → PanelEntry
 erra_kept e erra_said m = lost_entry e
 erra_kept e o m = heard_as e o m
 
@@ -60,7 +60,7 @@ keeps_after_erra = hearing_as (λ e l r. erra_kept e r.outcome r.said)
 abbrev wrapped_count : ℕ → ℕ
 wrapped_count n = if n == 65535 then 0 else n + 1
 
-abbrev with_wrapped_count : Entry → Entry
+abbrev with_wrapped_count : PanelEntry → PanelEntry
 with_wrapped_count e = entry_of e.password (talk_of e) (shown_of e) (wrapped_count e.strays)
 
 abbrev pub stray_count_wraps : AnyPanel
@@ -75,7 +75,7 @@ abbrev pub counts_nothing : AnyPanel
 counts_nothing = stepping_by (λ e l. if not (is_unready e) then e else heard_line e l)
 
 -- accepts a reply, and shows nothing of it
-abbrev unshown_reply : Entry → Outcome → Said → Entry
+abbrev unshown_reply : PanelEntry → ReadingOutcome → Said → PanelEntry
 unshown_reply e means_it m = with_talk e (rested_on (talk_of e))
 unshown_reply e o m = heard_as e o m
 
@@ -133,7 +133,7 @@ refuses_what_it_does = record {
 
 -- ---- wrong in what is reported of a line
 
-abbrev unread : Outcome → Said → ReadAs
+abbrev unread : ReadingOutcome → Said → ReadAs
 unread erra_said m = record { outcome = not_a_line; said = m }
 unread o m = record { outcome = o; said = m }
 

@@ -2,9 +2,9 @@
 // done here: that these functions have their contracts is that the theorems stand.
 ghost use Rattle.std.specs.Prelude.{◌≡◌, ◌<◌, ◌≤◌, ◌^◌, ℕ, true, List, ◌∷◌, false, length, Some, Ok};
 ghost use Rattle.record.specs.declared.types.Device.{Device};
-ghost use Rattle.record.specs.Limits.{places_count, opened, awaiting};
+ghost use Rattle.record.specs.Limits.{places_count, phase_open, phase_awaiting};
 ghost use Rattle.record.specs.Legal.{is_legal};
-ghost use Rattle.record.specs.Places.{connection_at, lowest_shut};
+ghost use Rattle.record.specs.Places.{connection_at, lowest_closed};
 ghost use Rattle.stream.specs.Collecting.{empty_line};
 ghost use Rattle.codes.specs.declared.command.Coded.{Coded};
 ghost use Rattle.pjlink.specs.declared.command.Command.{Command};
@@ -37,7 +37,7 @@ pub fn the_face_reads_back()
         → (connection_at d p).line ≡ empty_line → (k : Coded) (c : Command) → coded_command k ≡ Some c
         → command_class c ≤ d.settings.class_number
         → (room : ℕ) → reply_room ≤ room → (memory : ℕ) → command_room ≤ memory
-        → (connection_at d p).phase ≡ opened → (random : ℕ) (password : List ℕ)
+        → (connection_at d p).phase ≡ phase_open → (random : ℕ) (password : List ℕ)
         → let w = written_by (coded_command k) false random password memory in
         let r = received_at d p w.bytes room in
         (w.number ≡ 0) × (r.taken ≡ length w.bytes)
@@ -46,12 +46,12 @@ pub fn the_face_reads_back()
         → (connection_at d p).line ≡ empty_line → (k : Coded) (c : Command) → coded_command k ≡ Some c
         → command_class c ≤ d.settings.class_number
         → (room : ℕ) → reply_room ≤ room → (memory : ℕ) → command_room ≤ memory
-        → (connection_at d p).phase ≡ awaiting
+        → (connection_at d p).phase ≡ phase_awaiting
         → let w = written_by (coded_command k) true (connection_at d p).random (set_up_password d.settings) memory in
         let r = received_at d p w.bytes room in
         (w.number ≡ 0) × (r.taken ≡ length w.bytes)
         × (read_by (coded_command k) r.reply ≡ said_flat (answer_for d.settings d.own (Ok c))) }
-    ensures greeting { (d : Device) (random room : ℕ) → is_legal d ≡ true → lowest_shut d.connections < places_count
+    ensures greeting { (d : Device) (random room : ℕ) → is_legal d ≡ true → lowest_closed d.connections < places_count
         → reply_room ≤ room → random < 2 ^ 32 → let o = opened_by d random room in
         flat_greeting (read_greeting o.reply)
         ≡ flat_greeting (greeted_on (connection_at o.device (place_taken d room))) }

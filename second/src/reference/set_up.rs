@@ -42,8 +42,8 @@ impl SetUp {
             && is_information(&self.other)
             && is_password(&self.password)
             && are_inputs(&self.inputs)
-            && is_stretch(self.warm)
-            && is_stretch(self.cool)
+            && is_transition(self.warm)
+            && is_transition(self.cool)
             && self.class.allows(&self.inputs)
     }
 
@@ -142,7 +142,7 @@ fn are_inputs(inputs: &[Input]) -> bool {
 }
 
 /// "Warm-up W and cooling C: 1 to 600 seconds each."
-fn is_stretch(seconds: u32) -> bool {
+fn is_transition(seconds: u32) -> bool {
     (1..=600).contains(&seconds)
 }
 
@@ -158,8 +158,8 @@ pub fn in_range(lent: &face::Lent) -> [bool; 9] {
             are_inputs(&inputs) && (Class::One.allows(&inputs) || made(Mistake::WhichTakesClass2))
         }),
         are_lamps(&lent.lamps),
-        is_stretch(lent.warm),
-        is_stretch(lent.cool),
+        is_transition(lent.warm),
+        is_transition(lent.cool),
     ]
 }
 

@@ -3,7 +3,7 @@
 // above all: so words and constants are added before the first one, four at once, and what needs no b before what does.
 ghost use Rattle.std.specs.Prelude.{◌≡◌, ◌+◌, ◌<◌, List, ℕ, length};
 ghost use Rattle.digest.specs.Rounds.{by_round, shift_of, function_of, operation, operations};
-ghost use Rattle.digest.specs.Sums.{operation_place, AreConstants, AreSums};
+ghost use Rattle.digest.specs.Sums.{operation_index, AreConstants, AreSums};
 
 use crate::{Buffer, word};
 use std::num::wrapping_add_u32;
@@ -35,10 +35,10 @@ fn function(i: u32, b: u32, c: u32, d: u32) -> (u32, u32)
 }
 
 // The place of operation i's sum.
-#[tactic(auto, using(crate::proofs::Tables::word_number_by_formula), unfolding(crate::specs::Sums::operation_place))]
-fn place(i: u32) -> u32
+#[tactic(auto, using(crate::proofs::Tables::word_number_by_formula), unfolding(crate::specs::Sums::operation_index))]
+fn operation_index(i: u32) -> u32
     requires { i < 64 }
-    ensures of_the_table { result ≡ operation_place i }
+    ensures of_the_table { result ≡ operation_index i }
     ensures in_table { result < 64 }
 {
     16 * (i / 16) + by_round(i, i, 5 * i + 1, 3 * i + 5, 7 * i) % 16
@@ -100,7 +100,10 @@ fn operate(sums: &[u32; 64], i: u32, q: Buffer) -> Buffer
     ensures { (xs : List ℕ) → AreSums xs sums.now → result ≡ operation xs i q }
 {
     let (early, late) = function(i, q.b, q.c, q.d);
-    let sum = wrapping_add_u32(wrapping_add_u32(q.a, sums[place(i) as usize]), early);
+    let sum = wrapping_add_u32(
+        wrapping_add_u32(q.a, sums[operation_index(i) as usize]),
+        early,
+    );
     let sum = wrapping_add_u32(sum, late);
     Buffer {
         a: q.d,

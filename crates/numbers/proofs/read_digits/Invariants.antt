@@ -4,4 +4,4 @@ use Rattle.numbers.specs.Decimal.{is_digit, decimal_worth}
 use Rattle.numbers.proofs.read_digits.Given as goal
 
 abbrev pub invariant-loop-b : goal.invariant-loop-b
-invariant-loop-b l = ReadTo 10 decimal_worth is_digit l.s l.v l.b-index
+invariant-loop-b l = ReadTo 10 decimal_worth is_digit l.bytes l.v l.b-index

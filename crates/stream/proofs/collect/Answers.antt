@@ -1,7 +1,7 @@
 -- Each `return` is one way in which bytes are collected all at once.
 use Rattle.std.proofs.Common.{◌≡◌, ◌+◌, length, sym, ◌∙◌, arith}
 use Rattle.text.proofs.FlagsTold.{lowered_zero}
-use Rattle.record.specs.declared.types.Line.{Line}
+use Rattle.record.specs.declared.types.CollectedLine.{CollectedLine}
 use Rattle.stream.specs.Collecting.{overlong_line}
 use Rattle.stream.proofs.AllAtOnce.{marked_stays, all_fit, all_past}
 use Rattle.stream.proofs.collect.Goals as goal
@@ -25,7 +25,7 @@ returns-then-most-held-2 c =
 pub returns : goal.returns
 returns c =
     let unmarked = sym c.is_raised.ensures ∙ c.if-is_raised.false in
-    let stored : ◌≡◌ {A = Line} _ _ = λ i. record {
+    let stored : ◌≡◌ {A = CollectedLine} _ _ = λ i. record {
       overlong = lowered_zero c.args.l.now.overlong unmarked i;
       held = c.args.l.now.held + length c.args.more.now;
       bytes = c.put.ensures i;

@@ -6,4 +6,4 @@ use Rattle.text.proofs.find.Goals as goal
 
 pub returns-clause-place : goal.returns-clause-place
 returns-clause-place c =
-    grind (arith, common_steps, position_or_len_is (λ x. x == c.args.b) c.args.s.now c.unwrap_or.result 0)
+    grind (arith, common_steps, position_or_len_is (λ x. x == c.args.byte) c.args.bytes.now c.unwrap_or.result 0)

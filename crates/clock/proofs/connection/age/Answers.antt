@@ -16,15 +16,15 @@ timed c seen told u = grind arith
 pub returns-then-not-is_timed : goal.returns-then-not-is_timed
 returns-then-not-is_timed c = grind (arith, untimed_stays)
 
-pub returns-then-n-eq0 : goal.returns-then-n-eq0
+pub returns-then-seconds-eq0 : goal.returns-then-seconds-eq0
 unfolding times
-returns-then-n-eq0 c = ap (λ n. times connection_second n c.args.c.now) (sym c.if-n-eq0.true)
+returns-then-seconds-eq0 c = ap (λ n. times connection_second n c.args.connection.now) (sym c.if-seconds-eq0.true)
 
-pub returns-then-n-ge-AGE_END : goal.returns-then-n-ge-AGE_END
-returns-then-n-ge-AGE_END c = grind (arith, timed, closed_spelt, closes)
+pub returns-then-seconds-ge-AGE_END : goal.returns-then-seconds-ge-AGE_END
+returns-then-seconds-ge-AGE_END c = grind (arith, timed, closed_spelt, closes)
 
-pub returns-then-n-c : goal.returns-then-n-c
-returns-then-n-c c = grind (arith, timed, closed_spelt, closes)
+pub returns-then-seconds-connection : goal.returns-then-seconds-connection
+returns-then-seconds-connection c = grind (arith, timed, closed_spelt, closes)
 
 pub returns : goal.returns
 returns c = grind (arith, grows_older)

@@ -12,5 +12,5 @@ loop-place-preserved c =
     let long = simp (length-append, length-map, length-take, length-drop) at (ap length c.loop-place.invariant) in
     let there = get_or_default l k no_connection (slice_index_or l k no_connection) (omega (arith, long)) in
     ap (set l k) c.age.ensures
-    ∙ map_over_more (times connection_second c.args.n) c.args.connections.now l k _ (omega arith)
+    ∙ map_over_more (times connection_second c.args.seconds) c.args.connections.now l k _ (omega arith)
     c.loop-place.invariant there

@@ -6,4 +6,4 @@ use Rattle.clock.proofs.connections.age.Given as goal
 abbrev pub invariant-loop-place : goal.invariant-loop-place
 invariant-loop-place l =
     l.connections
-    ≡ map (times connection_second l.n) (take l.place l.initial.connections) ++ drop l.place l.initial.connections
+    ≡ map (times connection_second l.seconds) (take l.place l.initial.connections) ++ drop l.place l.initial.connections

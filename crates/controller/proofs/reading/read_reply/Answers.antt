@@ -8,7 +8,7 @@ use Rattle.pjlink.specs.Bodies.{is_body}
 use Rattle.pjlink.specs.Carried.{said_by, parameter_said}
 use Rattle.pjlink.specs.declared.answer.Answer.{Answer}
 use Rattle.pjlink.specs.declared.answer.Answer.TheVariants as an
-use Rattle.words.specs.declared.refusal.Refusal.{Refusal}
+use Rattle.words.specs.declared.error_reply.ErrorReply.{ErrorReply}
 use Rattle.pjlink.specs.Reading.{read_parameter}
 use Rattle.controller.specs.Reading.{meaning, saying}
 use Rattle.controller.proofs.Cases.{reply_erra, reply_unformed, reply_other, reply_said}
@@ -25,33 +25,33 @@ named : (c : Command) (l : List ℕ) {k j : ℕ} {b : Body} {s p : List ℕ} {t 
 named c l taken e f g h = sym (g ∙ (λ i. is_body (e i) (taken.body i) (f i))) ∙ h
 
 -- a reply says something
-replied : (r : Result Answer Refusal) → meaning (said_by r) ≡ saying (said_by r)
+replied : (r : Result Answer ErrorReply) → meaning (said_by r) ≡ saying (said_by r)
 replied r = grind arith
 
-pub returns-then-same : goal.returns-then-same
-returns-then-same c = sym (reply_erra c.args.c c.args.line.now (sym c.same.ensures ∙ c.if-same.true))
+pub returns-then-is_same : goal.returns-then-is_same
+returns-then-is_same c = sym (reply_erra c.args.command c.args.line.now (sym c.is_same.ensures ∙ c.if-is_same.true))
 
 pub returns-in_default : goal.returns-in_default
 returns-in_default c =
-    sym (reply_unformed c.args.c c.args.line.now (sym c.same.ensures ∙ c.if-same.false)
-    (formed c.args.c c.args.line.now c.class.ensures c.in_default.ensures.other))
+    sym (reply_unformed c.args.command c.args.line.now (sym c.is_same.ensures ∙ c.if-is_same.false)
+    (formed c.args.command c.args.line.now c.class.ensures c.in_default.ensures.other))
 
 pub returns-then-not-is_named : goal.returns-then-not-is_named
 returns-then-not-is_named c =
     let l = c.args.line.now in
-    sym (reply_other c.args.c l (sym c.same.ensures ∙ c.if-same.false)
-    (formed c.args.c l c.class.ensures c.in-Some.ensures.taken.form)
-    (named c.args.c l c.in-Some.ensures.taken c.class-2.ensures c.body.ensures c.is_named.ensures
+    sym (reply_other c.args.command l (sym c.is_same.ensures ∙ c.if-is_same.false)
+    (formed c.args.command l c.class.ensures c.in-Some.ensures.taken.form)
+    (named c.args.command l c.in-Some.ensures.taken c.class-2.ensures c.body.ensures c.is_named.ensures
     c.if-not-is_named.true))
 
 pub returns-in_default-read_parameter : goal.returns-in_default-read_parameter
 returns-in_default-read_parameter c =
     let l = c.args.line.now in
     ap saying (sym (ap parameter_said c.in_default-read_parameter.is) ∙ c.read_parameter.ensures
-    ∙ ap (read_parameter c.args.c) c.in-Some.ensures.taken.parameter)
-    ∙ sym (reply_said c.args.c l (sym c.same.ensures ∙ c.if-same.false)
-    (formed c.args.c l c.class.ensures c.in-Some.ensures.taken.form)
-    (named c.args.c l c.in-Some.ensures.taken c.class-2.ensures c.body.ensures c.is_named.ensures
+    ∙ ap (read_parameter c.args.command) c.in-Some.ensures.taken.parameter)
+    ∙ sym (reply_said c.args.command l (sym c.is_same.ensures ∙ c.if-is_same.false)
+    (formed c.args.command l c.class.ensures c.in-Some.ensures.taken.form)
+    (named c.args.command l c.in-Some.ensures.taken c.class-2.ensures c.body.ensures c.is_named.ensures
     c.if-not-is_named.false))
 
 pub returns : goal.returns
@@ -59,8 +59,8 @@ returns c =
     let l = c.args.line.now in
     replied c.in-Some-read_parameter.said
     ∙ ap saying (sym (ap parameter_said c.in-Some-read_parameter.is) ∙ c.read_parameter.ensures
-    ∙ ap (read_parameter c.args.c) c.in-Some.ensures.taken.parameter)
-    ∙ sym (reply_said c.args.c l (sym c.same.ensures ∙ c.if-same.false)
-    (formed c.args.c l c.class.ensures c.in-Some.ensures.taken.form)
-    (named c.args.c l c.in-Some.ensures.taken c.class-2.ensures c.body.ensures c.is_named.ensures
+    ∙ ap (read_parameter c.args.command) c.in-Some.ensures.taken.parameter)
+    ∙ sym (reply_said c.args.command l (sym c.is_same.ensures ∙ c.if-is_same.false)
+    (formed c.args.command l c.class.ensures c.in-Some.ensures.taken.form)
+    (named c.args.command l c.in-Some.ensures.taken c.class-2.ensures c.body.ensures c.is_named.ensures
     c.if-not-is_named.false))

@@ -2,7 +2,7 @@
 use Rattle.std.proofs.Common.{ℕ, ◌≡◌, sym, ap, ◌∙◌, Bool, true, false, List, arith, Result}
 use Rattle.words.specs.Classes.{class_as_number, class_code}
 use Rattle.words.specs.declared.class.ClassNumber.{ClassNumber}
-use Rattle.words.specs.declared.refusal.Refusal.{Refusal}
+use Rattle.words.specs.declared.error_reply.ErrorReply.{ErrorReply}
 use Rattle.pjlink.specs.declared.answer.Answer.{Answer}
 use Rattle.pjlink.specs.Carried.{said_by}
 use Rattle.pjlink.specs.Forms.{is_command_form, reply_line, IsCommandOf}
@@ -46,7 +46,7 @@ module _
         asks : {r : Request} → r ≡ request_of (class_as_number j) letters p → r ≡ line_asks l
         asks f = grind arith
 
-        answers : {r : Request} (reply : Result Answer Refusal) → r ≡ request_of (class_as_number j) letters p
+        answers : {r : Request} (reply : Result Answer ErrorReply) → r ≡ request_of (class_as_number j) letters p
             → said_by reply ≡ answer_for s o r
             → reply_line (class_code j) letters (said_bytes (said_by reply)) ≡ (line_answer s o l).reply
         answers reply f g = grind (arith, formed)
@@ -62,9 +62,9 @@ returns-clause-reply c = grind (arith, answers)
 
 pub returns-clause-own : goal.returns-clause-own
 returns-clause-own c =
-    let s = c.args.s.now in
-    let o = c.args.o.now in
-    let l = c.args.l.now in
+    let s = c.args.settings.now in
+    let o = c.args.own.now in
+    let l = c.args.bytes.now in
     c.decide-reply.ensures.own
     ∙ ap (after_request s o)
     (asks s o l c.requires.ready.settings c.class.ensures _ c.in-Some.ensures.taken c.request-asked.ensures)

@@ -10,6 +10,6 @@ invariant_of-legal-2 c =
     let d = c.args.legal.now.device.now in
     record {
       legal =
-          subst (λ (k : Connection). is_legal (with_place d d.own c.lowest_shut-place.result k) ≡ true)
-          (sym c.greet.ensures) (greeted_kept d c.args.legal.now.legal c.lowest_shut-place.result c.args.random);
+          subst (λ (k : Connection). is_legal (with_place d d.own c.lowest_closed-place.result k) ≡ true)
+          (sym c.greet.ensures) (greeted_kept d c.args.legal.now.legal c.lowest_closed-place.result c.args.random);
     }

@@ -6,23 +6,25 @@ use Rattle.floorlog.proofs.EventsLeave.{illegal_silent}
 use Rattle.floorlog.proofs.Driven.{driven}
 use Rattle.floorlog.proofs.event.call.Goals as goal
 
-pub invariant_of-t : goal.invariant_of-t
-invariant_of-t c = grind (arith, did_legality)
+pub invariant_of-tested : goal.invariant_of-tested
+invariant_of-tested c = grind (arith, did_legality)
 
-pub returns-then-t-clause-places : goal.returns-then-t-clause-places
-returns-then-t-clause-places c = grind (arith, driven)
+pub returns-then-tested-clause-places : goal.returns-then-tested-clause-places
+returns-then-tested-clause-places c = grind (arith, driven)
 
 pub returns-in-NoSuch-clause-text : goal.returns-in-NoSuch-clause-text
 returns-in-NoSuch-clause-text c = rw c.in-NoSuch.is refl
 
 pub returns-in_default-clause-text : goal.returns-in_default-clause-text
 returns-in_default-clause-text c =
-    illegal_text c.args.t.now.device c.args.event.now c.args.reply.now (sym c.args.t.now.tested ∙ c.if-t.false)
+    illegal_text c.args.tested.now.device c.args.event.now c.args.reply.now (sym c.args.tested.now.tested
+    ∙ c.if-tested.false)
     c.in_default.not-NoSuch
 
 pub returns-in_default-clause-answer : goal.returns-in_default-clause-answer
 returns-in_default-clause-answer c =
-    illegal_answer c.args.t.now.device c.args.event.now (sym c.args.t.now.tested ∙ c.if-t.false) c.in_default.not-NoSuch
+    illegal_answer c.args.tested.now.device c.args.event.now (sym c.args.tested.now.tested
+    ∙ c.if-tested.false) c.in_default.not-NoSuch
 
 pub returns-in-NoSuch-clause-device : goal.returns-in-NoSuch-clause-device
 returns-in-NoSuch-clause-device c = grind (arith, illegal_kept)
@@ -32,11 +34,11 @@ returns-in_default-clause-device c = grind (arith, illegal_kept)
 
 pub returns-in-NoSuch-clause-places : goal.returns-in-NoSuch-clause-places
 returns-in-NoSuch-clause-places c =
-    driven c.args.t.now.device (event_said c.args.event.now) (returns-in-NoSuch-clause-device c)
+    driven c.args.tested.now.device (event_said c.args.event.now) (returns-in-NoSuch-clause-device c)
 
 pub returns-in_default-clause-places : goal.returns-in_default-clause-places
 returns-in_default-clause-places c =
-    driven c.args.t.now.device (event_said c.args.event.now) (returns-in_default-clause-device c)
+    driven c.args.tested.now.device (event_said c.args.event.now) (returns-in_default-clause-device c)
 
 pub returns-in-NoSuch-clause-reply : goal.returns-in-NoSuch-clause-reply
 returns-in-NoSuch-clause-reply c = grind (arith, illegal_silent)

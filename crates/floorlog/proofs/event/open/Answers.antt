@@ -13,4 +13,5 @@ returns-in-Ok-clause-text c =
     let told = rw c.told-reply at c.in-Ok.ensures.told in
     served_text (opened_by d c.args.random reply_room) c.args.reply.now (ap (λ (t : Told). t.number) told)
     (ap (λ (t : Told). t.length) told) (rw c.told-reply at c.in-Ok.ensures.reply)
-    ∙ ap outcome (sym (log_opened_closed d c.args.random c.args.legal.now.legal (eq-eqb _ _ c.if-legal-ne-SHUT.false)))
+    ∙ ap outcome (sym (log_opened_closed d c.args.random c.args.legal.now.legal (eq-eqb _ _
+    c.if-legal-ne-PHASE_CLOSED.false)))

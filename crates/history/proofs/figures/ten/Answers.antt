@@ -9,4 +9,4 @@ pub returns : goal.returns
 returns c =
     (λ i. both (c.two.ensures i) ++ both (c.two-2.ensures i) ++ both (c.two-3.ensures i) ++ both (c.two-4.ensures i)
     ++ both (c.two-5.ensures i))
-    ∙ ten_lowest c.args.n _ _ _ _ refl refl refl refl
+    ∙ ten_lowest c.args.number _ _ _ _ refl refl refl refl

@@ -5,4 +5,4 @@ use Rattle.report.proofs.lamps.put_totals.Given as goal
 
 abbrev pub invariant-loop-k : goal.invariant-loop-k
 invariant-loop-k g l = Appends (g.W.ByteSink.contents l.initial.out) (g.W.ByteSink.contents l.out)
-    (flat_map (total_line l.t.starts l.t.burnt l.t.lasts) (range_with_len 0 l.k))
+    (flat_map (total_line l.totals.starts l.totals.burnt l.totals.lasts) (range_with_len 0 l.k))

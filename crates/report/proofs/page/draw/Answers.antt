@@ -10,25 +10,29 @@ use Rattle.report.proofs.page.draw.Goals as goal
 pub returns-then-last-first-clause-text : goal.returns-then-last-first-clause-text
 returns-then-last-first-clause-text g c =
     let p = c.args.sheet in
-    rw (drawn_none p.query.began p.query.long p.row c.args.lit.now c.args.s.from c.args.s.to _ _ c.at-first.ensures
+    rw (drawn_none p.query.began p.query.long p.row c.args.lit.now c.args.stretch.from c.args.stretch.to _ _
+    c.at-first.ensures
     c.at-last.ensures c.if-last-first.true) (writes_all [] (Appends-nil _))
 
 pub returns-then-last-first-clause-row : goal.returns-then-last-first-clause-row
 returns-then-last-first-clause-row g c =
     let p = c.args.sheet in
-    sym (row_none p.query.began p.query.long p.row c.args.lit.now c.args.s.from c.args.s.to _ _ c.at-first.ensures
+    sym (row_none p.query.began p.query.long p.row c.args.lit.now c.args.stretch.from c.args.stretch.to _ _
+    c.at-first.ensures
     c.at-last.ensures c.if-last-first.true)
 
 pub returns-then-not-burns-clause-text : goal.returns-then-not-burns-clause-text
 returns-then-not-burns-clause-text g c =
     let p = c.args.sheet in
-    rw (drawn_unlit p.query.began p.query.long p.row c.args.lit.now c.args.s.from c.args.s.to _ _ c.at-first.ensures
+    rw (drawn_unlit p.query.began p.query.long p.row c.args.lit.now c.args.stretch.from c.args.stretch.to _ _
+    c.at-first.ensures
     c.at-last.ensures (sym c.is_any-burns.ensures ∙ c.if-not-burns.true)) (writes_all [] (Appends-nil _))
 
 pub returns-then-not-burns-clause-row : goal.returns-then-not-burns-clause-row
 returns-then-not-burns-clause-row g c =
     let p = c.args.sheet in
-    sym (row_unlit p.query.began p.query.long p.row c.args.lit.now c.args.s.from c.args.s.to _ _ c.at-first.ensures
+    sym (row_unlit p.query.began p.query.long p.row c.args.lit.now c.args.stretch.from c.args.stretch.to _ _
+    c.at-first.ensures
     c.at-last.ensures (sym c.is_any-burns.ensures ∙ c.if-not-burns.true))
 
 pub loop-before-init : goal.loop-before-init
@@ -40,7 +44,7 @@ loop-before-init g c =
 pub loop-before-preserved : goal.loop-before-preserved
 loop-before-preserved g c =
     let p = c.args.sheet in
-    let s = c.args.s in
+    let s = c.args.stretch in
     let at = c.at-first.result in
     let last = c.at-last.result in
     let first = at / 86400 in
@@ -62,7 +66,7 @@ loop-before-preserved g c =
 pub returns-in_err-row-clause-text : goal.returns-in_err-row-clause-text
 returns-in_err-row-clause-text g c =
     let p = c.args.sheet in
-    let s = c.args.s in
+    let s = c.args.stretch in
     let at = c.at-first.result in
     let last = c.at-last.result in
     let first = at / 86400 in
@@ -82,7 +86,7 @@ returns-in_err-row-clause-text g c =
 pub returns-clause-text : goal.returns-clause-text
 returns-clause-text g c =
     let p = c.args.sheet in
-    let s = c.args.s in
+    let s = c.args.stretch in
     let at = c.at-first.result in
     let last = c.at-last.result in
     let first = at / 86400 in
@@ -98,7 +102,7 @@ returns-clause-text g c =
 pub returns-clause-row : goal.returns-clause-row
 returns-clause-row g c =
     let p = c.args.sheet in
-    let s = c.args.s in
+    let s = c.args.stretch in
     let at = c.at-first.result in
     let last = c.at-last.result in
     let first = at / 86400 in

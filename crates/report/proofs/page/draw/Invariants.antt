@@ -8,7 +8,7 @@ use Rattle.report.proofs.page.draw.Given as goal
 abbrev pub invariant-loop-before : goal.invariant-loop-before
 invariant-loop-before g l =
     let days = range_with_len (l.first / 86400 + 1) (l.before - l.first / 86400) in
-    let s = l.fn.s in
+    let s = l.fn.stretch in
     record {
       row : l.row ≡ after_each (row_after l.first l.last) l.fn.sheet.row days;
       written : Appends (g.W.ByteSink.contents l.initial.out) (g.W.ByteSink.contents l.out)

@@ -7,8 +7,8 @@ use Rattle.report.proofs.table.put_csv_rows.Goals as goal
 
 pub loop-k-preserved : goal.loop-k-preserved
 loop-k-preserved g c =
-    let q = c.args.q in
-    let s = c.args.s in
+    let q = c.args.query in
+    let s = c.args.stretch in
     let shown : ℕ → List ℕ =
     λ k. row_if (csv_row q.began q.long s.from s.to) (slice_index_or c.args.lit.now k false) k in
     each_more shown 0 c.loop-k.k _ c.loop-k.k _ _ _ (omega arith) (omega arith) c.loop-k.invariant
@@ -17,8 +17,8 @@ loop-k-preserved g c =
 pub returns-in_err-put_csv_if : goal.returns-in_err-put_csv_if
 unfolding rows_lit
 returns-in_err-put_csv_if g c =
-    let q = c.args.q in
-    let s = c.args.s in
+    let q = c.args.query in
+    let s = c.args.stretch in
     let shown : ℕ → List ℕ =
     λ k. row_if (csv_row q.began q.long s.from s.to) (slice_index_or c.args.lit.now k false) k in
     each_fails shown 0 c.loop-k.k (length c.args.lit.now) c.loop-k.k (omega arith) c.loop-k-test.true

@@ -7,5 +7,5 @@ use Rattle.stored.proofs.putting.names.Given as goal
 
 abbrev pub invariant-loop-name : goal.invariant-loop-name
 invariant-loop-name l =
-    Puts l.initial.w l.w (texts_bytes (map name_stored (take l.name-index l.names)))
-    × (l.w.at ≤ l.initial.w.at + 129 * l.name-index)
+    Puts l.initial.writer l.writer (texts_bytes (map name_stored (take l.name-index l.names)))
+    × (l.writer.at ≤ l.initial.writer.at + 129 * l.name-index)

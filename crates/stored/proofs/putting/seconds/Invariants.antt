@@ -6,5 +6,5 @@ use Rattle.stored.proofs.putting.seconds.Given as goal
 
 abbrev pub invariant-loop-x : goal.invariant-loop-x
 invariant-loop-x l =
-    Puts l.initial.w l.w (seconds_bytes (take l.x-index l.lamps))
-    × (l.w.at ≤ l.initial.w.at + 4 * l.x-index)
+    Puts l.initial.writer l.writer (seconds_bytes (take l.x-index l.lamps))
+    × (l.writer.at ≤ l.initial.writer.at + 4 * l.x-index)

@@ -6,5 +6,5 @@ use Rattle.setup.proofs.wanted.Wanted.check.Goals as goal
 pub returns-in-Some : goal.returns-in-Some
 returns-in-Some c = out_checked _ _ c.in-Some.ensures
 
-pub returns-then-not-long_enough : goal.returns-then-not-long_enough
-returns-then-not-long_enough c = grind (arith, short_checked)
+pub returns-then-not-is_long_enough : goal.returns-then-not-is_long_enough
+returns-then-not-is_long_enough c = grind (arith, short_checked)

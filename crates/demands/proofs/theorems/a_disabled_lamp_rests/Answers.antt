@@ -1,5 +1,0 @@
-use Rattle.demands.proofs.WrongBoardsFall.{ours_rests}
-use Rattle.demands.proofs.theorems.a_disabled_lamp_rests.Goals as goal
-
-pub returns : goal.returns
-returns c = record { burns = ours_rests.0; rests = ours_rests.1 }

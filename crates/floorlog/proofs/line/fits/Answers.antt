@@ -1,5 +1,0 @@
-use Rattle.std.proofs.Common.{arith}
-use Rattle.floorlog.proofs.line.fits.Goals as goal
-
-pub returns : goal.returns
-returns c = grind arith

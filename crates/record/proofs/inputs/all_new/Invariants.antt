@@ -1,5 +1,0 @@
-use Rattle.record.proofs.Marks.{IsBacked}
-use Rattle.record.proofs.inputs.all_new.Given as goal
-
-abbrev pub invariant-loop-j : goal.invariant-loop-j
-invariant-loop-j l = IsBacked l.class l.s l.seen l.ok l.j
