@@ -136,13 +136,13 @@ fn put_item_if<W: ByteSink>(out: &mut W, is_ascii: bool, term: &str, text: Text)
 }
 
 /// The projector's name, maker and model.
-pub fn put_about<W: ByteSink>(out: &mut W, p: Projector) -> io::Result<()>
-    ensures { WritesText W.fails_with (W.contents out.old) (W.contents out.new) result (projector_text p) }
+pub fn put_about<W: ByteSink>(out: &mut W, projector: Projector) -> io::Result<()>
+    ensures { WritesText W.fails_with (W.contents out.old) (W.contents out.new) result (projector_text projector) }
 {
     put(out, b"<dl>\n")?;
-    put_item_if(out, false, "projector", p.name)?;
-    put_item_if(out, true, "manufacturer", p.maker)?;
-    put_item_if(out, true, "model", p.model)?;
+    put_item_if(out, false, "projector", projector.name)?;
+    put_item_if(out, true, "manufacturer", projector.maker)?;
+    put_item_if(out, true, "model", projector.model)?;
     put(out, b"</dl>\n")
 }
 
