@@ -21,8 +21,8 @@ returns-in-Ok c =
     let d = c.args.t.now.device in
     let e = entry_seen c.in-Ok.entry in
     made_so r d (kept_line c.args.line.now) e (sym c.is_ended.ensures ∙ c.if-not-is_ended.false)
-    (ap (entry_told r d) (sym c.text.ensures) ∙ sym c.in-Ok.ensures) c.make.result c.make.new.log c.make.new.tested.device
-    c.args.reply.now c.make.new.reply c.make.ensures.told
+    (ap (entry_told r d) (sym c.text.ensures) ∙ sym c.in-Ok.ensures) c.make.result c.make.new.log
+    c.make.new.tested.device c.args.reply.now c.make.new.reply c.make.ensures.told
     (c.make.ensures.log ∙ ap (λ (t : List ℕ). log_made r d e t) c.text-in-Ok.ensures) c.make.ensures.device
     c.make.ensures.reply
 
