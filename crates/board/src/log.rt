@@ -64,14 +64,15 @@ fn byte_of(number: usize) -> u8
 
 #[tactic(auto, unfolding(crate::specs::Logs::six_of))]
 fn six_of(digits: &[u8]) -> ErrorStatus
-    ensures { result ≡ six_of digits.now }
+    ensures { result.digits ≡ six_of digits.now }
 {
-    match digits {
+    let digits = match digits {
         [fan, lamp, temperature, cover, filter, other] => {
             [*fan, *lamp, *temperature, *cover, *filter, *other]
         }
         _ => [255; 6],
-    }
+    };
+    ErrorStatus { digits }
 }
 
 // The line of a call. Inlined, so that each export has the line of its own kind alone.

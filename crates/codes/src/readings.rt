@@ -148,7 +148,7 @@ impl FlatReading {
             Answer::Power(p) => FlatReading::plain(3, power_number(*p), 0),
             Answer::Input(i) => FlatReading::plain(4, source_number(i.source), i.number),
             Answer::Mutes(mutes) => FlatReading::plain(5, bit(mutes.video), bit(mutes.audio)),
-            Answer::Errors(digits) => FlatReading::with_text(6, digits),
+            Answer::Errors(status) => FlatReading::with_text(6, &status.digits),
             Answer::Lamps(lamps) => FlatReading::with_lamps(lamps.as_slice()),
             Answer::Inputs(inputs) => FlatReading::with_inputs(inputs.as_slice()),
             Answer::Text(text) => FlatReading::with_text(9, text),

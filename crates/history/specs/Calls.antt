@@ -27,7 +27,7 @@ call_seen (Receives p bs) = receives p bs.now
 call_seen (Passes n) = passes n
 call_seen (Closes p) = closes p
 call_seen (Fault m) = faults m
-call_seen (Errors ds) = reports ds
+call_seen (Errors status) = reports status.digits
 call_seen (Mark k m) = enables k m
 
 abbrev pub received_most : ℕ

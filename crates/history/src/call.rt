@@ -27,10 +27,10 @@ pub enum RecordedCall<'a> {
     Mark(u8, bool),
 }
 
-fn are_errors(digits: &ErrorStatus) -> bool
-    ensures { result ≡ is_errors digits.now }
+fn are_errors(status: &ErrorStatus) -> bool
+    ensures { result ≡ is_errors status.now.digits }
 {
-    let [fan, lamp, temperature, cover, filter, other] = *digits;
+    let [fan, lamp, temperature, cover, filter, other] = status.digits;
     fan <= 2 && lamp <= 2 && temperature <= 2 && cover <= 2 && filter <= 2 && other <= 2
 }
 
@@ -47,7 +47,7 @@ impl RecordedCall<'_> {
             RecordedCall::Passes(_) => true,
             RecordedCall::Closes(place) => *place <= 3,
             RecordedCall::Fault(_) => true,
-            RecordedCall::Errors(digits) => are_errors(digits),
+            RecordedCall::Errors(status) => are_errors(status),
             RecordedCall::Mark(lamp, _) => *lamp <= 7,
         }
     }

@@ -64,11 +64,11 @@ fn hex(w: &mut MemoryWriter<'_>, s: &[u8])
 }
 
 #[inline(always)]
-fn errors(w: &mut MemoryWriter<'_>, digits: &ErrorStatus)
+fn errors(w: &mut MemoryWriter<'_>, status: &ErrorStatus)
     requires short { w.old.at ≤ 4 }
-    ensures { Puts w.old w.new (errors_text digits.now) }
+    ensures { Puts w.old w.new (errors_text status.now.digits) }
 {
-    let [fan, lamp, temperature, cover, filter, other] = *digits;
+    let [fan, lamp, temperature, cover, filter, other] = status.digits;
     w.bytes(&[
         input::number_digit(fan),
         input::number_digit(lamp),
@@ -180,9 +180,9 @@ pub fn call(writer: &mut MemoryWriter<'_>, call: &RecordedCall<'_>)
         }
         RecordedCall::Closes(place) => head(writer, b'X', *place),
         RecordedCall::Fault(mark) => writer.bytes(&[b'F', b' ', switch_figure(*mark)]),
-        RecordedCall::Errors(digits) => {
+        RecordedCall::Errors(status) => {
             writer.bytes(b"E ");
-            errors(writer, digits);
+            errors(writer, status);
         }
         RecordedCall::Mark(lamp, mark) => {
             placed(writer, b'M', *lamp + 1);

@@ -18,11 +18,15 @@ use crate::put;
 use arrayvec::ArrayVec;
 use words::codec;
 use words::errors::ErrorStatus;
+use words::lamp::LAMPS_MOST;
 
 /// Room for the bytes that a line says were received.
 pub type Bytes = ArrayVec<u8, RECEIVED_MOST>;
 
 const NUMBER_MOST: u64 = 4294967295;
+
+// Lamps are numbered from 1.
+const LAST_LAMP: u8 = b'0' + LAMPS_MOST as u8;
 
 fn is_hex_digit(b: u8) -> bool
     ensures { result ≡ is_hex_digit b }
@@ -129,7 +133,7 @@ fn errors_in(s: &[u8]) -> Option<RecordedCall<'_>>
     ensures { option_map call_seen result ≡ errors_in s.now }
 {
     match codec::parse::<ErrorStatus>(s) {
-        Some(digits) => Some(RecordedCall::Errors(digits)),
+        Some(status) => Some(RecordedCall::Errors(status)),
         None => None,
     }
 }
@@ -143,7 +147,7 @@ fn is_place(b: u8) -> bool
 fn is_lamp(b: u8) -> bool
     ensures { result ≡ (b from "1" to "8") }
 {
-    b'1' <= b && b <= b'8'
+    b'1' <= b && b <= LAST_LAMP
 }
 
 fn is_switch(b: u8) -> bool

@@ -2,6 +2,7 @@
 use crate::call::RecordedCall;
 use crate::read::{self, Bytes};
 use crate::recorder::{LOG_LINE_ROOM, Recorder};
+use words::errors::ErrorStatus;
 
 fn is_line(written: Option<usize>, memory: &[u8], line: &[u8]) -> bool {
     match written {
@@ -64,7 +65,7 @@ fn recorded_lines(rt: HostRuntime) {
     assert!(rt;
         records(
             &mut log,
-            &RecordedCall::Errors([0, 1, 2, 0, 0, 0]),
+            &RecordedCall::Errors(ErrorStatus { digits: [0, 1, 2, 0, 0, 0] }),
             b"E 012000\n"
         )
     );
@@ -87,7 +88,7 @@ fn unsayable_calls(rt: HostRuntime) {
     assert!(rt; !RecordedCall::Opens(4, 0).is_sayable());
     assert!(rt; !can_receive(&long));
     assert!(rt; can_receive(&long[1..]));
-    assert!(rt; !RecordedCall::Errors([0, 3, 0, 0, 0, 0]).is_sayable());
+    assert!(rt; !RecordedCall::Errors(ErrorStatus { digits: [0, 3, 0, 0, 0, 0] }).is_sayable());
     assert!(rt; !RecordedCall::Mark(8, true).is_sayable());
 }
 

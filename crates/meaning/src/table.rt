@@ -14,6 +14,7 @@ use pjlink::command::Command;
 use record::types::{InputName, Own, Settings, Text};
 use record::views;
 use text::{flag, rooms};
+use words::errors::ErrorStatus;
 use words::input::{INPUTS_MOST, Input};
 use words::lamp::{LAMPS_MOST, LampHours};
 use words::mutes::Mutes;
@@ -94,7 +95,7 @@ fn query_answer<'a>(s: &'a Settings, o: &Own, b: Body) -> Option<Answer<'a>>
             video: flag::is_raised(o.video_muted),
             audio: flag::is_raised(o.audio_muted),
         })),
-        Body::Erst => Some(Answer::Errors(o.errors)),
+        Body::Erst => Some(Answer::Errors(ErrorStatus { digits: o.errors })),
         Body::Lamp => {
             let lit = o.power().is_burning();
             Some(Answer::Lamps(lamps_said(&o.lamps, &o.enabled, s.lamp_count, lit)))

@@ -14,7 +14,7 @@ use words::class::ClassNumber;
 use words::class::ClassNumber::{One, Two};
 
 /// The four letters that name what a command is about, each under its own class: INPT and INST are a body of either.
-#[derive(Clone, Copy)]
+#[derive(Clone, Copy, Debug, PartialEq, Eq)]
 pub enum Body {
     /// POWR: the power (PJLink 1.04, 4.1, 4.2).
     Powr,

@@ -5,12 +5,14 @@ ghost use Rattle.pjlink.specs.Requests.{mute_of, name_query_of, set_of, command_
 
 use crate::body::{Body, Sets};
 use crate::command::{Command, Half, Volume};
+use std::error::Error;
+use std::fmt;
 use words::class::ClassNumber;
 use words::codec::Wire;
 use words::{codec, input};
 
 /// Why a line of the form asks for no command.
-#[derive(Clone, Copy)]
+#[derive(Clone, Copy, Debug, PartialEq, Eq)]
 pub enum Unasked {
     /// The body, with a parameter that is neither its query nor one that it knows: ERR2, or ERR1 of a body that knows
     /// none.
@@ -18,6 +20,17 @@ pub enum Unasked {
     /// No body of the line's class has these letters: ERR1.
     UnknownBody,
 }
+
+impl fmt::Display for Unasked {
+    fn fmt<W: fmt::Write>(&self, f: &mut fmt::Formatter<W>) -> fmt::Result {
+        f.write_str(match self {
+            Unasked::Unlisted(_) => "the body does not know the parameter",
+            Unasked::UnknownBody => "no body of the class has these letters",
+        })
+    }
+}
+
+impl Error for Unasked {}
 
 // What is muted, and whether it is to be.
 fn mute_of(p: &[u8]) -> Option<Command>

@@ -9,6 +9,7 @@ ghost use Rattle.history.specs.Shown.{device_shown};
 ghost use Rattle.recorded.specs.Chain.{why_seen, misfit_header, misfit_line, misfit_stated, misfit};
 ghost use Rattle.recorded.specs.Chain.{entry_told, entry_read, made_told, made_seen, device_made, reply_made};
 ghost use Rattle.recorded.specs.Chain.{log_made, call_made, other_state};
+ghost use Rattle.recorded.specs.Following.{reason_words};
 ghost use Rattle.recorded.specs.Played.{play_told};
 
 use crate::play::{self, Stray};
@@ -45,17 +46,29 @@ pub enum Why {
     Refused(Refusal),
 }
 
+impl Why {
+    /// Returns the words for it; of a refused call those before the number.
+    pub fn words(&self) -> &'static str
+        ensures { result.now ≡ reason_words (why_seen self.now) }
+    {
+        match self {
+            Why::Unended => "no line end",
+            Why::SaysNothing => "no such line",
+            Why::OtherFile => "not the next file",
+            Why::OtherSum => "another sum",
+            Why::OtherCount => "another count of lines",
+            Why::OtherState => "the record shows something else",
+            Why::OtherPlace => play::OTHER_PLACE,
+            Why::Refused(_) => "refused with ",
+        }
+    }
+}
+
 impl fmt::Display for Why {
     fn fmt<W: fmt::Write>(&self, f: &mut fmt::Formatter<W>) -> fmt::Result {
         match self {
-            Why::Unended => f.write_str("no line end"),
-            Why::SaysNothing => f.write_str("no such line"),
-            Why::OtherFile => f.write_str("not the next file"),
-            Why::OtherSum => f.write_str("another sum"),
-            Why::OtherCount => f.write_str("another count of lines"),
-            Why::OtherState => f.write_str("the record shows something else"),
-            Why::OtherPlace => f.write_str("another place was opened"),
             Why::Refused(refusal) => write!(f, "{refusal}"),
+            _ => f.write_str(self.words()),
         }
     }
 }

@@ -15,15 +15,31 @@ use device::calls::REPLY_ROOM;
 use history::call::RecordedCall;
 use record::legality::{Legal, Tested};
 use record::refusal::Refusal;
+use std::error::Error;
+use std::fmt;
 
 /// Why a call of a history does not belong to a record.
-#[derive(Clone, Copy)]
+#[derive(Clone, Copy, Debug, PartialEq, Eq)]
 pub enum Stray {
     /// It is refused.
     Refused(Refusal),
     /// It is an opening that got another place than was recorded, and has it now.
     OtherPlace,
 }
+
+// The words for an opening that got another place.
+pub(crate) const OTHER_PLACE: &str = "another place was opened";
+
+impl fmt::Display for Stray {
+    fn fmt<W: fmt::Write>(&self, f: &mut fmt::Formatter<W>) -> fmt::Result {
+        match self {
+            Stray::Refused(refusal) => write!(f, "{refusal}"),
+            Stray::OtherPlace => f.write_str(OTHER_PLACE),
+        }
+    }
+}
+
+impl Error for Stray {}
 
 fn is_recorded(got: usize, place: u8) -> bool
     ensures { result ≡ (got == place) }
@@ -98,7 +114,7 @@ fn play_legal(
             legal.set_fault(*mark);
             Ok(0)
         }
-        RecordedCall::Errors(digits) => quiet(legal.set_errors(digits)),
+        RecordedCall::Errors(status) => quiet(legal.set_errors(&status.digits)),
         RecordedCall::Mark(lamp, mark) => quiet(legal.set_mark(*lamp as usize, *mark)),
     }
 }

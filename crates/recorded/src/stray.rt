@@ -1,7 +1,7 @@
 // A line that does not belong to the history of a record, and what is said of it.
 ghost use Rattle.std.specs.Prelude.{◌≡◌, ◌+◌, ◌≤◌, ◌++◌, length, []};
 ghost use Rattle.arrayvec.specs.ArrayVec.{array_vec_len};
-ghost use Rattle.recorded.specs.Chain.{why_seen, refused_with};
+ghost use Rattle.recorded.specs.Chain.{why_seen};
 ghost use Rattle.recorded.specs.Following.{stray_seen, misfit_words, stray_text};
 
 use crate::chain::Why;
@@ -31,28 +31,13 @@ fn put_text(text: &[u8], out: &mut StrayText)
     out.try_extend_from_slice(text).unwrap();
 }
 
-#[tactic(auto, using(crate::proofs::Followed::stray_lengths))]
-fn put_refusal(number: u32, out: &mut StrayText)
-    requires { array_vec_len out.old ≤ 29 }
-    ensures { out.new.items ≡ out.old.items ++ misfit_words (refused_with number) }
-{
-    put_text(b"refused with ", out);
-    numbers::put_number(number, out);
-}
-
 fn put_words(why: &Why, out: &mut StrayText)
     requires { array_vec_len out.old ≤ 29 }
     ensures { out.new.items ≡ out.old.items ++ misfit_words (why_seen why.now) }
 {
-    match why {
-        Why::Unended => put_text(b"no line end", out),
-        Why::SaysNothing => put_text(b"no such line", out),
-        Why::OtherFile => put_text(b"not the next file", out),
-        Why::OtherSum => put_text(b"another sum", out),
-        Why::OtherCount => put_text(b"another count of lines", out),
-        Why::OtherState => put_text(b"the record shows something else", out),
-        Why::OtherPlace => put_text(b"another place was opened", out),
-        Why::Refused(refusal) => put_refusal(refusal.number(), out),
+    put_text(why.words().as_bytes(), out);
+    if let Why::Refused(refusal) = why {
+        numbers::put_number(refusal.number(), out);
     }
 }
 

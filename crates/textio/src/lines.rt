@@ -8,6 +8,8 @@ ghost use Rattle.textio.specs.NextLine.{ShowsPart, ReadsPart, IsNextLine, Failur
 use crate::memory;
 use crate::reader::{BufferedReader, ByteSource};
 use crate::writer::ByteSink;
+use std::error;
+use std::fmt;
 use std::io;
 use std::io::Error;
 
@@ -30,6 +32,18 @@ pub enum Failure {
     /// A 64-bit number counts no more lines, or no more bytes of a line.
     TooLong,
 }
+
+impl fmt::Display for Failure {
+    fn fmt<W: fmt::Write>(&self, f: &mut fmt::Formatter<W>) -> fmt::Result {
+        match self {
+            Failure::Read(error) => write!(f, "a read failed: {error}"),
+            Failure::Write(error) => write!(f, "a write failed: {error}"),
+            Failure::TooLong => f.write_str("more lines or bytes than can be counted"),
+        }
+    }
+}
+
+impl error::Error for Failure {}
 
 // How far a line came; the place after what is kept of it.
 #[derive(Clone, Copy)]

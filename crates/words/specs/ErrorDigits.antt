@@ -2,14 +2,15 @@
 --   is_error_digit d     0 no error or not known, 1 a warning, 2 an error
 --   is_errors ds         six of them
 --   errors_text ds       their characters
---   errors_read s        the six at the front of s
+--   errors_read s        the six at the front of s;    status_read s   the same as a status
 -- Assumes nothing.
 use Rattle.std.specs.List.{list_all}
 use Rattle.std.specs.Prelude.{ℕ, ◌-◌, Bool, ◌&&◌, List, map, length, Option, Some, None, if◌then◌else◌, nat_le, ◌==◌}
 use Prim.Native.Char.{code}
 use Rattle.text.specs.Words.{◌from◌to◌}
-use Rattle.words.specs.Codec.{letter, values_in}
+use Rattle.words.specs.Codec.{letter, values_in, ◌>>=◌}
 use Rattle.words.specs.Inputs.{number_digit}
+use Rattle.words.specs.declared.errors.ErrorStatus.{ErrorStatus}
 
 abbrev pub is_error_digit : ℕ → Bool
 is_error_digit d = nat_le d 2
@@ -25,3 +26,9 @@ errors_text ds = map number_digit ds
 
 abbrev pub errors_read : List ℕ → Option (List ℕ × List ℕ)
 errors_read s = values_in 6 (letter error_named) s
+
+abbrev pub status_of : List ℕ → ErrorStatus
+status_of ds = record { digits = ds }
+
+abbrev pub status_read : List ℕ → Option (ErrorStatus × List ℕ)
+status_read s = errors_read s >>= λ r. Some (status_of r.0, r.1)

@@ -24,9 +24,11 @@ use Rattle.words.specs.Sources.{is_number_character, number_for, number_characte
 use Rattle.words.specs.Lamps.{lamp_text, lamp_hours, is_lamp_hours, WritesLampHours, lamp_read}
 use Rattle.words.specs.Muting.{halves_text, mutes_text, mutes_of, all_mutes, mutes_read}
 use Rattle.words.specs.ErrorDigits.{is_error_digit, error_named, is_errors, errors_text, errors_read}
+use Rattle.words.specs.ErrorDigits.{status_of, status_read}
 use Rattle.words.specs.Classes.{class_code, classes, class_text, class_read}
 use Rattle.words.specs.Refusing.{refusal_code, refusals, error_reply_text, error_reply_read}
 use Rattle.words.specs.declared.class.ClassNumber.TheVariants.{One, Two}
+use Rattle.words.specs.declared.errors.ErrorStatus.{ErrorStatus}
 use Rattle.words.specs.declared.input.Input.{Input}
 use Rattle.words.specs.declared.input.Source.{Source}
 use Rattle.words.specs.declared.input.Source.TheVariants.{Rgb, Video, Digital, Storage, Network, Internal}
@@ -68,6 +70,26 @@ error_named_lem b d e = (grind (arith, nat_tests), grind (arith, nat_tests))
 
 pub errors_codec : Codec Ends is_errors errors_text (Plain is_errors errors_text) errors_read
 errors_codec = counted_codec is_error_digit number_digit error_named error_names error_named_lem 6
+
+abbrev status_text : ErrorStatus → List ℕ
+status_text e = errors_text e.digits
+
+abbrev is_status : ErrorStatus → Bool
+is_status e = is_errors e.digits
+
+pub status_codec : Codec Ends is_status status_text (Plain is_status status_text) status_read
+status_codec = record {
+  own = λ e h. (h, refl);
+  told = λ e t w. w.0;
+  back = λ e t rest w h.
+      ap (λ o. o >>= λ r. Some (status_of r.0, r.1)) (errors_codec.back e.digits t rest w h);
+  sound = λ s e rest read.
+      let (r, m, same) = bind_some (errors_read s) (λ r. Some (status_of r.0, r.1)) read in
+      let (is_e, is_rest) = some_pair_parts (status_of r.0) e r.1 rest same in
+      let (t, w, front) = errors_codec.sound s r.0 r.1 m in
+      let digits = ap (λ e. e.digits) is_e in
+      (t, (subst (λ ds. is_errors ds ≡ true) digits w.0, w.1 ∙ ap errors_text digits), front ∙ ap (λ u. t ++ u) is_rest);
+}
 
 -- an input's source and number, from their characters
 source_named_lem : (s : Source) → source_named (source_digit s) ≡ s

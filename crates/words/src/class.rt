@@ -7,7 +7,7 @@ ghost use Rattle.words.specs.Laws.{class_codec};
 use crate::codec::{self, LineBytes, Wire};
 
 /// The class of a projector, of a body, and of a line.
-#[derive(Clone, Copy)]
+#[derive(Clone, Copy, Debug, PartialEq, Eq)]
 pub enum ClassNumber {
     /// Class 1.
     One,

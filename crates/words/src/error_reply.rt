@@ -6,9 +6,11 @@ ghost use Rattle.words.specs.Laws.{refusal_codec};
 
 use crate::codec::{self, LineBytes, Wire};
 use crate::input;
+use std::error::Error;
+use std::fmt;
 
 /// Why a projector refuses a command.
-#[derive(Clone, Copy)]
+#[derive(Clone, Copy, Debug, PartialEq, Eq)]
 pub enum ErrorReply {
     /// ERR1: an undefined command.
     Undefined,
@@ -33,6 +35,20 @@ impl ErrorReply {
         }
     }
 }
+
+/// PJLink's words for it.
+impl fmt::Display for ErrorReply {
+    fn fmt<W: fmt::Write>(&self, f: &mut fmt::Formatter<W>) -> fmt::Result {
+        f.write_str(match self {
+            ErrorReply::Undefined => "ERR1: undefined command",
+            ErrorReply::OutOfParameter => "ERR2: out of parameter",
+            ErrorReply::Unavailable => "ERR3: unavailable time",
+            ErrorReply::Failure => "ERR4: projector failure",
+        })
+    }
+}
+
+impl Error for ErrorReply {}
 
 fn refusal_named(b: u8) -> Option<ErrorReply>
     ensures { result ≡ refusal_named b }
