@@ -15,7 +15,7 @@
 -- connection is said of that at any place p, whatever the other places hold. RULES, Class 2: lines, commands and
 -- set-ups are of Class 1 or Class 2, and all is said of both; that a Class 1 set-up answers by Class 1 alone is in
 -- ClassOne.
---   BetweenLines phase d p   legal, at place p in that phase, no collected bytes and no overlong mark
+--   BetweenLines phase d p   legal, at place p in that phase, no collected bytes and no overlong flag
 --   ReadBack B d p c w r     the command c, written as w and received as r, is read as it was meant and done
 --   AnsweredAs B d p bs a r  the bytes bs were all taken, and answered a
 --   IsSwallowed B d p w r    what was written as w was all taken, with no reply, and changed nothing

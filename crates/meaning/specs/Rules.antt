@@ -45,7 +45,7 @@ is_out_of_parameter s (Err UnknownBody) = false
 is_out_of_parameter s (Err (Unlisted b)) = has_parameters b
 is_out_of_parameter s (Ok c) = is_unlisted s c
 
--- 3. POWR, INPT, AVMT, set or query, with the fault mark: ERR4. So for FREZ, SVOL and MVOL (RULES, Class 2).
+-- 3. POWR, INPT, AVMT, set or query, with the fault flag: ERR4. So for FREZ, SVOL and MVOL (RULES, Class 2).
 abbrev pub is_failure : Own → Request → Bool
 is_failure o (Err UnknownBody) = false
 is_failure o (Err (Unlisted b)) = has_set b && is_raised o.fault
