@@ -1,7 +1,7 @@
 -- The last line of a log that cannot be replayed to its end (RULES, Floor log).
---   failure_line f      the line for the failure f: "the last line is `! read failed`, in the place of all that is
---                       printed at the end. Where the count of lines, of a line's bytes or of seconds could pass 64
---                       bits it is `! broken off`". The line for a failed write goes to standard error
+--   failure_line f      the line for the failure f: "the last line is `! read failed`, instead of all that is printed
+--                       at the end. If the count of lines, of a line's bytes or of seconds could pass 64 bits, it is `!
+--                       broken off`". The line for a failed write goes to standard error
 --   end_text told       what is written last: that line if the replay failed, but nothing after a failed write
 --   EndFails fails told e    the error e may end this writing: one of the sink's, or after a failed write that error
 --                            itself

@@ -1,4 +1,4 @@
--- A log as events, one a line (RULES, Floor log: "one event a line").
+-- A log as events, one a line (RULES, Floor log).
 --   LogEvent           an event: a connection opened with a random number; bytes received; seconds passed; the
 --                      connection closed; or a line that has none of these forms, which changes nothing
 --   event_said e       the event e of the code, as a LogEvent

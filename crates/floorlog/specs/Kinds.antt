@@ -1,4 +1,4 @@
--- Of which kind a log is (RULES, Floor log: "a log whose first line begins with `LOG ` is the history of a board").
+-- The kind of a log (RULES, Floor log): a log whose first line begins with `LOG ` is the history of a board.
 --   begins_history l        the line l begins with `LOG `
 --   is_history ls           a log of the lines ls is a history: the first begins so; a log of no line is no history
 --   is_history_from k ls    a log is a history, if the lines before ls say that it is of the kind k; if there are none,
