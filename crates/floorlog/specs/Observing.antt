@@ -5,8 +5,6 @@
 --                                            the observer got each line that has ended in what was read of the log,
 --                                            of which `left` is left: what comes of these lines is written, and
 --                                            nothing after it
---                                            all lines are told that have ended in what was read of the log, where this
---                                            is left: what comes of them is written, and after them nothing
 --   FailsOn fails over f                     the failure f of a line is an error of the sink, or the lines have too
 --                                            much in them
 --   CannotFollow Overflows s log             the log is too long, or it has more in it than the observer can count

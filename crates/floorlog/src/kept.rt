@@ -96,7 +96,7 @@ impl KeptLine {
         line::read(&self.bytes[..self.held + 1])
     }
 
-    /// The next line of a log in its place, if there is one.
+    /// Reads the next line of a log in place of this one. Returns whether there is one.
     pub fn read<R: ByteSource, W: ByteSink>(
         &mut self,
         from: &mut BufferedReader<R>,

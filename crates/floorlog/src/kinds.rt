@@ -31,6 +31,7 @@ pub struct ByKind<A, B> {
     kind: LogKind,
 }
 
+/// Returns whether a line begins with `LOG `, as the first line of a history does.
 #[tactic(auto, unfolding(crate::specs::Kinds::begins_history))]
 pub(crate) fn begins_history(line: &[u8]) -> bool
     ensures { result ≡ begins_history line.now }
