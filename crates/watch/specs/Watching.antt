@@ -9,8 +9,7 @@
 --   gained_by d n burnt   the seconds burnt, with n more for each of these lamps
 --   watched_on s e        the state after the step e
 --   is_dark_with s d         a step that leaves d ends the stretches under way in s: those of the lamps whose marks are
---                            set, from `from` to `time` of the state after it
---                         whose marks are set, from `from` to `time` of the state after it
+--                         set, from `from` to `time` of the state after it
 --   is_long s             the stretches under way in s are not empty
 --   burnt_by s            the seconds that each lamp burnt, if the log ends in the state s
 --   is_sound s            no lamp burnt longer than the log lasted, and the stretch under way did not begin in the
