@@ -1,4 +1,5 @@
--- Wrong boards against demand 2, as to the class (RULES, Class 2); proofs/WrongBoardsFall.antt has where each falls.
+-- Wrong boards against demand 2, as to the class (RULES, Class 2). That each violates it is proved in
+-- proofs/WrongBoardsFall.antt.
 -- Assumes nothing.
 use Rattle.std.specs.Prelude.{◌&&◌, ◌++◌, take, drop, if◌then◌else◌, ◌==◌, codes}
 use Rattle.text.specs.Words.{◌is◌}

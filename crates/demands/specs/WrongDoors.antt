@@ -1,5 +1,5 @@
--- Wrong boards against demand 2, as to who is let in and what the other calls do; proofs/WrongBoardsFall.antt has where
--- each falls.
+-- Wrong boards against demand 2, as to who is let in and what the other calls do. That each violates it is proved in
+-- proofs/WrongBoardsFall.antt.
 --   secured_sample    the sample set-up, with the password of the specification's example
 -- Assumes nothing.
 use Rattle.std.specs.Prelude.{ℕ, [], length, if◌then◌else◌, ◌==◌, codes}

@@ -1,4 +1,5 @@
--- Wrong boards against demand 3 with marks (RULES, Lamps); proofs/WrongBoardsFall.antt has where each falls.
+-- Wrong boards against demand 3 with marks (RULES, Lamps). That each violates it is proved in
+-- proofs/WrongBoardsFall.antt.
 --   two_lamps     the sample set-up with two lamps
 --   one_rests     the second lamp's mark is cleared before the lamps burn for 100 seconds
 -- Assumes nothing.

@@ -1,5 +1,5 @@
--- Wrong boards against demand 2, as to lines, their cuts and their reading (RULES, What the product holds and
--- "Readings that look right"); proofs/WrongBoardsFall.antt has where each falls.
+-- Wrong boards against demand 2, as to lines, their cuts and their reading (RULES, What the product holds and "Readings
+-- that look right"). That each violates it is proved in proofs/WrongBoardsFall.antt.
 -- Assumes nothing.
 use Rattle.std.specs.Prelude.{ℕ, suc, Bool, not, ◌&&◌, List, [], ◌∷◌, ◌++◌, map, length, take, drop, ◌==◌, codes}
 use Rattle.std.specs.Prelude.{if◌then◌else◌}

@@ -1,5 +1,5 @@
--- Wrong boards against RULES, Places: on each an outsider has a say beyond its own place; proofs/WrongBoardsFall.antt
--- has where each falls.
+-- Wrong boards against RULES, Places: on each an outsider has a say beyond its own place. That each violates `Unheard`
+-- is proved in proofs/WrongBoardsFall.antt.
 --   fails_now d p e      the connection at place p was awaiting in d, and has failed in e
 --   on_failure change    our board, but when a first line does not match, the record is changed so
 -- Assumes nothing.
