@@ -82,7 +82,7 @@ impl KeptLine {
         &self.bytes[..self.held]
     }
 
-    /// Returns whether an LF ended the line. Only the last line of a log may have none, and may have been cut.
+    /// Returns whether an LF ended the line. Only the last line of a log may have none; it may then have been cut.
     pub fn is_ended(&self) -> bool
         ensures { result ≡ (kept_line self.now).ended }
     {

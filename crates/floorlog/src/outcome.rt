@@ -24,7 +24,7 @@ pub enum EventOutcome {
     Served(usize),
     /// The call was refused.
     Refused(Refusal),
-    /// The place is not closed, and cannot be opened again.
+    /// The log's place is not closed, and cannot be opened again.
     AlreadyOpen,
     /// The line has none of the forms, and nothing happened.
     NoSuch,

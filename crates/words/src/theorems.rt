@@ -30,8 +30,8 @@ pub fn the_table_of_types_is_followed()
     ensures only { (a b : ℕ) (i : Input) → input_for a b ≡ Some i → input_text i ≡ a ∷ b ∷ [] }
 {}
 
-/// Worked inputs (RULES, Inputs): two characters that name one of Class 1, two that name one of Class 2, and two that
-/// name none; and the type and the number that two characters name.
+/// Worked inputs (RULES, Inputs): two characters that name an input of Class 1, or of Class 2, or none; and the type
+/// and the number that two characters name.
 #[tactic(auto, using(crate::proofs::Examples::worked_inputs))]
 pub fn inputs_are_worked_out()
     ensures class_1 { map (λ (s : List ℕ). is_input_text 1 (s at 0) (s at 1))
