@@ -3,7 +3,7 @@
 --   InRange rigs ps              at most 64 jobs and 8 rigs, each in its range
 --   IsLowestBreaking rule ps k   k is the lowest job of the placements ps that breaks the rule
 --   ShareAt rigs ps i j          the jobs i and j share a second on a rig
---   AreApartAt rigs ps i j       they share none
+--   AreApartAt rigs ps i j       the jobs i and j share no second on a rig
 --   IsAloneAt rigs ps i          the job i shares no second with a later one
 --   IsLowestPartner rigs ps i j  j is the lowest later job that shares a second with the job i
 --   IsLowestClash rigs ps i j    of the pairs that share a second, this is the one with the lowest first job, then the
