@@ -46,8 +46,8 @@ impl PanelEntry {
         self.command.code == 0 && self.command.first == 0 && self.command.second == 0
     }
 
-    // Returns whether there is a greeting or none, a random number and a digest only of a secured one, and such a
-    // command.
+    // Returns whether the connection's state is legal: a greeting or none, a random number and a digest only of a
+    // secured one, and a command as `is_command_kept` has it.
     #[tactic(auto, unfolding(crate::specs::LegalPanels::is_talk))]
     fn is_talk(&self) -> bool
         ensures { result ≡ is_talk (talk_of self.now) }
