@@ -23,7 +23,7 @@
    FOLDER/operator, written as the log writes them, and standard output says with which number each was served or
    refused:
 
-       F 1         the fault mark (F 0: none)
+       F 1         the fault flag (F 0: none)
        E 012000    the six error digits
        M 2 0       the second lamp is disabled (M 2 1: enabled)
        LOG         a new file of the log begins

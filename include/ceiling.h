@@ -274,7 +274,7 @@ pj_changed pj_set_up(const uint8_t *name, size_t name_len, const uint8_t *maker,
    Every other body is ERR1 under `%2`, those of Class 1 too (CLSS, POWR, ..), and so is INST, SNUM or SVER with a
    parameter other than `?`. INPT, FREZ, SVOL, MVOL or INNM with a parameter that the table does not have is ERR2,
    including `SVOL ?`: a level has no query. Then INPT, FREZ, SVOL and MVOL, set or query, are ERR4 under the fault
-   mark, and ERR3 unless the power is on. A level stops at 0 and at PJ_VOLUME_MOST, and a step that goes no further is
+   flag, and ERR3 unless the power is on. A level stops at 0 and at PJ_VOLUME_MOST, and a step that goes no further is
    OK too. Only FREZ changes the freeze, and only a step changes a level: the host reads both from the record.
    - Inputs: a type '1' to '6' (6 is INTERNAL) and a number '1' to '9' or a letter 'A' to 'Z', under `%1` too.
    - The serial number and the software version: to PJ_SERIAL_MOST bytes each, by the rule for maker and model.
@@ -362,7 +362,7 @@ pj_received pj_receive(pj_device d, size_t place, const uint8_t *bytes, size_t l
 CEILING_KEEP
 pj_changed pj_pass(pj_device d, uint32_t seconds);
 
-/* Sets or clears the fault mark, and changes nothing else: with it POWR, INPT and AVMT answer ERR4, and in Class 2
+/* Sets or clears the fault flag, and changes nothing else: with it POWR, INPT and AVMT answer ERR4, and in Class 2
    FREZ, SVOL and MVOL too. Refuses with PJ_NOT_LEGAL. */
 CEILING_KEEP
 pj_changed pj_set_fault(pj_device d, bool mark);

@@ -1,6 +1,6 @@
-//! `bench`: times of the archive, of the second program, of plain C and of OpenSSL, side by side in one run, as ratios.
-//! `bench count`: the same in instructions, by callgrind, which runs `bench marked`. `bench floor RECORDS`: many
-//! projectors in one process.
+//! `bench`: times of the archive, of the reference program, of plain C and of OpenSSL, side by side in one run, as
+//! ratios. `bench count`: the same in instructions, by callgrind, which runs `bench marked`. `bench floor RECORDS`:
+//! many projectors in one process.
 //!
 //! docs/PERFORMANCE.md says how to run it and what was seen.
 

@@ -1,4 +1,5 @@
-//! What is measured: each piece of work, done by the archive, by the second program and, for MD5, by plain C and OpenSSL.
+//! What is measured: each piece of work, done by the archive, by the reference program and, for MD5, by plain C and
+//! OpenSSL.
 
 use second::face::{Changed, Command, Connection, Device, Lent, Lent2, Receiving, in_place, linked, setting_up, swap};
 use second::reference::{calls, marks, places, service, swap as reference_swap};
@@ -40,8 +41,8 @@ unsafe extern "C" {
 
 const LARGE: usize = 64 << 20;
 
-/// Where the controller is that is measured. Where a work's name says nothing else, nobody is at the other three places,
-/// so that it can be held against an archive from before there were four.
+/// Where the controller is that is measured. Where a work's name says nothing else, nobody is at the other three
+/// places, so that it can be held against an archive from before there were four.
 pub const PLACE: usize = 0;
 
 pub fn all() -> Vec<Work> {
@@ -257,7 +258,7 @@ fn digest(length: usize) -> Run {
 }
 
 // By value the caller passes a copy of the record, as the calling convention has it, and gets another, which it would
-// still have to put in the place of the first. Below, `_` is the second program.
+// still have to put in the place of the first. Below, `_` is the reference program.
 
 fn receiving(device: Device, bytes: &[u8]) -> Run {
     let bytes = bytes.to_vec();

@@ -1,4 +1,4 @@
-//! The second program: the rules (docs/RULES.md) written a second time, plainly, by someone who did not look at the
+//! The reference program: the rules (docs/RULES.md) written a second time, plainly, by someone who did not look at the
 //! proved crates; then compared with them, call by call, through the archive that a host links (`libboard.a`).
 
 pub mod burnt;

@@ -35,7 +35,7 @@ mod tests {
     use crate::reference::rules::unmistaken;
     use crate::reference::side::Second;
 
-    /// In the archive's place, the second program without the mistake: the generators can be tried with no archive.
+    /// In the archive's place, the reference program without the mistake: the generators can be tried with no archive.
     struct WithoutMistake;
 
     impl Side for WithoutMistake {

@@ -92,7 +92,7 @@ fn recorded(log: &'static [u8], most: usize) -> BufferedReader<Pieces> {
 // Four controllers on one projector, each greeted with the random number of the specification's example, so that its
 // digest leads the first line of each. By hand, from RULES: the lamp burns from the power-on at second 100, at place 3.
 // The power-off at 110 is too early, and one without a digest is not heard; that at 130, in two parts at place 1, ends
-// the stretch. Place 0 was closed at 120, at an age of 30; with the fault mark the power stays off.
+// the stretch. Place 0 was closed at 120, at an age of 30; with the fault flag the power stays off.
 #[test]
 fn four_places_and_a_password(rt: HostRuntime) {
     let log = b"LOG 2 1 0a1b2c3d 2026-11-27T05:45:09Z\n\

@@ -1,13 +1,13 @@
--- Days of the calendar, in the Gregorian way that RFC 3339 has, also for years before it was in use.
---   is_leap y             the year has 366 days
---   month_length y m      the days of the month m, 1 to 12
---   next_date d           the day after d; a year counts up to what 64 bits hold
+-- Days of the calendar. It is the Gregorian one, as RFC 3339 has it, also for years before it was in use.
+--   is_leap y             the year y has 366 days
+--   month_length y m      how many days the month m, 1 to 12, of the year y has
+--   next_date d           the day after d; years are counted up to what 64 bits hold
 --   date_after d n        the day n days after d
---   before_year y         the days of all years before y, from the year 0 on
---   before_month y k      those of the first k months of the year y
---   day_number y m d      a day by the count of the days before it, from 0000-01-01 on
---   weekday n             that of the day with the number n, from 0, a Monday: 0000-01-01 is a Saturday
---   weekday_name w        its name
+--   before_year y         how many days all years before y have, from the year 0 on
+--   before_month y k      how many days the first k months of the year y have
+--   day_number y m d      the number of a day: how many days are before it, from 0000-01-01 on
+--   weekday n             the weekday of the day with the number n, from 0, a Monday: 0000-01-01 is a Saturday
+--   weekday_name w        the name of the weekday w
 -- Assumes nothing.
 use Rattle.std.specs.Prelude.{ℕ, zero, suc, ◌+◌, ◌-◌, ◌^◌, ◌%◌, min, nat_lt, Bool, not, ◌&&◌, ◌||◌, ◌==◌, List, codes}
 use Rattle.std.specs.Prelude.{if◌then◌else◌}

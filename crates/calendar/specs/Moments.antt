@@ -1,8 +1,8 @@
 -- A day and a time of day, as RFC 3339 writes them without an offset: `2026-11-23T06:00`, or with seconds
 -- `2026-11-23T06:00:30`.
---   two_in t k        the number that two digits say, from the place k on
---   moment_of ..      that day and time, where the calendar and the clock have it
---   moment_in t       what the text t says, if it says such a moment
+--   two_in t k        the number that two digits of t say, at the indices k and k + 1
+--   moment_of ..      this day and time, if the calendar and the clock have them
+--   moment_in t       the day and time that the text t says, or none
 -- Assumes nothing.
 use Rattle.std.specs.Prelude.{ℕ, ◌+◌, ◌-◌, ◌*◌, Bool, ◌&&◌, ◌||◌, ◌==◌, nat_le, List, length}
 use Rattle.std.specs.Prelude.{if◌then◌else◌, Option, Some, None}

@@ -1,8 +1,9 @@
--- Days as almanacs have them, and texts that say a moment or none.
---   Weekdays     weekdays
---   DaysAfter    days after others: the end of a month, of a leap year's February, of a common year's, of centuries, of
---                a year
---   MomentsSaid  what texts say: a leap year's 29 February, no such day of a common one, no such hour, no date alone
+-- Days as almanacs have them, and texts that say a day and a time or do not.
+--   Weekdays     the weekdays of three days
+--   DaysAfter    days after others: over the end of a month, of February in a leap year, in a common year and at the
+--                end of a century, and of a year
+--   MomentsSaid  what texts say: 29 February of a leap year, and no such day of a common one, no hour 24, no date
+--                without a time
 -- Assumes nothing.
 use Rattle.std.specs.Prelude.{ℕ, ◌≡◌, ◌*◌, ◌+◌, codes, Some, None, option_map}
 use Rattle.calendar.specs.declared.Date.{Date}

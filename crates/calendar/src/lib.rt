@@ -1,4 +1,4 @@
-//! Days of the calendar and times of day (RFC 3339), for who reads what a board did.
+//! Days of the calendar and times of day (RFC 3339), for the reports of what a board did.
 #![tactic(auto)]
 
 ghost use Rattle.std.specs.Prelude.{◌≡◌, ◌+◌, ◌-◌, ◌≤◌, ◌<◌, ◌*◌, length, IsTrue, IfSome};
@@ -23,7 +23,7 @@ pub struct Date {
 pub struct Moment {
     /// The day.
     pub date: Date,
-    /// The count of the days before it, from 0000-01-01 on.
+    /// How many days there are before it, from 0000-01-01 on.
     pub number: u64,
     /// The second of the day, 0 to 86,399.
     pub second: u64,
@@ -62,7 +62,7 @@ fn month_length(year: u64, month: u64) -> u64
 }
 
 impl Date {
-    /// The day after this one.
+    /// Returns the day after this one.
     pub fn next(self) -> Date
         ensures { result ≡ next_date self }
     {
@@ -88,7 +88,7 @@ impl Date {
         }
     }
 
-    /// The day so many days after this one.
+    /// Returns the day that is `days` days after this one.
     #[tactic(auto, using(crate::proofs::Counting::day_more, crate::proofs::Counting::day_none))]
     pub fn after(self, days: u64) -> Date
         ensures { result ≡ date_after self days }
@@ -101,7 +101,7 @@ impl Date {
     }
 }
 
-/// The name of the weekday of the day with that number.
+/// Returns the name of the weekday of the day with this number, counted from 0000-01-01.
 pub fn weekday_name(number: u64) -> &'static str
     ensures { result.now ≡ weekday_name (weekday number) }
 {
@@ -116,7 +116,7 @@ pub fn weekday_name(number: u64) -> &'static str
     }
 }
 
-// The days before a year of four digits.
+// Returns how many days there are before a year of four digits.
 #[tactic(auto, using(crate::proofs::Counting::year_more, crate::proofs::Counting::year_none))]
 fn before_year(year: u64) -> u64
     requires { year < 10000 }
@@ -130,7 +130,7 @@ fn before_year(year: u64) -> u64
     days
 }
 
-// The days of a year before a month of it.
+// Returns how many days of a year there are before a month of it.
 #[tactic(auto, using(crate::proofs::Counting::month_none))]
 fn before_month(year: u64, month: u64) -> u64
     requires { (1 ≤ month) × (month ≤ 12) }
@@ -172,7 +172,7 @@ fn two_in(text: &[u8], at: usize) -> Option<u64>
     two_of(text[at], text[at + 1])
 }
 
-// What is written as a day and a time of day is written.
+// Returns whether a text has the form of a day and a time of day.
 fn is_spelt(text: &[u8]) -> bool
     ensures { result ≡ is_spelt text.now }
 {
@@ -215,7 +215,8 @@ fn moment_of(year: u64, month: u64, day: u64, hour: u64, minute: u64, second: u6
     })
 }
 
-/// The day and the time of day that a text says, as `2026-11-23T06:00` or, with seconds, `2026-11-23T06:00:30`.
+/// Returns the day and the time of day that a text says, as `2026-11-23T06:00` or, with seconds, `2026-11-23T06:00:30`.
+/// `None` if it says none.
 #[tactic(auto, unfolding(crate::specs::Moments::moment_in))]
 pub fn moment_in(text: &[u8]) -> Option<Moment>
     ensures { result ≡ moment_in text.now }
@@ -233,8 +234,7 @@ pub fn moment_in(text: &[u8]) -> Option<Moment>
     moment_of(century * 100 + year, month, day, hour, minute, second)
 }
 
-/// Days and texts are as almanacs and RFC 3339 have them. Nothing is done here: that this function has its contract is
-/// that the theorems stand.
+/// Days and texts are as almanacs and RFC 3339 have them. The function does nothing: its contract is the theorems.
 #[tactic(auto, using(crate::proofs::Settled::days_settled))]
 pub fn days_are_as_almanacs_have_them()
     ensures weekdays { Weekdays }

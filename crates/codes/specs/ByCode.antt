@@ -1,8 +1,8 @@
--- The controller's calls on a command by its code. What is no command is 3 (docs/DECISIONS.md): for the writer after 2,
--- for the reader at once.
---   none_written room   what the writer gives where there is no command
---   written_by m ..     what the writer gives
---   read_by m l         what the reader gives of the line l
+-- The controller's calls on a command as a code. A code that is no command is refused with 3 (docs/DECISIONS.md): by
+-- the writer after its 2, by the reader first.
+--   none_written room   what the writer gives for a code that is no command
+--   written_by m ..     what the writer gives for the command m, or for none
+--   read_by m l         what the reader gives of the line l in reply to the command m, or to none
 -- Assumes nothing.
 use Rattle.std.specs.Prelude.{ℕ, Bool, List, if◌then◌else◌, Option, Some, None, nat_lt}
 use Rattle.pjlink.specs.declared.command.Command.{Command}

@@ -1,11 +1,11 @@
--- The commands by their codes (include/ceiling.h), a code and two numbers each.
+-- The commands as codes (include/ceiling.h), a code and two numbers each.
 --   query_code b           the code of `?` to the body b: the number of its constant (specs/Header)
 --   code_rows              what each code stands for, and which of the two numbers it uses
---   coded_by n rows        what the code n stands for by these rows, and which numbers it uses
---   switch_at n, input_at type number, half_at n     what the numbers of a command stand for, or nothing
---   coded_command k    the command that k stands for, or none; what a code does not use is passed over
---   code_of c          the code of a command, with 0 for what it does not use
---   used_of k          k with 0 for what its code does not use
+--   coded_by n rows        what the code n stands for by these rows, and which numbers it uses; or none
+--   switch_at n, input_at type number, half_at n     what the numbers of a command stand for, or none
+--   coded_command k    the command that k stands for, or none; a number that its code does not use is ignored
+--   code_of c          the command c as a code, with 0 for each number that it does not use
+--   used_of k          k with 0 for each number that its code does not use
 -- Assumes nothing.
 use Rattle.std.specs.Prelude.{ℕ, Bool, true, false, ◌&&◌, List, [], ◌∷◌, map, if◌then◌else◌}
 use Rattle.std.specs.Prelude.{Option, Some, None, option_map, option_and_then, nat_le, ◌==◌}
@@ -65,7 +65,7 @@ switch_at n =
     else if n == 1 then Some true
     else None
 
--- a type, by the table's number
+-- a type of inputs, by its number in the table of types
 unfoldable pub source_at : ℕ → Option Source
 source_at n =
     if n == 1 then Some Rgb

@@ -1,7 +1,7 @@
--- What include/ceiling.h calls the numbers of the coded layer: each constant of its enums by its name, with its number,
--- beside what it stands for here. The gate compares names and numbers with the header (.ci/header), and the definitions
+-- What include/ceiling.h calls the numbers of commands and readings: each constant of its enums by its name, with its
+-- number, and what it stands for. The gate compares names and numbers with the header (.ci/header), and the definitions
 -- of this crate are proved to give these numbers (`the_header_names_the_codes`).
---   Constant              a constant of the header: n equals m is the one that is named n, with the number m
+--   Constant              a constant of the header; n equals m is the one with the name n and the number m
 --   command_constant c    the code of a command (enum pj_code); a body that has no query has that of its one command
 --   said_constant m, reading_constant o m     the kind of a reading (enum pj_reading_kind)
 --   greeting_constant g   the kind of a greeting (enum pj_greeting_kind)

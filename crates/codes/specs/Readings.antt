@@ -1,7 +1,7 @@
--- What the readers give as numbers (include/ceiling.h). What a kind does not use is zero.
---   flat_greeting g    a greeting: kind 1 PJLINK 0, 2 PJLINK 1 with its random number, 3 ERRA
---   said_flat m        what is said: kinds 1 to 10, and 12 a freeze (RULES, Class 2)
---   flat_reading r     what the reply reader gives: kind 11 is ERRA, kind 0 no meaning
+-- What the readers return, as numbers (include/ceiling.h). What a kind does not use is zero.
+--   flat_greeting g    the greeting g: kind 1 PJLINK 0, 2 PJLINK 1 with its random number, 3 ERRA, 0 none
+--   said_flat m        what m says: kinds 1 to 10, and 12 a freeze (RULES, Class 2)
+--   flat_reading r     what the reply reader returned: kind 11 is ERRA, kind 0 says nothing
 -- Assumes nothing.
 use Rattle.std.specs.Prelude.{ℕ, Bool, false, List, map, length, replicate, Option, None, Some}
 use Rattle.text.specs.InTurn.{each_in_turn}
@@ -77,7 +77,7 @@ hours_of l = l.hours
 abbrev pub is_lit_lamp : LampHours → Bool
 is_lit_lamp l = l.lit
 
--- the lamps in cleared rooms
+-- the lamps in their rooms, of which all past the lamps is zero
 abbrev pub flat_lamps : List LampHours → FlatLamps
 flat_lamps ls = record {
   count = length ls;
@@ -88,7 +88,7 @@ flat_lamps ls = record {
 abbrev pub with_lamps : List LampHours → FlatReading
 with_lamps ls = let f = flat_lamps ls in flat_of 0 7 0 0 f.count f.hours f.lit no_characters no_bytes
 
--- two characters an input
+-- two characters for each input
 abbrev pub characters : List Input → List ℕ
 characters is = each_in_turn input_text is
 

@@ -7,19 +7,19 @@ use pjlink::command::{Command, Half, Volume};
 use words::class::ClassNumber::{One, Two};
 use words::input::{Input, Source};
 
-/// A command by its code (`pj_command`). What a code does not use is passed over.
+/// A command as a code and two numbers (`pj_command`). A number that the code does not use is ignored.
 #[repr(C)]
 #[derive(Clone, Copy)]
 pub struct Coded {
-    /// 0 to 23, by `enum pj_code`; any other is no command (RULES, The C face).
+    /// 0 to 23, by `enum pj_code`; any other code is no command (RULES, The C face).
     pub code: u8,
-    /// By the code 0 or 1, a half 1 to 3, or an input's type 1 to 6.
+    /// By the code: 0 or 1, a half 1 to 3, or an input's type 1 to 6.
     pub first: u8,
-    /// By the code 0 or 1, or an input's number 1 to 35.
+    /// By the code: 0 or 1, or an input's number 1 to 35.
     pub second: u8,
 }
 
-// 0 off or down, 1 on or up.
+// Returns what a switch says: 0 off or down, 1 on or up. `None` for any other number.
 #[tactic(auto, unfolding(crate::specs::Commands::switch_at))]
 fn switch_at(n: u8) -> Option<bool>
     ensures { result ≡ switch_at n }
@@ -31,7 +31,7 @@ fn switch_at(n: u8) -> Option<bool>
     }
 }
 
-// A type of inputs, by the table's number.
+// Returns the type of inputs that has this number in the table of types, 1 to 6.
 #[tactic(auto, unfolding(crate::specs::Commands::source_at))]
 fn source_at(n: u8) -> Option<Source>
     ensures { result ≡ source_at n }
@@ -47,7 +47,7 @@ fn source_at(n: u8) -> Option<Source>
     }
 }
 
-// An input of a type 1 to 6 and a number 1 to 35.
+// Returns the input of a type 1 to 6 and a number 1 to 35.
 #[tactic(auto, unfolding(crate::specs::Commands::input_at))]
 fn input_at(source: u8, number: u8) -> Option<Input>
     ensures { result ≡ input_at source number }
@@ -59,7 +59,7 @@ fn input_at(source: u8, number: u8) -> Option<Input>
     Some(Input { source, number })
 }
 
-// What a mute is of: 1 video, 2 audio, 3 both.
+// Returns what AVMT mutes: 1 video, 2 audio, 3 both.
 #[tactic(auto, unfolding(crate::specs::Commands::half_at))]
 fn half_at(n: u8) -> Option<Half>
     ensures { result ≡ half_at n }
@@ -73,7 +73,7 @@ fn half_at(n: u8) -> Option<Half>
 }
 
 impl Coded {
-    /// The command that the code stands for, if it stands for one.
+    /// Returns the command that the code stands for, or `None`.
     #[tactic(auto, unfolding(crate::specs::Commands::coded_command))]
     pub fn command(self) -> Option<Command>
         ensures { result ≡ coded_command self }

@@ -1,4 +1,4 @@
-//! Texts, lamps and inputs as a reading has them: counted, at the start of a cleared room.
+//! Texts, lamps and inputs as a reading has them: a count, and a room in which all past the count is zero.
 ghost use Rattle.std.specs.Prelude.{◌≡◌, ◌≤◌, length};
 ghost use Rattle.pjlink.specs.Said.{parameter_most};
 ghost use Rattle.pjlink.specs.Carried.{lamps_carried, inputs_carried};
@@ -10,19 +10,19 @@ use words::input;
 use words::input::Input;
 use words::lamp::{LAMPS_MOST, LampHours};
 
-/// Lamps, by their hours and by whether they are lit, each in a cleared room.
+/// Lamps, by their hours and by whether they are lit, each in a room of eight.
 #[derive(Clone, Copy)]
 pub struct FlatLamps {
     /// How many lamps there are, at most 8.
     pub count: usize,
-    /// The whole hours of each lamp, as the reply tells them; 0 past the count.
+    /// The whole hours of each lamp, as the reply says them; 0 past the count.
     pub hours: [u32; LAMPS_MOST],
     /// Whether each lamp is lit; false past the count.
     pub lit: [bool; LAMPS_MOST],
 }
 
 impl FlatLamps {
-    /// At most eight lamps.
+    /// Returns at most eight lamps in their rooms.
     pub fn of(lamps: &[LampHours]) -> FlatLamps
         requires { length lamps.now ≤ lamps_carried }
         ensures { result ≡ flat_lamps lamps.now }
@@ -42,7 +42,7 @@ impl FlatLamps {
 }
 
 impl FlatReading {
-    /// Of a kind that says a text.
+    /// Returns a reading that says a text, of this kind.
     pub(crate) fn with_text(kind: u8, bytes: &[u8]) -> FlatReading
         requires { length bytes.now ≤ parameter_most }
         ensures { result ≡ with_text kind bytes.now }
@@ -53,7 +53,7 @@ impl FlatReading {
         flat
     }
 
-    /// Of at most eight lamps.
+    /// Returns a reading that says at most eight lamps.
     pub(crate) fn with_lamps(lamps: &[LampHours]) -> FlatReading
         requires { length lamps.now ≤ lamps_carried }
         ensures { result ≡ with_lamps lamps.now }
@@ -66,7 +66,7 @@ impl FlatReading {
         flat
     }
 
-    /// Of at most 32 inputs, two characters each.
+    /// Returns a reading that says at most 32 inputs, two characters each.
     #[tactic(auto, using(crate::proofs::Flattening::one_more_input))]
     pub(crate) fn with_inputs(inputs: &[Input]) -> FlatReading
         requires { length inputs.now ≤ inputs_carried }

@@ -1,4 +1,4 @@
-//! What the readers give, as numbers beside arrays, since an exported call returns no enum. What a kind does not use is
+//! What the readers return, as numbers and arrays, since an exported call returns no enum. What a kind does not use is
 //! zero (RULES, Controller).
 ghost use Rattle.std.specs.Prelude.{◌≡◌, ◌≤◌, length};
 ghost use Rattle.pjlink.specs.Said.{said_bytes, parameter_most};
@@ -16,21 +16,21 @@ use words::input::{INPUTS_MOST, Source};
 use words::lamp::LAMPS_MOST;
 use words::power::PowerStatus;
 
-/// The characters of a reading's inputs.
+/// How many characters a reading has for inputs: two for each.
 pub const CHARACTERS: usize = 2 * INPUTS_MOST;
 
-/// The bytes of a reading's text: no parameter of a reply is longer.
+/// How many bytes a reading has for a text: as many as a parameter of a reply has at most.
 pub const TEXT_MOST: usize = 128;
 
 /// What was read of a greeting (`pj_greeting`).
 #[repr(C)]
 #[derive(Clone, Copy)]
 pub struct FlatGreeting {
-    /// 0; 10 where the line is no greeting (RULES, The numbers a call gives).
+    /// 0, or 10 if the line is no greeting (RULES, The numbers a call gives).
     pub number: u32,
-    /// By `enum pj_greeting_kind`: 1 `PJLINK 0`, 2 `PJLINK 1`, 3 `PJLINK ERRA`; 0 with 10.
+    /// By `enum pj_greeting_kind`: 1 `PJLINK 0`, 2 `PJLINK 1`, 3 `PJLINK ERRA`; 0 if the number is 10.
     pub kind: u8,
-    /// The random number of `PJLINK 1`; else 0.
+    /// The random number of `PJLINK 1`; 0 for any other line.
     pub random: u32,
 }
 
@@ -38,15 +38,15 @@ pub struct FlatGreeting {
 #[repr(C)]
 #[derive(Clone, Copy)]
 pub struct FlatReading {
-    /// 0; 3, 10, 11 or 12 where the line says nothing (RULES, The numbers a call gives).
+    /// 0, or 3, 10, 11 or 12 if the line says nothing (RULES, The numbers a call gives).
     pub number: u32,
-    /// What is said, 1 to 12, by `enum pj_reading_kind`; 0 where nothing is.
+    /// What is said, 1 to 12, by `enum pj_reading_kind`; 0 if nothing is said.
     pub kind: u8,
-    /// By the kind n of ERRn, a power 0 to 3, an input's type 1 to 6, the video mute, a class or a freeze.
+    /// By the kind: n of ERRn, a power 0 to 3, an input's type 1 to 6, the video mute, a class or a freeze.
     pub first: u8,
-    /// By the kind an input's number 1 to 35, or the audio mute, 0 or 1.
+    /// By the kind: an input's number 1 to 35, or the audio mute, 0 or 1.
     pub second: u8,
-    /// By the kind how many lamps or inputs, bytes of a text, or error digits.
+    /// By the kind: how many lamps, inputs, bytes of a text or error digits there are.
     pub count: usize,
     /// The whole hours of each lamp, at most 99,999; 0 past the lamps.
     pub hours: [u32; LAMPS_MOST],
@@ -58,7 +58,7 @@ pub struct FlatReading {
     pub text: [u8; TEXT_MOST],
 }
 
-/// The number of a power, 0 to 3, as a reply has it.
+/// Returns the number of a power status, 0 to 3, as a reply has it.
 pub fn power_number(power: PowerStatus) -> u8
     ensures { result ≡ power_at_face power }
 {
@@ -70,7 +70,7 @@ pub fn power_number(power: PowerStatus) -> u8
     }
 }
 
-/// The number of a type of inputs, 1 to 6.
+/// Returns the number of a type of inputs, 1 to 6.
 pub fn source_number(source: Source) -> u8
     ensures { result ≡ source_number source }
 {
@@ -90,7 +90,8 @@ fn bit(on: bool) -> u8
     if on { 1 } else { 0 }
 }
 
-/// The greeting by its kind: 1 open, 2 secured with its random number, 3 refused; else the number 10.
+/// A greeting by its kind: 1 open, 2 secured with its random number, 3 the ERRA line. Without a greeting the number is
+/// 10.
 impl From<Option<Greeting>> for FlatGreeting {
     ghost from_gives = { λ greeting flat. flat ≡ flat_greeting greeting };
 
@@ -110,7 +111,7 @@ impl From<Option<Greeting>> for FlatGreeting {
 }
 
 impl FlatReading {
-    /// A line without a meaning, for the reason that the number says.
+    /// Returns a reading that says nothing. The number says why.
     pub fn meaningless(number: u32) -> FlatReading
         ensures { result ≡ no_reading number }
     {
@@ -127,7 +128,7 @@ impl FlatReading {
         }
     }
 
-    /// A kind and its two values.
+    /// Returns a reading of a kind with its two values.
     pub(crate) fn plain(kind: u8, first: u8, second: u8) -> FlatReading
         ensures { result ≡ plain_reading kind first second }
     {
@@ -157,8 +158,8 @@ impl FlatReading {
         }
     }
 
-    /// What the reply reader gives: what was said, the ERRA line (kind 11), or 10, 11 or 12 for a line without a
-    /// meaning.
+    /// Returns what the reply reader returned as a reading: what the reply says, the ERRA line (kind 11), or the number
+    /// 10, 11 or 12 for a line that says nothing.
     pub fn of(reading: &Result<Reading<'_>, Misread>) -> FlatReading
         requires { length (said_bytes (read_as reading.now).said) ≤ parameter_most }
         ensures { result ≡ flat_reading (read_as reading.now) }

@@ -1,5 +1,5 @@
-// What is proved beside the contracts of the functions. Nothing is done here: that these functions have their contracts
-// is that the theorems stand.
+// What is proved beside the contracts of the functions. The functions here do nothing: their contracts are the
+// theorems.
 ghost use Rattle.std.specs.Prelude.{◌≡◌, Bool, true, Option, Some};
 ghost use Rattle.pjlink.specs.declared.command.Command.{Command};
 ghost use Rattle.pjlink.specs.declared.command.Half.{Half};
@@ -30,8 +30,8 @@ pub fn a_command_has_one_code()
         → coded_command k ≡ Some c }
 {}
 
-/// A value crosses as the digit by which a line has it: a power, on and off or up and down, what a mute is of. A type
-/// of inputs has the number that the table of types gives it.
+/// A value has at the C face the number whose digit a line has for it: a power, on and off or up and down, what AVMT
+/// mutes. A type of inputs has its number in the table of types.
 #[tactic(auto, using(crate::proofs::CommandsCoded::face_follows))]
 pub fn a_value_is_its_digit()
     ensures power { (p : PowerStatus) → power_code p ≡ number_digit (power_at_face p) }
@@ -40,8 +40,8 @@ pub fn a_value_is_its_digit()
     ensures type_by_the_table { (s : Source) → source_number s ≡ type_of s }
 {}
 
-/// The codes of commands, the kinds of readings and of greetings, and the powers have the numbers that the constants of
-/// the header have.
+/// The codes of commands, the kinds of readings and of greetings, and the powers have the numbers of the header's
+/// constants.
 pub fn the_header_names_the_codes()
     ensures codes { (c : Command) → (code_of c).code ≡ (command_constant c).number }
     ensures readings { (o : ReadingOutcome) (m : Said) → (flat_as o m).kind ≡ (reading_constant o m).number }

@@ -1,6 +1,6 @@
 -- The ranges of a cutting day (RULES, Cutting day).
---   IsJob j          a length of at least 1, an end of at most 86,400
---   IsRig r          W and C are 1 to 600
+--   IsJob j          the job j has a length of at least 1 and ends at 86,400 at most
+--   IsRig r          W and C of the rig r are 1 to 600
 --   IsDay jobs rigs  at most 64 jobs and 8 rigs, each in its range
 -- Assumes nothing.
 use Rattle.std.specs.Prelude.{◌+◌, ◌≤◌, List, length, All}

@@ -1,11 +1,11 @@
 -- What each answer of the planner says of jobs and rigs (RULES, Cutting day), in its words and apart from how it is
--- found: the greedy assignment. Exactly one answer holds (src/theorems, the_plan_answered_holds).
---   jobs_of ps               the jobs that are placed, in their order
---   on_rig j k               the job j placed on the rig k
---   IsLowestRig rigs ps j k  k is the lowest rig on which the job j keeps every rule with those placed before
---   FindsNone rigs ps j      the job j keeps every rule with them on no rig
---   IsGreedy rigs ps         each job placed is on its lowest rig
---   FindsNoneAt jobs rigs j  each job before the job j is on its lowest rig, and j finds none
+-- found: the greedy assignment. Exactly one answer is true (src/theorems, the_plan_answered_holds).
+--   jobs_of ps               the jobs of the placements ps, in their order
+--   on_rig j k               the placement of the job j on the rig k
+--   IsLowestRig rigs ps j k  k is the lowest rig on which the job j keeps every rule with the placements ps
+--   FindsNone rigs ps j      on no rig does the job j keep every rule with the placements ps
+--   IsGreedy rigs ps         each job of the placements ps is on its lowest rig
+--   FindsNoneAt jobs rigs j  each job before the job j is on its lowest rig, and there is none for j
 --   PlanHolds jobs rigs p    what the answer p says
 -- Assumes nothing.
 use Rattle.std.specs.Prelude.{ℕ, ◌<◌, ◌≡◌, List, [], ◌∷◌, ◌++◌, length, take, map, Result, Ok, Err, Some}

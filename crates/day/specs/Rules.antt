@@ -1,16 +1,17 @@
 -- The four rules (RULES, Cutting day), over jobs that are placed on rigs.
---   MayUse j k            bit k of the rigs that the job may use is set
+--   MayUse j k            bit k is set in the rigs that the job j may use
 --   HasRig rigs p         the rig of the placement exists, and the job may use it
 --   IsOn rigs p r         r is the rig of the placement
 --   InTime rigs p         the job does not start before its rig's W
---   Occupies r j t        on the rig the job occupies the second t: W seconds before its start, its length, C after it
---   Meet r i j            on the rig the stretches of the two jobs share a second
+--   Occupies r j t        on the rig r the job j occupies the second t: W seconds before its start, its length, C after
+--                         it
+--   Meet r i j            on the rig r the stretches of the jobs i and j share a second
 --   Share rigs p q        the two placements are on one rig, and meet there
---   AreApart rigs p q     they do not
---   burns_on k r p        what a placement burns on the rig r of number k: W plus its length, where it is there
---   burnt_together k r ps  what the placements burn there together
---   Lasts rigs ps k       rig k burns no more than it has left
---   Keeps rigs ps         all four rules
+--   AreApart rigs p q     they are not on one rig, or do not meet there
+--   burns_on k r p        what the placement p burns on the rig r of number k: W plus its length if it is there
+--   burnt_together k r ps  what the placements ps burn there together
+--   Lasts rigs ps k       the rig k burns no more than it has left
+--   Keeps rigs ps         the placements ps keep all four rules
 -- Assumes nothing.
 use Rattle.std.specs.Prelude.{ℕ, ◌+◌, ◌/◌, ◌%◌, ◌^◌, ◌<◌, ◌≤◌, ◌≡◌, ◌==◌, List, length, Some, slice_get, All, AllPairs}
 use Rattle.std.specs.Prelude.{sum_by, if◌then◌else◌}

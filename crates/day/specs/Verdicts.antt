@@ -1,14 +1,16 @@
 -- What each answer of the checker says of a plan (RULES, Cutting day), in its words and apart from how it is found.
--- Exactly one answer holds (src/theorems, the_verdict_told_holds).
+-- Exactly one answer is true (src/theorems, the_verdict_told_holds).
 --   InRange rigs ps              at most 64 jobs and 8 rigs, each in its range
---   IsLowestBreaking rule ps k   of the jobs placed, k is the lowest one that breaks the rule
+--   IsLowestBreaking rule ps k   k is the lowest job of the placements ps that breaks the rule
 --   ShareAt rigs ps i j          the jobs i and j share a second on a rig
---   AreApartAt rigs ps i j       they do not
---   IsAloneAt rigs ps i          the job i shares none with a later one
---   IsLowestPartner rigs ps i j  j is the lowest later job that shares one with i
---   IsLowestClash rigs ps i j    of the pairs that share one, the one with the lowest first job, then second
---   IsLowestSpent rigs ps k      of the rigs, k is the lowest one that burns more than it has left
---   VerdictHolds rigs ps v       what the verdict v says; where it names a rule broken, all jobs keep those before it
+--   AreApartAt rigs ps i j       the jobs i and j share no second on a rig
+--   IsAloneAt rigs ps i          the job i shares no second with a later one
+--   IsLowestPartner rigs ps i j  j is the lowest later job that shares a second with the job i
+--   IsLowestClash rigs ps i j    of the pairs that share a second, this is the one with the lowest first job, then the
+--                                lowest second job
+--   IsLowestSpent rigs ps k      k is the lowest rig that burns more than it has left
+--   VerdictHolds rigs ps v       what the verdict v says; if it names a rule that is broken, all jobs keep the rules
+--                                before it
 -- Assumes nothing.
 use Rattle.std.specs.Prelude.{ℕ, ◌<◌, ◌≤◌, List, length, Result, Ok, Err, All, AllPairs, slice_index_or}
 use Rattle.std.specs.List.{AllWithin, HoldsAt}

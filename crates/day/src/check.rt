@@ -1,4 +1,4 @@
-// The checker: the first rule broken, and the lowest job or rig concerned.
+// The checker: the first rule that is broken, and the lowest job or rig concerned.
 ghost use Rattle.std.specs.Prelude.{◌≡◌, ◌↔◌, ◌*◌, ◌<◌, ◌≤◌, ◌^◌, ℕ, length, IsTrue, All, AllPairs, MatchOption};
 ghost use Rattle.day.specs.Days.{IsJob};
 ghost use Rattle.day.specs.Rules.{HasRig, InTime, AreApart, Lasts, burnt_together};
@@ -57,7 +57,7 @@ fn is_in_range(plan: &[Placement], rigs: &[Rig]) -> bool
     plan.len() <= JOBS_MOST && rigs.len() <= RIGS_MOST && are_jobs(plan) && are_rigs(rigs)
 }
 
-// The lowest job that has no rig which exists and is allowed.
+// Returns the lowest job that has no rig which exists and is allowed.
 fn without_rig(plan: &[Placement], rigs: &[Rig]) -> Option<usize>
     requires { length rigs.now ≤ RIGS_MOST }
     ensures { MatchOption result (All (HasRig rigs.now) plan.now) (IsLowestBreaking (HasRig rigs.now) plan.now) }
@@ -65,14 +65,14 @@ fn without_rig(plan: &[Placement], rigs: &[Rig]) -> Option<usize>
     plan.iter().position(|p| !p.has_rig(rigs))
 }
 
-// The lowest job that starts before its rig's W.
+// Returns the lowest job that starts before its rig's W.
 fn too_early(plan: &[Placement], rigs: &[Rig]) -> Option<usize>
     ensures { MatchOption result (All (InTime rigs.now) plan.now) (IsLowestBreaking (InTime rigs.now) plan.now) }
 {
     plan.iter().position(|p| !p.is_in_time(rigs))
 }
 
-// The lowest job after i that shares a second with it.
+// Returns the lowest job after job `i` that shares a second with it.
 fn partner(plan: &[Placement], rigs: &[Rig], i: usize) -> Option<usize>
     requires inside { i < length plan.now }
     requires in_range { All (λ p. IsJob p.job) plan.now }
@@ -87,7 +87,7 @@ fn partner(plan: &[Placement], rigs: &[Rig], i: usize) -> Option<usize>
     None
 }
 
-// The lowest job that shares a second with a later one, and the lowest such one.
+// Returns the lowest job that shares a second with a later one, and the lowest such later one.
 fn clash(plan: &[Placement], rigs: &[Rig]) -> Option<(usize, usize)>
     requires { All (λ p. IsJob p.job) plan.now }
     ensures { MatchOption result (AllPairs (AreApart rigs.now) plan.now)
@@ -101,7 +101,7 @@ fn clash(plan: &[Placement], rigs: &[Rig]) -> Option<(usize, usize)>
     None
 }
 
-// What the jobs burn on the rig of this number together: at most 64, each less than 2^33.
+// Returns the seconds that the jobs burn on the rig of this number together: at most 64 jobs, each less than 2^33.
 pub(crate) fn burnt_on(plan: &[Placement], number: usize, rig: Rig) -> u64
     requires { length plan.now ≤ JOBS_MOST }
     ensures sum { result ≡ burnt_together number rig plan.now }
@@ -116,7 +116,7 @@ pub(crate) fn burnt_on(plan: &[Placement], number: usize, rig: Rig) -> u64
     total
 }
 
-// The lowest rig that burns more than it has left.
+// Returns the lowest rig that burns more than it has left.
 fn spent(plan: &[Placement], rigs: &[Rig]) -> Option<usize>
     requires { length plan.now ≤ JOBS_MOST }
     ensures { MatchOption result ((k : ℕ) → Lasts rigs.now plan.now k) (IsLowestSpent rigs.now plan.now) }

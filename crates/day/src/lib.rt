@@ -11,16 +11,16 @@ pub mod plan;
 mod tests;
 pub mod theorems;
 
-/// The most jobs of a day.
+/// How many jobs a day has at most.
 pub const JOBS_MOST: usize = 64;
 
-/// The most rigs of a day.
+/// How many rigs a day has at most.
 pub const RIGS_MOST: usize = 8;
 
 /// The seconds of a day: no job ends later.
 pub const DAY_END: u32 = 86_400;
 
-/// The most seconds of a rig's W, and of its C.
+/// How many seconds a rig's W has at most, and its C.
 pub const WARM_OR_COOL_MOST: u32 = 600;
 
 /// A job: its lines burn from its start on.
@@ -79,7 +79,7 @@ impl Rig {
             && self.cooling <= WARM_OR_COOL_MOST
     }
 
-    // The stretches of the two jobs on the rig share a second: each begins before the other one ends.
+    // Returns whether the stretches of the two jobs on the rig share a second: each begins before the other ends.
     #[tactic(auto, using(crate::proofs::Meeting::meet_from_starts, crate::proofs::Meeting::starts_from_meet))]
     fn meets(self, job: Job, other: Job) -> bool
         requires job_lasts { 1 ≤ job.length }
@@ -98,7 +98,7 @@ fn are_rigs(rigs: &[Rig]) -> bool
     rigs.iter().all(|rig| rig.is_in_range())
 }
 
-// The rig of this number, if there is one.
+// Returns the rig of this number, if there is one.
 fn rig_at(rigs: &[Rig], number: u8) -> Option<Rig>
     ensures { result ≡ slice_get rigs.now number }
 {
@@ -106,7 +106,7 @@ fn rig_at(rigs: &[Rig], number: u8) -> Option<Rig>
 }
 
 impl Placement {
-    // The rig exists, and the job may use it.
+    // Returns whether the rig exists and the job may use it.
     fn has_rig(self, rigs: &[Rig]) -> bool
         requires { length rigs.now ≤ 8 }
         ensures { IsTrue result ↔ HasRig rigs.now self }
@@ -114,7 +114,7 @@ impl Placement {
         (self.rig as usize) < rigs.len() && self.job.may_use(self.rig)
     }
 
-    // The job does not start before its rig's W.
+    // Returns whether the job does not start before its rig's W.
     fn is_in_time(self, rigs: &[Rig]) -> bool
         ensures { IsTrue result ↔ InTime rigs.now self }
     {
@@ -124,7 +124,7 @@ impl Placement {
         }
     }
 
-    // The two are on one rig, and their stretches there share a second.
+    // Returns whether the two placements are on one rig and their stretches there share a second.
     fn shares(self, other: Placement, rigs: &[Rig]) -> bool
         requires job_lasts { 1 ≤ self.job.length }
         requires other_lasts { 1 ≤ other.job.length }

@@ -1,4 +1,5 @@
-// The planner: jobs in the order given, each on the lowest rig that keeps every rule with those already placed.
+// The planner places jobs in the order given, each on the lowest rig on which every rule is kept with those already
+// placed.
 ghost use Rattle.std.specs.Prelude.{◌≡◌, ◌↔◌, ◌<◌, ◌≤◌, length, IsTrue, List, [], ◌∷◌, ◌++◌, take, All};
 ghost use Rattle.std.specs.Prelude.{MatchOption};
 ghost use Rattle.day.specs.Days.{IsDay, IsJob};
@@ -11,12 +12,12 @@ use std::error::Error;
 use std::fmt;
 use std::marker::Model;
 
-/// Why jobs are not planned.
+/// Why no plan is made.
 #[derive(Clone, Copy, Debug, PartialEq, Eq)]
 pub enum PlanError {
     /// More jobs or rigs than a day has, or one of them out of its ranges.
     OutOfRange,
-    /// The first job that finds no rig.
+    /// The first job for which there is no rig.
     NoRig { job: usize },
 }
 
@@ -84,7 +85,7 @@ impl Plan {
 }
 
 impl Placement {
-    // It shares no second on its rig with those placed.
+    // Returns whether it shares no second on its rig with those placed.
     fn is_free(self, placed: &[Placement], rigs: &[Rig]) -> bool
         requires in_range { IsJob self.job }
         requires all_in_range { All (λ p. IsJob p.job) placed.now }
@@ -93,7 +94,7 @@ impl Placement {
         placed.iter().all(|p| !p.shares(self, rigs))
     }
 
-    // With those placed, its rig burns no more than it has left.
+    // Returns whether its rig burns no more than it has left, with those placed.
     fn is_lasting(self, placed: &[Placement], rigs: &[Rig]) -> bool
         requires { length placed.now ≤ JOBS_MOST }
         ensures { IsTrue result ↔ Lasts rigs.now (placed.now ++ self ∷ []) self.rig }
@@ -107,7 +108,7 @@ impl Placement {
         }
     }
 
-    // The rules, as far as they concern a job after those placed, which keep them.
+    // Returns whether a job placed after others, which keep the rules, keeps them too.
     fn is_joining(self, placed: &[Placement], rigs: &[Rig]) -> bool
         requires few_rigs { length rigs.now ≤ RIGS_MOST }
         requires few_jobs { length placed.now ≤ JOBS_MOST }
@@ -123,7 +124,7 @@ impl Placement {
     }
 }
 
-// The lowest rig for the next job.
+// Returns the lowest rig for the next job.
 fn lowest_rig(job: Job, placed: &[Placement], rigs: &[Rig]) -> Option<u8>
     requires few_rigs { length rigs.now ≤ RIGS_MOST }
     requires few_jobs { length placed.now ≤ JOBS_MOST }
@@ -152,8 +153,8 @@ fn is_day(jobs: &[Job], rigs: &[Rig]) -> bool
     jobs.len() <= JOBS_MOST && rigs.len() <= RIGS_MOST && are_jobs(jobs) && are_rigs(rigs)
 }
 
-/// Places the jobs one after the other, each on the lowest rig that keeps every rule with those already placed. Errors,
-/// in this order: `OutOfRange`, `NoRig`.
+/// Places the jobs one after the other, each on the lowest rig on which every rule is kept with those already placed.
+/// Errors, in this order: `OutOfRange`, `NoRig`.
 pub fn plan_day(jobs: &[Job], rigs: &[Rig]) -> Result<Plan, PlanError>
     ensures { PlanHolds jobs.now rigs.now result }
 {

@@ -1,5 +1,5 @@
 // Each verdict, and each answer of the planner, at the last second that decides it. Two rigs with W 10 and C 5, jobs of
-// ten seconds that may use any rig: on a rig they follow one another from 25 seconds on, and each burns 20.
+// ten seconds that may use any rig. On one rig they follow one another from 25 seconds on, and each burns 20.
 use crate::check::{CheckError, check_day};
 use crate::plan::{PlanError, plan_day};
 use crate::{Job, Placement, Rig};
@@ -52,7 +52,7 @@ fn shared_second_clashes(rt: HostRuntime) {
     );
 }
 
-// of three jobs that share a second, each with each
+// three jobs that share a second, each with each other
 #[test]
 fn lowest_pair(rt: HostRuntime) {
     assert_eq!(rt;
@@ -93,7 +93,7 @@ fn end_past_the_day(rt: HostRuntime) {
     );
 }
 
-// the second job would share a second with the first, and finds the other rig; the third follows the first
+// the second job would share a second with the first, and gets the other rig; the third follows the first
 #[test]
 fn lowest_that_fits(rt: HostRuntime) {
     let jobs = [job(10), job(34), job(35)];
@@ -120,7 +120,7 @@ fn lowest_that_fits(rt: HostRuntime) {
     }
 }
 
-// the first rig lacks a second of life, and the second shares a second
+// the first rig lacks a second of life, and on the second the jobs would share a second
 #[test]
 fn third_finds_none(rt: HostRuntime) {
     let jobs = [job(10), job(34), job(35)];

@@ -1,5 +1,5 @@
-// What is proved of verdicts and plans beside the contracts of their functions. Nothing is done here that they do not
-// do: that these functions have their contracts is that the theorems stand.
+// What is proved of verdicts and plans beside the contracts of their functions. These functions do only what those do,
+// and their contracts are the theorems.
 ghost use Rattle.std.specs.Prelude.{◌≡◌, List, Result, Ok};
 ghost use Rattle.day.specs.Verdicts.{VerdictHolds};
 ghost use Rattle.day.specs.Plans.{PlanHolds};
@@ -13,7 +13,7 @@ use crate::check::{CheckError, check_day};
 use crate::plan::{Plan, PlanError, plan_day};
 use crate::{DAY_END, JOBS_MOST, Job, Placement, RIGS_MOST, Rig, WARM_OR_COOL_MOST};
 
-/// The checker's verdict holds of the plan, and a verdict that holds is the checker's: so exactly one verdict holds.
+/// The checker's verdict is true of the plan, and a verdict that is true is the checker's: exactly one verdict is true.
 #[tactic(auto, using(crate::proofs::OneVerdict::one_verdict))]
 pub fn the_verdict_told_holds(plan: &[Placement], rigs: &[Rig]) -> Result<(), CheckError>
     ensures told_holds { VerdictHolds rigs.now plan.now result }
@@ -24,8 +24,8 @@ pub fn the_verdict_told_holds(plan: &[Placement], rigs: &[Rig]) -> Result<(), Ch
     check_day(plan, rigs)
 }
 
-/// The planner's answer holds of the jobs and rigs, and an answer that holds is the planner's: so exactly one answer
-/// holds.
+/// The planner's answer is true of the jobs and rigs, and an answer that is true is the planner's: exactly one answer
+/// is true.
 #[tactic(auto, using(crate::proofs::OnePlan::one_plan))]
 pub fn the_plan_answered_holds(jobs: &[Job], rigs: &[Rig]) -> Result<Plan, PlanError>
     ensures told_holds { PlanHolds jobs.now rigs.now result }

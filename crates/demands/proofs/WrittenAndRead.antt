@@ -48,7 +48,7 @@ use Rattle.ours.specs.Board.{bytes_written, reply, wrote_by, ours}
 use Rattle.demands.specs.SpeaksPjlink.{BetweenLines, ByClass}
 use Rattle.demands.proofs.KeepsRunning.{over_front}
 
--- "between lines", no collected bytes and no overlong mark, is what the laws ask of the line
+-- "between lines", no collected bytes and no overlong flag, is what the laws ask of the line
 pub is_between : (d : Device) (p : ℕ) → p < places_count → is_legal d ≡ true
     → is_raised (connection_at d p).line.overlong ≡ false → (connection_at d p).line.held ≡ 0
     → (connection_at d p).line ≡ empty_line

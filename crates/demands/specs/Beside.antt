@@ -1,8 +1,9 @@
 -- What is promised of a board beside the demands.
 --   ClosedOr random c       the connection c is closed, or has this random number
---   RandomKept B            RULES, Connection: "Either way the random number is kept until closing", over any call
+--   RandomKept B            RULES, Connection: "Either way the random number is kept until closing", whatever calls
+--                           come
 --   UnheardThroughout B     an outsider is unheard at each moment of two such runs, and not at their end only
---   UnheardAnyhow B         he is unheard whoever opens, which is not so (proofs/UnheardSamples)
+--   UnheardAnyhow B         an outsider is unheard whoever opens a place, which is not so (proofs/UnheardSamples)
 -- Assumes nothing.
 use Rattle.std.specs.Prelude.{ℕ, ◌≡◌, true, ◌⊎◌, List, take}
 use Rattle.record.specs.Limits.{phase_closed}
@@ -20,7 +21,7 @@ abbrev pub ClosedOr : ℕ → Connection → Type 0
 ClosedOr random c = (c.phase ≡ phase_closed) ⊎ (c.random ≡ random)
 
 module _ {R : Type 0} (B : Board R) where
-  -- whatever call comes, at whatever place, on a connection that is not closed
+  -- any call, at any place, on a connection that is not closed
   abbrev pub RandomKept : Type 0
   RandomKept =
       (d : R) (p : ℕ) → ((connection_at (B.shows d) p).phase ≡ phase_closed → ⊥) → (c : Call)

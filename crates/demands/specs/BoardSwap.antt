@@ -2,7 +2,7 @@
 -- hours go on. TO BELIEVE IT, believe, and nothing else: the stored form and what is stored of a record
 -- (stored/specs/Form); what demand 3 says of a history (CountsSeconds, History); ours/specs/Board, and here Calls.
 -- Which bytes load is in demand 1, row by row.
---   LoadsAs B s w ms    the bytes s load, and give the record that the set-up of w gives, with the marks ms
+--   LoadsAs B s w ms    the bytes s load, and give the record of a set-up of w, with the marks ms
 --   BoardSwap           the theorem
 -- Assumes nothing.
 use Rattle.std.specs.List.{list_all}
@@ -25,7 +25,7 @@ pub record BoardSwap {R : Type 0} (B : Board R) : Type 0 where
   -- the form of the settings, with each lamp's seconds as they are now
   pub form_stored : (d : R) (m : List ℕ) → (B.store d m).number ≡ 0
       → bytes_written (B.store d m) ≡ stored_form (B.shows d)
-  -- "Loading is a fresh set-up": of what was stored
+  -- a load is a fresh set-up (RULES, Stored form): of what was stored
   pub stored_loads : (d : R) (m : List ℕ) → (B.store d m).number ≡ 0
       → LoadsAs B (bytes_written (B.store d m)) (stored_of (B.shows d)) (marks_stored (B.shows d))
   -- RULES, Lamps: version 1 "loads with all set": it is the set-up of its settings, which are of Class 1 (RULES, Class
@@ -37,10 +37,10 @@ pub record BoardSwap {R : Type 0} (B : Board R) : Type 0 where
   -- "Versions 1 and 2 load as Class 1", whatever bytes these are
   pub older_class_1 : (s : List ℕ) → (B.load s).number ≡ 0 → (s at 0 ≡ form_version → ⊥)
       → (B.shows (B.load s).device).settings.class_number ≡ 1
-  -- "One set-up has one form": what loads, stored again, is the same bytes, of the newest version
+  -- what loads, stored again, is the same bytes, of the newest version (RULES, Stored form: one set-up has one form)
   pub stored_again : (s : List ℕ) → list_all (is_at_most 255) s ≡ true → s at 0 ≡ form_version → (B.load s).number ≡ 0
       → stored_form (B.shows (B.load s).device) ≡ s
-  -- "Each version has one form": no other bytes of that version load as that record
+  -- no other bytes of that version load as that record (RULES, Stored form: each version has one form)
   pub one_form : (s t : List ℕ) → list_all (is_at_most 255) s ≡ true → list_all (is_at_most 255) t ≡ true →
       (B.load s).number ≡ 0
       → (B.load t).number ≡ 0 → s at 0 ≡ t at 0 → B.shows (B.load s).device ≡ B.shows (B.load t).device → s ≡ t

@@ -1,11 +1,11 @@
--- The calls that take a device record, and a run of them (RULES, Time: the history of demand 3 is "the calls since an
--- accepted set-up that take a device record, each lent the record the last one returned").
---   Call            such a call, with what it is lent, at any place (RULES, Places); passing in place is passing
---   after B d c     the record that the call c returns, lent d
---   Gave            what a call gives beside the record: the reply is as much of the memory as the length tells, the
---                   place is what an opening tells; 0 or nothing where there is none
---   gave_by B d c   what the call c gives so, lent d;    number_of B d c   the number of that
---   run B d cs      the record after the calls cs;         gave_all B d cs    what each of them gives
+-- The calls that take a device record, and a run of them (RULES, Time: the history of demand 3 is the calls since an
+-- accepted set-up that take a device record, each given the record that the last one returned).
+--   Call            such a call with its arguments, at any place (RULES, Places); a call in place is the same call
+--   after B d c     the record that the call c returns, given d
+--   Gave            what a call gives beside the record: the reply is the first bytes of the memory, as many as the
+--                   length says; the place is the one that an opening gives; 0 or nothing if the call has none
+--   gave_by B d c   what the call c gives so, given d;    number_of B d c   its number
+--   run B d cs      the record after the calls cs, from d on;    gave_all B d cs    what each of them gives
 -- Assumes nothing.
 use Rattle.std.specs.Prelude.{ℕ, Bool, List, [], ◌∷◌}
 use Rattle.record.specs.Given.{Given}

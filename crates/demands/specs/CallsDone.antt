@@ -1,11 +1,12 @@
--- What an accepted call leaves, whole (RULES, The legal record, Connection and Time): set-up, opening, closing,
--- receiving and the host's calls. What a line is answered is in SpeaksPjlink, what a connection becomes in Interleaved,
--- passing time in CountsSeconds.
---   OpenedAs B d random p r   the greeting that the password and the lent number give was replied; p is the lowest
+-- All that an accepted call leaves (RULES, The legal record, Connection and Time): set-up, opening, closing, receiving
+-- and the host's calls. What a line is answered is in SpeaksPjlink, what a connection becomes in Interleaved, letting
+-- time pass in CountsSeconds.
+--   OpenedAs B d random p r   the reply is the greeting that the password and the random number give; p is the lowest
 --                             closed place (RULES, Places), and the connection there keeps that number and awaits the
---                             digest exactly where there is a password; no byte was taken, and nothing else changed
---   own_by s o c bs           the own part o, once the connection c of a device with the settings s has taken the bytes
---                             bs: each CR does what the line that it ends asks for, and no other byte does anything
+--                             digest exactly if there is a password; no byte was taken, and nothing else changed
+--   own_by s o c bs           the own part o, after the connection c of a device with the settings s has taken the
+--                             bytes bs: each CR does what the line that it ends asks for, and no other byte does
+--                             anything
 --   ReceivedAs B d p bs r     the own part is what the bytes taken make of it, the connection at place p is as the call
 --                             left it, and nothing else changed
 --   Leaves B r e              the call that gave r left the device e
@@ -44,6 +45,6 @@ ReceivedAs B d p bs r =
     let own = own_by before.settings before.own (connection_at before p) (take r.taken bs) in
     B.shows r.device ≡ with_place before own p (connection_at (B.shows r.device) p)
 
--- where it is accepted
+-- if it is accepted
 abbrev pub Leaves : {R : Type 0} → Board R → Given R → Device → Type 0
 Leaves B r e = r.number ≡ 0 → B.shows r.device ≡ e

@@ -1,15 +1,15 @@
--- A CLASS 1 SET-UP ANSWERS BY CLASS 1 ALONE (RULES, Class 2: "A Class 1 set-up answers every line as if there were no
--- Class 2, and drops `%2` lines"), over any board: a line asks for what it asks for where the rows of Class 1 are all
--- rows of its class, and its inputs all inputs, whatever rows of other classes there are.
+-- A CLASS 1 SET-UP ANSWERS BY CLASS 1 ALONE (RULES, Class 2), over any board: it answers each line as if there were no
+-- Class 2, and drops `%2` lines. A line asks for what it asks for where the rows of Class 1 are all rows, and its
+-- inputs all inputs, whatever rows of other classes there are.
 -- TO BELIEVE IT, believe, and nothing else: the form of a line, and what a line asks for by rows (pjlink/specs: Forms,
 -- Bodies, Requests, RowsOfClass); what is meant and done (meaning/specs); which bytes say it (pjlink/specs/Said); the
 -- record (record/specs); ours/specs/Board, and here `BetweenLines`, `AnsweredAs`, `digest_for` of SpeaksPjlink.
---   AreOfOthers more       none of the rows is of a body of Class 1
---   asked_beside more l    what the line l asks for by the rows of Class 1, where more are all others
---   line_beside more s o l how it is answered then: `%1`, the four body bytes as received, `=`, the parameter, CR; or
---                          swallowed
---   answer_beside more d l the same, one of more than 135 bytes swallowed
---   longest_of_class_1     no reply is longer (RULES, Inputs)
+--   AreOfOthers more       no row of `more` is of a body of Class 1
+--   asked_beside more l    what the line l asks for by the rows of Class 1 and, beside these, the rows `more`
+--   line_beside more s o l the answer to that: `%1`, the four body bytes as received, `=`, the parameter, CR; or none,
+--                          if the line is swallowed
+--   answer_beside more d l the same of the device d; a line of more than 135 bytes is swallowed
+--   longest_of_class_1     how many bytes a reply of Class 1 has at most (RULES, Inputs)
 --   OfClass1 B d           the board is set up for Class 1
 --   ClassOneAlone B        the theorem
 -- Assumes nothing.
@@ -60,7 +60,7 @@ abbrev pub OfClass1 : {R : Type 0} → Board R → R → Type 0
 OfClass1 B d = (B.shows d).settings.class_number ≡ 1
 
 pub record ClassOneAlone {R : Type 0} (B : Board R) : Type 0 where
-  -- any line, on an open connection and behind the matching digest
+  -- any line, on an open connection or behind the matching digest
   pub answers : (more : List BodyRow) (d : R) (p : ℕ) (l m : List ℕ) → AreOfOthers more → OfClass1 B d
       → BetweenLines phase_open (B.shows d) p → is_cr_free l ≡ true → reply_room ≤ length m
       → let bs = l ++ codes "\r" in AnsweredAs B d p bs (answer_beside more (B.shows d) l) (B.receive d p bs m)
@@ -69,9 +69,9 @@ pub record ClassOneAlone {R : Type 0} (B : Board R) : Type 0 where
       ≤ length m
       → let bs = digest_for (B.shows d) p ++ l ++ codes "\r" in
       AnsweredAs B d p bs (answer_beside more (B.shows d) l) (B.receive d p bs m)
-  -- "and drops `%2` lines", whatever follows
+  -- it drops `%2` lines, whatever follows
   pub drops_class_2 : (d : R) (p : ℕ) (l m : List ℕ) → OfClass1 B d → BetweenLines phase_open (B.shows d) p
       → is_cr_free l ≡ true → (l at 1 is "2") ≡ true → reply_room ≤ length m
       → let bs = l ++ codes "\r" in AnsweredAs B d p bs (line_swallowed (B.shows d).own) (B.receive d p bs m)
-  -- RULES, Inputs: "the longest reply is 103"
+  -- RULES, Inputs: the longest reply has 103 bytes
   pub reply_short : (d : R) (p : ℕ) (bs m : List ℕ) → OfClass1 B d → (B.receive d p bs m).length ≤ longest_of_class_1

@@ -1,5 +1,5 @@
--- One name that opens the definitions of every crate below, for computing on concrete records only (RULES,
--- Commands). The digest stays shut: no line is computed on a secured connection.
+-- One name that opens the definitions of every crate below, for computing on concrete records only (RULES, Commands).
+-- It does not open the digest: no line is computed on a secured connection.
 -- Assumes nothing.
 use Rattle.numbers.specs.Computing.{computing as numbers}
 use Rattle.pjlink.specs.Computing.{computing as pjlink}

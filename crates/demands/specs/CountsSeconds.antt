@@ -2,21 +2,20 @@
 -- gives at once, so long as a + b is at most 4,294,967,295. After any calls since set-up, refused ones counting as
 -- nothing, each lamp's stored seconds are its starting seconds plus every second the history puts in warm-up or
 -- power-on, stopped at 359,999,999; the hours answered are the whole hours in that."
--- TO BELIEVE IT, believe, and nothing else: one second (clock/specs/Second), and what is legal (record/specs); what
--- someone outside sees of a history, and his own clock (History, here); the stored form (stored/specs/Form); the line
--- of a command and the text of lamps (pjlink/specs: Commands, Said; words/specs/Lamps; numbers/specs/Decimal);
+-- TO BELIEVE IT, believe, and nothing else: one second (clock/specs/Second), and what is legal (record/specs); what an
+-- outside observer sees of a history, and the observer's clock (History, here); the stored form (stored/specs/Form);
+-- the line of a command and the text of lamps (pjlink/specs: Commands, Said; words/specs/Lamps; numbers/specs/Decimal);
 -- ours/specs/Board; here Calls, CallsDone, and `BetweenLines` of SpeaksPjlink, `meaning` of controller/specs/Reading.
---   Beginning            a history begins with a set-up, or with the load of a stored form (RULES, Stored form:
---                        "Loading is a fresh set-up, so the history of demand 3 begins there with the stored seconds"),
+--   Beginning            how a history begins: with a set-up, or with the load of a stored form (RULES, Stored form),
 --                        of the newest version with its marks, or of an older one, which loads as Class 1: version 2
 --                        with its marks (RULES, Class 2), version 1 with none (RULES, Lamps)
---   start_marks b w      the marks that it begins with: all set, or "after a load, as the form has them"
---   IsAccepted B b w     the board accepts the settings w there
---   history_of B b w cs  what someone outside sees of the calls cs since then
---   TimeAdds B           the adding law, which a clock that does nothing obeys too (WrongClocks)
---   lamps_then w ms es   each lamp of the set-up as LAMP answers it after that history
---   burnt_by_marks ..    the seconds of burning, each counted once for each mark that stood
---   LampsTold B ls r     the reply r says the lamps ls, and the reader takes them from it
+--   start_marks b w      the marks at that beginning: all set after a set-up; after a load those of the form
+--   IsAccepted B b w     the board B accepts the settings w at the beginning b
+--   history_of B b w cs  what an outside observer sees of the calls cs since then
+--   TimeAdds B           the adding law, which a clock that does nothing meets too (WrongClocks)
+--   lamps_then w ms es   each lamp of the set-up as LAMP answers it after the history es
+--   burnt_by_marks ..    the seconds of burning, each counted once for each mark that was set
+--   LampsTold B ls r     the reply r says the lamps ls, and the reader reads them from it
 -- Assumes nothing.
 use Rattle.std.specs.Prelude.{ℕ, zero, suc, ◌+◌, ◌-◌, ◌/◌, ◌≤◌, ◌<◌, ◌≡◌, Bool, true, false, ◌&&◌, if◌then◌else◌}
 use Rattle.std.specs.Prelude.{List, [], ◌∷◌, ◌++◌, length, set, replicate, slice_index_or, codes}
@@ -82,7 +81,7 @@ module _ {R : Type 0} (B : Board R) where
   abbrev pub history_of : Beginning → Wanted → List Call → List HistoryEvent
   history_of b w cs = history B (begun_by b w).device no_streams cs
 
--- the lamp at place k, which started with so many seconds
+-- the lamp at index k, which started with so many seconds
 abbrev pub lamp_then : Wanted → List Bool → List HistoryEvent → ℕ → ℕ → LampHours
 lamp_then w ms es k start = record {
   hours = lamp_with (burning_seconds w ms k es) start / 3600;
@@ -96,7 +95,7 @@ each_place f k (x ∷ xs) = f k x ∷ each_place f (suc k) xs
 abbrev pub lamps_then : Wanted → List Bool → List HistoryEvent → List LampHours
 lamps_then w ms es = each_place (lamp_then w ms es) 0 w.lamps
 
--- the fleet's question (RULES, Lamps): the seconds of burning, each counted once for each mark that stood
+-- the fleet's question (RULES, Lamps): the seconds of burning, each counted once for each mark that was set
 abbrev pub count_set : List Bool → ℕ
 count_set [] = 0
 count_set (m ∷ ms) = (if m then 1 else 0) + count_set ms
@@ -130,17 +129,17 @@ pub record CountsSeconds {R : Type 0} (B : Board R) : Type 0 where
   -- "From any legal state, letting a seconds pass and then b gives the very state that a + b gives at once, so long as
   -- a + b is at most 4,294,967,295"
   pub time_adds : TimeAdds B
-  -- RULES, Time: "The meaning is a definition of one second, applied n times"
+  -- RULES, Time: n seconds are one second, n times
   pub second_by_second : (d : R) (n : ℕ) → Leaves B (B.pass d n) (times second n (B.shows d))
   -- "After any calls since set-up, refused ones counting as nothing, each lamp's stored seconds are its starting
-  -- seconds plus every second the history puts in warm-up or power-on, stopped at 359,999,999"; RULES, Places: "the
-  -- history is the accepted calls of all places in the order made"
+  -- seconds plus every second the history puts in warm-up or power-on, stopped at 359,999,999"; RULES, Places: the
+  -- history is the accepted calls of all places, in the order made
   pub lamps_tell_the_history : (b : Beginning) (w : Wanted) (cs : List Call) (place : ℕ) → IsAccepted B b w
       → place < length w.lamps
       → slice_index_or (B.shows (run_of B b w cs)).own.lamps place 0
       ≡ lamp_with (burning_seconds w (start_marks b w) place (history_of B b w cs)) (slice_index_or w.lamps place 0)
-  -- RULES, Lamps: while no lamp reaches the limit, the sum over the lamps of the seconds gained is the seconds of
-  -- burning, each counted once for each mark that stood
+  -- RULES, Lamps: while no lamp reaches the limit, the seconds gained, added up over the lamps, are the seconds of
+  -- burning, each counted once for each mark that was set
   pub fleet_adds_up : (b : Beginning) (w : Wanted) (cs : List Call) → IsAccepted B b w
       → ((k : ℕ) → k < length w.lamps
       → slice_index_or w.lamps k 0 + burning_seconds w (start_marks b w) k (history_of B b w cs) ≤ lamp_limit)
@@ -148,7 +147,7 @@ pub record CountsSeconds {R : Type 0} (B : Board R) : Type 0 where
       (λ k. slice_index_or (B.shows (run_of B b w cs)).own.lamps k 0 - slice_index_or w.lamps k 0)
       ≡ burnt_by_marks w (steady false) (start_marks b w) (history_of B b w cs)
   -- "the hours answered are the whole hours in that": LAMP, asked at any place on an open connection between lines, the
-  -- reply's bytes and what our reader takes from them
+  -- reply's bytes and what our reader reads from them
   pub hours_told : (b : Beginning) (w : Wanted) (cs : List Call) (p : ℕ) (m : List ℕ) → IsAccepted B b w
       → 1 ≤ length w.lamps → BetweenLines phase_open (B.shows (run_of B b w cs)) p → reply_room ≤ length m
       → let r = B.receive (run_of B b w cs) p (command_line (Query Lamp)) m in

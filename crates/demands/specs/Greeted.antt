@@ -1,5 +1,5 @@
--- What an opened connection has been greeted with, as the controller reads it (RULES, Connection).
---   greeted_on c    the greeting, which is always one
+-- The greeting of an opened connection, as the controller reads it (RULES, Connection).
+--   greeted_on c    the greeting of the connection c; there always is one
 -- Assumes nothing.
 use Rattle.std.specs.Prelude.{if◌then◌else◌, ◌==◌, Option, Some}
 use Rattle.record.specs.Limits.{phase_awaiting}

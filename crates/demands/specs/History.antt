@@ -1,15 +1,16 @@
--- Demand 3's history (RULES, Time): what someone outside knows who sees the bytes handed over, the numbers, the counts
--- and the replies, and never a record.
---   Streams               for each place all bytes that were taken there so far, in one row: no phases, no digests, no
+-- Demand 3's history (RULES, Time): what an outside observer knows who sees the bytes passed to calls, the numbers, the
+-- counts and the replies, and never a record.
+--   Streams               for each place all bytes that were taken there so far, joined: no phases, no digests, no
 --                         limits, and no connections, though a place may be closed and opened again (RULES, Places)
---   power_set s r         a power set was answered OK: the reply r says so, and the stream s ends in its line
---   history B d w cs      the power sets answered OK, at whatever place, the seconds passed and the marks set, in the
---                         order made; a refused call counts as nothing
---   Stage                 the outsider's own clock, which starts off: steady, or on the way there for so many seconds
---   marks_after ms es     his marks, one a lamp: those it began with, and the mark calls that gave 0 (RULES, Lamps)
---   burning_seconds w ms k es  the seconds of a history that lie in warm-up or power-on with the mark of the lamp at
---                         place k set, where it began with the marks ms
---   lamp_with n start     a lamp's seconds: what it started with and what it burnt, stopped at 359,999,999
+--   power_set s r         a power set that was answered OK: the reply r says so, and the stream s ends in the set's
+--                         line
+--   history B d w cs      the power sets answered OK, at any place, the seconds passed and the marks set, in the order
+--                         made; a refused call counts as nothing
+--   Stage                 the observer's clock, which starts off: steady, or on the way there for so many seconds
+--   marks_after ms es     the marks after the events es, one a lamp: ms, and the mark calls that gave 0 (RULES, Lamps)
+--   burning_seconds w ms k es  the seconds of a history that are in warm-up or power-on with the mark of the lamp at
+--                              index k set, where it began with the marks ms
+--   lamp_with n start     a lamp's seconds: those it started with and the n that it burnt, stopped at 359,999,999
 -- Assumes nothing.
 use Rattle.std.specs.Prelude.{ℕ, ◌+◌, ◌-◌, min, Bool, true, false, not, ◌&&◌, if◌then◌else◌}
 use Rattle.std.specs.Prelude.{List, [], ◌∷◌, ◌++◌, length, take, drop, replicate, set, nat_le, ◌==◌, slice_index_or}
@@ -24,7 +25,7 @@ use Rattle.demands.specs.Calls.{Call, receives, passes, enables, after}
 
 infix 40 ◌says◌
 infix 40 ◌ends_in◌
--- ---- what he sees
+-- ---- what the observer sees
 
 -- in any case of letters
 abbrev pub ◌says◌ : List ℕ → String → Bool
@@ -51,7 +52,7 @@ Streams = ℕ → List ℕ
 abbrev pub no_streams : Streams
 no_streams q = []
 
--- place p's stream goes on by these bytes, and no other one does
+-- the stream of place p continues with these bytes, and no other one does
 abbrev pub going_on_at : Streams → ℕ → List ℕ → Streams
 going_on_at w p bs q = if q == p then w q ++ bs else w q
 
@@ -62,7 +63,7 @@ module _ {R : Type 0} (B : Board R) where
       if (B.receive d p bs m).number == 0 then going_on_at w p (take (B.receive d p bs m).taken bs) else w
   streams_after d w c = w
 
-  -- what a call tells; the bytes that it took are in its place's stream already
+  -- what is seen of a call; the bytes that it took are in its place's stream already
   abbrev pub seen : R → Streams → Call → List HistoryEvent
   seen d w (receives p bs m) =
       if (B.receive d p bs m).number == 0 then power_set (w p) (reply (B.receive d p bs m)) else []
@@ -74,7 +75,7 @@ module _ {R : Type 0} (B : Board R) where
   history d w [] = []
   history d w (c ∷ cs) = seen d (streams_after d w c) c ++ history (after B d c) (streams_after d w c) cs
 
--- ---- his clock
+-- ---- the observer's clock
 
 -- warm-up is on the way to on, cooling on the way to off
 pub data Stage : Type 0 where
@@ -92,7 +93,7 @@ next_stage w (towards on n) a_second = if nat_le n 1 then steady on else towards
 next_stage w (steady on) (mark_switched lamp mark) = steady on
 next_stage w (towards on n) (mark_switched lamp mark) = towards on n
 
--- his marks, one a lamp
+-- the marks, one a lamp
 abbrev pub marks_next : List Bool → HistoryEvent → List Bool
 marks_next ms (mark_switched lamp mark) = set ms lamp mark
 marks_next ms e = ms
@@ -106,7 +107,7 @@ abbrev pub is_burning_stage : Stage → Bool
 is_burning_stage (steady on) = on
 is_burning_stage (towards on n) = on
 
--- the lamp at place k, if its mark is set (RULES, Lamps)
+-- the lamp at index k, if its mark is set (RULES, Lamps)
 abbrev pub burnt_in : Stage → List Bool → ℕ → HistoryEvent → ℕ
 burnt_in g ms k a_second = if is_burning_stage g && slice_index_or ms k false then 1 else 0
 burnt_in g ms k e = 0

@@ -1,17 +1,17 @@
--- Four places, one projector (RULES, Places: "One place's bytes never touch another's connection"): lines at several
--- places, cut anywhere and interleaved anyhow, give at each place what that place alone would have got, but for what
--- the other places' commands did to the projector. What the others do is seen at a place in one way only: by the own
--- part of the projector at the moments at which a line ends there.
+-- Four places, one projector (RULES, Places): one place's bytes never touch another's connection. Lines at several
+-- places, cut anywhere and interleaved in any way, give at each place what that place alone would have got, but for
+-- what the other places' commands did to the projector. At a place, what the others do is seen only in the own part of
+-- the projector at the moments at which a line ends there.
 -- TO BELIEVE IT, believe, and nothing else: what a byte and a line's end do to one connection (device/specs/Receiving:
 -- `keeping_line`, `line_ended`; stream/specs/Collecting: `line_after`); the record (record/specs); ours/specs/Board;
 -- here Calls.
---   HeardAt                    what is seen at a place: the bytes taken and the replies, each in one row, and the own
---                            part at each moment at which a call there took a CR
---   heard B q d cs           what is seen at place q of the calls cs
---   ByBytesOnly B q d cs     of the calls cs, whoever makes them, none but receiving changes the connection at place q;
---                            so it is for every list of receive calls, at whatever places
---   alone_at s c owns bs     what the connection c, alone under the settings s, gets of its stream bs, where `owns` are
---                            the own parts at the ends of its lines, one a CR
+--   HeardAt                    what is seen at a place: the bytes taken and the replies, each joined, and the own part
+--                              at each moment at which a call there took a CR
+--   heard B q d cs           what is seen at place q of the calls cs, from d on
+--   ByBytesOnly B q d cs     none of the calls cs, whoever makes them, changes the connection at place q but by
+--                            receiving; that is so of every list of receive calls, at any places
+--   alone_at s c owns bs     what the connection c gets of its stream bs if it is alone, under the settings s, where
+--                            `owns` are the own parts at the ends of its lines, one for each CR
 --   line_ends bs             how many lines end in bs
 --   to_first_cr bs           the bytes up to and including the first CR, or all if there is none
 --   SeenAlone B q d cs       what is seen at place q is what its connection alone gets of its own stream
@@ -82,11 +82,12 @@ pub record Alone : Type 0 where
 abbrev pub answered_first : List ℕ → Alone → Alone
 answered_first r a = record { reply = r ++ a.reply; connection = a.connection }
 
--- `owns` never runs out (`lines` of SeenAlone), so what would stand in for the first of none is nowhere used
+-- `owns` never runs out (`lines` of SeenAlone), so what this gives for an empty list is used nowhere
 abbrev pub first_own : List Own → Own
 first_own owns = slice_index_or owns 0 blank_own
 
--- RULES, Connection: a byte that is no CR is collected; CR ends the line, and the next one goes on with what that left
+-- RULES, Connection: a byte other than CR is collected; CR ends the line, and the next one continues with what that
+-- left
 unfoldable pub alone_at : Settings → Connection → List Own → List ℕ → Alone
 alone_at s c owns [] = record { reply = []; connection = c }
 alone_at s c owns (b ∷ bs) =
@@ -115,15 +116,15 @@ module _ {R : Type 0} (B : Board R) (q : ℕ) (d : R) (cs : List Call) where
     pub lines : length (heard B q d cs).owns ≡ line_ends (heard B q d cs).taken
 
 pub record Interleaved {R : Type 0} (B : Board R) : Type 0 where
-  -- RULES, Connection: receiving "takes bytes up to and including the first CR, or all of them if none", whatever the
-  -- other places hold
+  -- RULES, Connection: receiving takes the bytes up to and including the first CR, or all of them if there is none,
+  -- whatever the other places hold
   pub takes_a_line : (d : R) (q : ℕ) (bs m : List ℕ) → is_legal (B.shows d) ≡ true → q < places_count
       → is_closed (connection_at (B.shows d) q) ≡ false → reply_room ≤ length m
       → let r = B.receive d q bs m in (r.number ≡ 0) × (take r.taken bs ≡ to_first_cr bs)
-  -- from any record, over any calls of everybody
+  -- from any record, over any calls of anyone
   pub as_alone : (d : R) (q : ℕ) (cs : List Call) → ByBytesOnly B q d cs → SeenAlone B q d cs
-  -- so two runs that give a place the same bytes, however cut and interleaved with whatever, and the same own parts at
-  -- the ends of its lines, give it the same replies and leave it the same connection
+  -- so two runs in which a place gets the same bytes, however cut and interleaved with others, and the same own parts
+  -- at the ends of its lines, give it the same replies and leave it the same connection
   pub same_however_interleaved : (d e : R) (q : ℕ) (cs es : List Call)
       → ByBytesOnly B q d cs → ByBytesOnly B q e es
       → (B.shows d).settings ≡ (B.shows e).settings → connection_at (B.shows d) q ≡ connection_at (B.shows e) q

@@ -13,9 +13,10 @@
 -- readers, the forms of lines (pjlink/specs: Forms, Commands, Bodies) and which parameter says what (pjlink/specs:
 -- Said, CanSay, Writings, with the values of words/specs: Numerals, Powers, Muting, ErrorDigits, Lamps, Classes,
 -- Refusing, Joined; `greets`, `random_in` of pjlink/specs/Greetings); ours/specs/Board; here Calls.
---   rows_of d c         the rows that the call c can meet, in the table's order; so for set-up, writer and readers
---   Inside m r          a call that is lent the memory m stays in it, and changes no byte past its reply
---   Untouched m r       it took nothing, replied nothing and wrote nothing
+--   rows_of d c         the rows that the call c can meet, in the table's order; set-up, writer and readers have rows
+--                       of their own
+--   Inside m r          a call that is given the memory m stays in it, and changes no byte past its reply
+--   Untouched m r       the call took no byte, replied nothing and wrote no byte of m
 -- Assumes nothing.
 use Rattle.std.specs.Prelude.{ℕ, ◌≤◌, ◌≡◌, Bool, true, false, not, ◌||◌, List, [], ◌∷◌, set, length, drop, nat_lt, ◌==◌}
 use Rattle.text.specs.Flags.{flag_of}
@@ -75,8 +76,8 @@ writer_rows c secured password m =
 abbrev is_erra : List ℕ → Bool
 is_erra l = is_same_by itself l erra_line
 
--- the ERRA line is known before the form is tested, which is that of the command's class (RULES, Class 2); whether the
--- parameter is allowed is what it says (`IsAllowed`)
+-- the ERRA line is recognised before the form is tested, which is that of the command's class (RULES, Class 2); a
+-- parameter is allowed if it says something (`IsAllowed`)
 abbrev pub reader_rows : Command → List ℕ → Bool → List NumberRow
 reader_rows c l allowed =
     (0 when is_erra l) ∷ (10 when not (is_reply_form (command_class c) l))
@@ -138,7 +139,7 @@ pub record KeepsRunning {R : Type 0} (B : Board R) : Type 0 where
   -- "returns the device record it was given .., and writes no byte of the reply memory"
   pub refused_keeps : (d : R) (c : Call) → (number_of B d c ≡ 0 → ⊥)
       → (after B d c ≡ d) × WritesNothing B d c
-  -- RULES, Places: a refused opening tells no place but 0
+  -- RULES, Places: the place that a refused opening gives is 0
   pub refused_opening_place : (d : R) (random : ℕ) (m : List ℕ) → ((B.opening d random m).number ≡ 0 → ⊥)
       → B.place_opened d random m ≡ 0
   pub refused_writer_writes_nothing : (c : Command) (secured : Bool) (random : ℕ) (password m : List ℕ)
@@ -149,11 +150,12 @@ pub record KeepsRunning {R : Type 0} (B : Board R) : Type 0 where
   pub refused_reader_means_nothing : (c : Command) (l : List ℕ) →
       (reading_outcome_number (B.read_reply c l).outcome ≡ 0 → ⊥)
       → (B.read_reply c l).said ≡ nothing
-  -- "(a refused set-up gives the blank record)", which is not legal; an accepted one is, and no call makes it otherwise
+  -- "(a refused set-up gives the blank record)", which is not legal; that of an accepted one is legal, and stays so in
+  -- any call
   pub refused_set_up_blank : (w : Wanted) → ((B.set_up w).number ≡ 0 → ⊥) → B.shows (B.set_up w).device ≡ blank
   pub blank_illegal : is_legal blank ≡ false
   pub set_up_legal : (w : Wanted) → (B.set_up w).number ≡ 0 → is_legal (B.shows (B.set_up w).device) ≡ true
-  -- RULES, Stored form: so does a refused load, and an accepted one is legal
+  -- RULES, Stored form: a refused load gives the blank record too, and that of an accepted one is legal
   pub refused_load_blank : (s : List ℕ) → ((B.load s).number ≡ 0 → ⊥) → B.shows (B.load s).device ≡ blank
   pub load_legal : (s : List ℕ) → (B.load s).number ≡ 0 → is_legal (B.shows (B.load s).device) ≡ true
   pub stays_legal : (d : R) (c : Call) → is_legal (B.shows d) ≡ true

@@ -1,6 +1,6 @@
--- Our board with one call exchanged, for the wrong boards: each is ours but for what its name says.
---   ours_but ..         our board with these calls of its own
---   but_set_up f, ..    our board, with f in the place of that one call
+-- Our board with one call replaced, for the wrong boards: each is ours but for what its name says.
+--   ours_but ..         our board with these calls instead of its own
+--   but_set_up f, ..    our board with f instead of that one call
 -- Assumes nothing.
 use Rattle.std.specs.Prelude.{ℕ, Bool, List}
 use Rattle.pjlink.specs.declared.command.Command.{Command}

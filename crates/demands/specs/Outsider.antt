@@ -1,22 +1,23 @@
--- Someone who does not know the password (demand 2: "without the matching digest" he gets "the refusal line only"),
--- at one place, over any calls of everybody (RULES, Places). Said of the bytes taken and of the replies, as demand 3's
--- outsider sees them: no phase of a connection is named here.
---   Session                   what is seen of a connection since it was opened: the random number that this opening was
---                             lent, the bytes taken since, and the replies to received bytes
---   unopened                  what is seen of a place that was not opened yet
+-- An outsider does not know the password (demand 2: "without the matching digest" .. "the refusal line only"): what one
+-- gets and changes at one place, over any calls of anyone (RULES, Places). It is said of the bytes taken and of the
+-- replies, as demand 3's observer sees them: no phase of a connection is named here.
+--   Session                   what is seen of a connection since it was opened: the random number of that opening, the
+--                             bytes taken since, and the replies to received bytes
+--   unopened                  what is seen of a place that has not been opened
 --   noted_of p s c g          the session at place p after the call c, which gave g: an accepted opening there starts
---                             one, receiving there goes on with it;    noted B p d s c   where it was lent d
---   session_after B p d s cs  the session after the calls cs
+--                             one, receiving there continues it;    noted B p d s c   where the call was given d
+--   session_after B p d s cs  the session after the calls cs, from s and the record d on
 --   first_line bs             the bytes before the first CR
---   is_matched password s     the session's first line has ended, and is led by the digest of the session's number
---   IsNeverMatched            at no moment of the calls is the session matched
---   is_hosts c                the call c is a pass or one of the host's: no connection has a say in it
---   host_calls cs             those among cs
---   RefusalAtMost bs          nothing, or the refusal line once
+--   is_matched password s     the session's first line has ended, and begins with the digest of the session's number
+--                             and the password
+--   IsNeverMatched            at no moment of the calls does the session's first line match
+--   is_hosts c                the call c lets time pass or is one of the host's: no connection has a say in it
+--   host_calls cs             the calls among cs that are such
+--   RefusalAtMost bs          bs is nothing, or the refusal line once
 --   IsKeptThere B p d cs      at no moment of the calls does what place p receives change the settings or the own part
---   NoSay B p d s cs          that, and the session at place p was answered the refusal line at most
---   HostsAlone B d cs         what the calls cs leave of the settings and the own part is what the passes and the
---                             host's calls among them leave
+--   NoSay B p d s cs          that is so, and the replies to the session at place p are the refusal line at most
+--   HostsAlone B d cs         what the calls cs leave of the settings and the own part is what time and the host's
+--                             calls among them leave
 -- Assumes nothing.
 use Rattle.std.specs.Prelude.{ℕ, ◌≡◌, Bool, true, false, not, ◌&&◌, List, [], ◌∷◌, ◌++◌, take, filter}
 use Rattle.std.specs.Prelude.{if◌then◌else◌, ◌==◌}
@@ -41,7 +42,7 @@ abbrev pub unopened : Session
 unopened = opened_with 0
 
 module _ (p : ℕ) where
-  -- a refused call counts as nothing, and so does one at another place
+  -- a refused call counts as nothing, and so does a call at another place
   abbrev pub noted_of : Session → Call → Gave → Session
   noted_of s (opens random m) g = if g.number == 0 && g.place == p then opened_with random else s
   noted_of s (receives q bs m) g =
@@ -74,7 +75,7 @@ IsNeverMatched B p password d s [] = Unit {0}
 IsNeverMatched B p password d s (c ∷ cs) =
     (is_matched password (noted B p d s c) ≡ false) × IsNeverMatched B p password (after B d c) (noted B p d s c) cs
 
--- ---- what he gets, and what he changes
+-- ---- what an outsider gets, and what it changes
 
 abbrev pub is_hosts : Call → Bool
 is_hosts (opens random m) = false

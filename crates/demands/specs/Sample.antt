@@ -1,11 +1,11 @@
--- The device of the lines that settle it, on which wrong boards are tried and lines computed (Settled):
--- W = 20, C = 60, one lamp at 0 s, input 11, texts empty, no password. Then the same device set up for Class 2 (RULES,
+-- The device of the lines that settle the rules, on which wrong boards are tried and lines are computed (Settled): W =
+-- 20, C = 60, one lamp at 0 s, input 11, texts empty, no password. Then the same device set up for Class 2 (RULES,
 -- Class 2), with the inputs 11 and 6A, their names, a serial number and a version.
---   sample, class_2_sample   what they are set up with
+--   sample, class_2_sample   the settings of these two devices
 --   texts_sample             the sample with a name, maker, model and other information, and two inputs
 --   lamps_sample             the sample with three lamps;    no_lamps_sample    with none
 --   sockets, long_named      set-ups of the longest replies: 32 inputs (RULES, Inputs), and an input's name of Class 2
---   memory                   the reply memory that is lent
+--   memory                   the reply memory that calls are given
 --   with_cr t                the line t with its CR
 --   says t                   the line t, received at place 0
 --   opened_after w           our device set up with w, off, opened at place 0, between lines

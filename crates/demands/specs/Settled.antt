@@ -1,14 +1,14 @@
 -- RULES, Commands, "Lines that settle it", as one statement over lists of rows; then RULES, Class 2. A row has a call,
 -- its number and its reply, and the calls before it on a board that was just set up and opened at place 0.
---   t gives u after cs      the line t is answered u, after the calls cs
---   t is_unanswered_after cs   it is served, and has no reply
---   t is_refused n after cs    the call is refused with the number n
+--   t gives u after cs      the answer to the line t is u, after the calls cs
+--   t is_unanswered_after cs   the line t is served, and has no reply
+--   t is_refused n after cs    the call on the line t is refused with the number n
 --   r greets u              an opening with the random number r writes u
 --   a and b after cs        the speaker's volume is a, the microphone's b: no line asks for them, the host reads them
---                           off the record
+--                           from the record
 --   on_then cs              power-on, the 20 s of warm-up, then the calls cs
 --   Settles B               every row of Class 1 holds of the board B
---   SettlesClass2 B         so does every row of Class 2
+--   SettlesClass2 B         every row of Class 2 holds of the board B
 -- Assumes nothing.
 use Prim.Native.String.{String}
 use Rattle.std.specs.Prelude.{ℕ, ◌≡◌, true, false, List, [], ◌∷◌, take}
@@ -31,7 +31,7 @@ nine_sessions = rounds 9 (says "%1POWR 1" ∷ passes 2400 ∷ says "%1POWR 0" �
 abbrev pub on_then : List Call → List Call
 on_then cs = says "%1POWR 1" ∷ passes 20 ∷ cs
 
--- what comes of a call: its number, and the reply's bytes
+-- the result of a call: its number, and the reply's bytes
 pub record CameOut : Type 0 where
   pub number : ℕ
   pub reply : List ℕ
@@ -61,7 +61,7 @@ pub record SettledVolumes : Type 0 where
 abbrev pub ◌and◌after◌ : ℕ → ℕ → List Call → SettledVolumes
 a and b after cs = record { speaker = a; microphone = b; before = cs }
 
--- the sample, off unless said
+-- the sample, with the power off unless a row says otherwise
 abbrev pub rows : List SettledLine
 rows =
     ("%1powr 1" gives "%1powr=OK" after [])
@@ -104,8 +104,8 @@ mute_rows =
     ∷ ("%1AVMT ?" gives "%1AVMT=30" after on_then (says "%1AVMT 31" ∷ says "%1AVMT 30" ∷ []))
     ∷ []
 
--- the host reports fan, lamp, temperature, cover, filter, other, and marks a fault. With the mark POWR, INPT and AVMT
--- are ERR4, set and query, after ERR2 and before ERR3; the other queries answer
+-- the host reports fan, lamp, temperature, cover, filter, other, and sets the fault flag. With the flag POWR, INPT and
+-- AVMT are ERR4, set and query, after ERR2 and before ERR3; the other queries answer
 abbrev pub host_rows : List SettledLine
 host_rows =
     ("%1ERST ?" gives "%1ERST=000000" after [])
@@ -147,7 +147,7 @@ no_lamp_rows =
     ("%1LAMP ?" gives "%1LAMP=ERR1" after [])
     ∷ []
 
--- a connection that is open never closes of age; a line of no form of its class is swallowed
+-- a connection that is open never times out; a line of no form of its class is swallowed
 abbrev pub open_rows : List SettledLine
 open_rows =
     (1234061927 greets "PJLINK 0")
@@ -157,7 +157,7 @@ open_rows =
     ∷ []
 
 -- with a password, 498e4a67 being the random number of PJLink's example: awaiting, and failed once refused, each closes
--- at 30 s of its own
+-- at its own age of 30 s
 abbrev pub awaiting_rows : List SettledLine
 awaiting_rows =
     (1234061927 greets "PJLINK 1 498e4a67")
@@ -168,7 +168,7 @@ awaiting_rows =
     ∷ ("%1POWR 1" is_refused 4 after passes 29 ∷ says "x" ∷ passes 30 ∷ [])
     ∷ []
 
--- a line goes by its own class: each body under it, and the class as received in the reply
+-- a line is of its own class: its body is one of that class, and its reply has the class as received
 abbrev pub class_2_rows : List SettledLine
 class_2_rows =
     ("%1CLSS ?" gives "%1CLSS=2" after [])
@@ -196,7 +196,7 @@ class_2_on_rows =
     ∷ ("%2MVOL 0" gives "%2MVOL=OK" after on_then (rounds 10 (says "%2MVOL 0" ∷ [])))
     ∷ []
 
--- ten at set-up; a step is one, up or down, from 0 to 20, and where it is refused none
+-- ten at set-up; a step is one, up or down, from 0 to 20, and a refused step changes nothing
 abbrev pub volume_rows : List SettledVolumes
 volume_rows =
     (10 and 10 after [])

@@ -11,19 +11,19 @@
 -- a line is answered and a connection greeted (device/specs: Answering, `is_led_by` of Receiving, and `greeting`,
 -- `greeted` of Calls); what a byte and a line's end do to a connection (`keeping_line`, `line_ended` of Receiving;
 -- `line_after` of stream/specs/Collecting); the record (record/specs); a stream in cuts (stream/specs/Machine);
--- ours/specs/Board; here Calls, CallsDone, Outsider. RULES, Places: "Demand 2 holds place by place": what is said of a
--- connection is said of that at any place p, whatever the other places hold. RULES, Class 2: lines, commands and
--- set-ups are of Class 1 or Class 2, and all is said of both; that a Class 1 set-up answers by Class 1 alone is in
--- ClassOne.
---   BetweenLines phase d p   legal, at place p in that phase, no collected bytes and no overlong mark
+-- ours/specs/Board; here Calls, CallsDone, Outsider. Demand 2 holds place by place (RULES, Places): what is said of a
+-- connection is said of that at any place p, whatever the other places hold. Lines, commands and set-ups are of Class 1
+-- or Class 2 (RULES, Class 2), and all is said of both; that a Class 1 set-up answers by Class 1 alone is in ClassOne.
+--   BetweenLines phase d p   legal, at place p in that phase, no collected bytes and no overlong flag
 --   ReadBack B d p c w r     the command c, written as w and received as r, is read as it was meant and done
---   AnsweredAs B d p bs a r  the bytes bs were all taken, and answered a
---   IsSwallowed B d p w r    what was written as w was all taken, with no reply, and changed nothing
---   ByClass B d p c w r      read back where the class of the command c is no higher than the set-up's, else swallowed
---   is_led d p l             the line l starts with the matching digest and is not overlong
---   RefusalOnly B d p out    the refusal line was replied and nothing else; settings, own part and other places stay,
---                            the connection has failed
---   handed_on B m p d ps     the parts ps of a stream, each handed on until it is taken, the memory m lent each time
+--   AnsweredAs B d p bs a r  the bytes bs were all taken, and the answer is a
+--   IsSwallowed B d p w r    the line written as w was taken whole, with no reply, and changed nothing
+--   ByClass B d p c w r      the command c is read back if its class is no higher than the set-up's, else its line is
+--                            swallowed
+--   is_led d p l             the line l begins with the matching digest and is not overlong
+--   RefusalOnly B d p out    the reply is the refusal line and nothing else; settings, own part and other places stay
+--                            as they were, and the connection has failed
+--   handed_on B m p d ps     the parts ps of a stream, each passed on until it is taken, with the memory m each time
 --   Elsewhere B d c q        the call c is not at place q
 -- Assumes nothing.
 use Rattle.std.specs.Prelude.{ℕ, ◌≤◌, ◌<◌, ◌^◌, ◌≡◌, Bool, true, false, List, ◌++◌, ◌↔◌, length, set, Ok}
@@ -85,7 +85,7 @@ module _ {R : Type 0} (B : Board R) where
         ≡ with_place (B.shows d) (after_request (B.shows d).settings (B.shows d).own (Ok c)) p
         (open_again (connection_at (B.shows d) p))
 
-  -- ---- any line, from any controller: what it is answered by the tables of RULES, and what it leaves
+  -- ---- any line, from any controller: its answer by the tables of RULES, and what it leaves
   pub record AnsweredAs (d : R) (p : ℕ) (bs : List ℕ) (a : Answered) (r : Lent R) : Type 0 where
     pub number : r.number ≡ 0
     pub taken : r.taken ≡ length bs
@@ -98,8 +98,8 @@ module _ {R : Type 0} (B : Board R) where
     pub wrote : w.number ≡ 0
     pub left : AnsweredAs d p (bytes_written w) (line_swallowed (B.shows d).own) r
 
-  -- "the reader returns what the projector meant, for every command of a class no higher than the set-up's; a higher
-  -- one gets no reply and changes nothing but what swallowing a line does"
+  -- RULES, Class 2: the reader returns what the projector meant, for every command of a class no higher than the
+  -- set-up's; a line of a higher one gets no reply and changes nothing but what swallowing a line does
   pub record ByClass (d : R) (p : ℕ) (c : Command) (w : Wrote) (r : Lent R) : Type 0 where
     pub no_higher : command_class c ≤ (B.shows d).settings.class_number → ReadBack d p c w r
     pub higher : (B.shows d).settings.class_number < command_class c → IsSwallowed d p w r
@@ -137,7 +137,7 @@ Elsewhere B d (receives p bs m) q = q ≡ p → ⊥
 Elsewhere B d (passes n) q = ⊥
 Elsewhere B d c q = Unit {0}
 
--- what someone without the password gets, and leaves as it was
+-- what an outsider gets, and leaves as it was
 pub record RefusalOnly {R : Type 0} (B : Board R) (d : R) (p : ℕ) (out : Out R) : Type 0 where
   pub refusal : out.reply ≡ erra_line
   pub settings : (B.shows out.state).settings ≡ (B.shows d).settings
@@ -160,7 +160,7 @@ pub record SpeaksPjlink {R : Type 0} (B : Board R) : Type 0 where
       → length l ≤ command_most → reply_room ≤ length m
       → let bs = digest_for (B.shows d) p ++ l ++ codes "\r" in
       AnsweredAs B d p bs (answer_to (B.shows d) l) (B.receive d p bs m)
-  -- RULES, Class 2: an input's name, and eight around it; 103 holds of Class 1 (ClassOne)
+  -- RULES, Class 2: the longest reply has an input's name, and eight bytes around it; of Class 1 it has 103 (ClassOne)
   pub reply_short : (d : R) (p : ℕ) (bs m : List ℕ) → (B.receive d p bs m).length ≤ longest_reply
   -- "and the controller's reading of them": whatever line comes, what is read was said by it, and what it says is read;
   -- the ERRA line and no other is read as such, and nothing else is read in it
@@ -179,8 +179,8 @@ pub record SpeaksPjlink {R : Type 0} (B : Board R) : Type 0 where
       → BetweenLines phase_open (B.shows d) p → is_command c ≡ true → command_room ≤ length paper → reply_room
       ≤ length m
       → let w = B.write c false random password paper in ByClass B d p c w (B.receive d p (bytes_written w) m)
-  -- RULES, Connection: "its reading holds as well on an awaiting connection between lines, for a command led by the
-  -- matching digest"
+  -- RULES, What the product holds: the same holds on an awaiting connection between lines, for a command led by the
+  -- matching digest
   pub reads_back_secured : (d : R) (p : ℕ) (c : Command) (paper m : List ℕ)
       → BetweenLines phase_awaiting (B.shows d) p → is_command c ≡ true → command_room ≤ length paper → reply_room
       ≤ length m
@@ -190,29 +190,29 @@ pub record SpeaksPjlink {R : Type 0} (B : Board R) : Type 0 where
   pub names_read : (w : Wanted) → (B.set_up w).number ≡ 0
       → B.read_reply (Query Name) (codes "%1NAME=" ++ w.name ++ codes "\r") ≡ meaning (text_is w.name)
   -- "On a secured connection a first line without the matching digest yields the refusal line only; power, input, mutes
-  -- and lamps stay": whatever follows it, and however it all is cut
+  -- and lamps stay": whatever follows it, and however all of it is cut
   pub outsider_refused : (d : R) (p : ℕ) (l more m : List ℕ) (ps : List (List ℕ))
       → BetweenLines phase_awaiting (B.shows d) p → is_cr_free l ≡ true → is_led (B.shows d) p l ≡ false → reply_room
       ≤ length m
       → stream_of ps ≡ l ++ codes "\r" ++ more
       → RefusalOnly B d p (handed_on B m p d ps)
-  -- and over any calls, whoever else makes them: at a place that starts closed on a device with a password, so long as
-  -- no first line of a connection there is led by the digest of its opening's number
+  -- and over any calls, whoever else makes them: at a place that starts closed on a device with a password, if no first
+  -- line of a connection there is led by the digest of its opening's number
   pub outsider_has_no_say : (d : R) (p : ℕ) (cs : List Call) → is_legal (B.shows d) ≡ true
       → has_password (B.shows d).settings ≡ true → is_closed (connection_at (B.shows d) p) ≡ true
       → IsNeverMatched B p (set_up_password (B.shows d).settings) d unopened cs
       → NoSay B p d unopened cs
-  -- and where that holds of every place, the own part is what time and the host's calls make of it
+  -- and if that is so of every place, the own part is what time and the host's calls make of it
   pub outsiders_have_no_say : (d : R) (cs : List Call) → is_legal (B.shows d) ≡ true
       → has_password (B.shows d).settings ≡ true
       → ((p : ℕ) → p < places_count → is_closed (connection_at (B.shows d) p) ≡ true)
       → ((p : ℕ) → p < places_count → IsNeverMatched B p (set_up_password (B.shows d).settings) d unopened cs)
       → HostsAlone B d cs
-  -- RULES, The legal record, Connection and Time: what the other calls leave, where they are accepted
+  -- RULES, The legal record, Connection and Time: what the other calls leave, if they are accepted
   pub set_up_shows : (w : Wanted) → Leaves B (B.set_up w) (start_device w)
   pub opens : (d : R) (random : ℕ) (m : List ℕ) → (B.opening d random m).number ≡ 0
       → OpenedAs B d random (B.place_opened d random m) (B.opening d random m)
-  -- whatever bytes these are, a part of a line, a line or more, whoever sends them
+  -- any bytes, a part of a line, a line or more, whoever sends them
   pub receives : (d : R) (p : ℕ) (bs m : List ℕ) → (B.receive d p bs m).number ≡ 0
       → ReceivedAs B d p bs (B.receive d p bs m)
   pub closes : (d : R) (p : ℕ)
@@ -225,8 +225,8 @@ pub record SpeaksPjlink {R : Type 0} (B : Board R) : Type 0 where
   pub enables : (d : R) (lamp : ℕ) (mark : Bool)
       → Leaves B (B.set_mark d lamp mark)
       (with_own (B.shows d) (with_marks (B.shows d).own (set (B.shows d).own.enabled lamp (flag_of mark))))
-  -- what the greeting reader takes from the opening reply is what opening did, where some place is closed; it takes no
-  -- other line for a greeting
+  -- what the greeting reader reads from the reply of an opening is what the opening did, if some place is closed; it
+  -- reads no other line as a greeting
   pub greets_back : (d : R) (random : ℕ) (m : List ℕ) → is_legal (B.shows d) ≡ true
       → (q : ℕ) → q < places_count → is_closed (connection_at (B.shows d) q) ≡ true → reply_room ≤ length m
       → random < 2 ^ 32
@@ -234,12 +234,12 @@ pub record SpeaksPjlink {R : Type 0} (B : Board R) : Type 0 where
       let p = B.place_opened d random m in
       (r.number ≡ 0) × (B.read_greeting (reply r) ≡ greeted_on (connection_at (B.shows r.device) p))
   pub greeting_is : (l : List ℕ) → Exactly l (B.read_greeting l)
-  -- RULES, Connection: "Handed on until all is taken, with no time between, a stream gives the same reply bytes and end
-  -- state however it is cut"
+  -- RULES, Connection: passed on until all is taken, with no time between, a stream gives the same reply bytes and end
+  -- state however it is cut
   pub same_however_cut : (d : R) (p : ℕ) (m : List ℕ) (ps qs : List (List ℕ)) → is_legal (B.shows d) ≡ true
       → p < places_count → is_closed (connection_at (B.shows d) p) ≡ false → reply_room ≤ length m
       → stream_of ps ≡ stream_of qs
       → handed_on B m p d ps ≡ handed_on B m p d qs
-  -- RULES, Places: "One place's bytes never touch another's connection"
+  -- RULES, Places: one place's bytes never touch another's connection
   pub others_untouched : (d : R) (c : Call) (q : ℕ) → Elsewhere B d c q
       → connection_at (B.shows (after B d c)) q ≡ connection_at (B.shows d) q

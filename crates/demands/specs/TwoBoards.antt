@@ -1,10 +1,11 @@
 -- TWO BOARDS THAT MEET THE DEMANDS CAN'T BE TOLD APART by what they give and show: whatever each keeps beside the
 -- record that it shows, whatever call comes, on any record, legal or not, and with any bytes. So a board that did
--- anything of which no demand speaks would not meet them. Only a stored form that is loaded is said to be of bytes.
+-- anything that no demand covers would not meet them. Only a stored form that is loaded has to be of bytes.
 --   MeetsDemands B        the demands that decide it
 --   SameGiven B C r s     the number is the same, and the shown record
---   SameAfter B C b c cs  the calls cs each give the same, lent memory included, and leave the same shown record
---   AreAlike B C          each call of the one is the other's, where both show the same record
+--   SameAfter B C b c cs  the calls cs each give the same, the memory passed to them included, and leave the same shown
+--                         record
+--   AreAlike B C          each call gives the same on both, if both show the same record
 -- Assumes nothing.
 use Rattle.std.specs.List.{list_all}
 use Rattle.std.specs.Prelude.{ℕ, ◌≡◌, Bool, true, List}
@@ -37,7 +38,7 @@ module _ {R S : Type 0} (B : Board R) (C : Board S) where
     pub shown : B.shows (run B b cs) ≡ C.shows (run C c cs)
 
   pub record AreAlike : Type 0 where
-    -- any calls, one after another, at whatever places, accepted or refused
+    -- any calls, one after another, at any places, accepted or refused
     pub calls : (b : R) (c : S) → B.shows b ≡ C.shows c → (cs : List Call) → SameAfter b c cs
     pub set_ups : (w : Wanted) → SameGiven (B.set_up w) (C.set_up w)
     pub stores : (b : R) (c : S) → B.shows b ≡ C.shows c → (m : List ℕ) → B.store b m ≡ C.store c m

@@ -1,12 +1,12 @@
 -- Two runs of the sample set-up with a password that meet every premise of RULES, Places, on an outsider. Place 0 is
--- opened by someone who does not know the password, place 1 by someone who does, who powers on, and 20 seconds later
--- off. In the one run he at place 0 asks for power-on and has failed, in the other he sends five bytes and is still
--- awaited.
+-- opened by an outsider. Place 1 is opened by someone who knows the password, sets the power on, and 20 seconds later
+-- off. In one run the outsider at place 0 asks for power-on and has failed; in the other it sends five bytes and is
+-- still awaiting.
 --   fresh_secured      our board's record after that set-up
 --   led_on             power-on, led by the digest that place 1 awaits
---   calls_given bs     the calls, where the bytes bs are given to place 0: two openings, and calls_since bs, what both
---                      places say, with calls_later, what comes after the power-on
---   asking, waiting    what is given to place 0 in the one run and in the other
+--   calls_given bs     the calls, where place 0 gets the bytes bs: two openings, and calls_since bs, what both places
+--                      say, with calls_later, what comes after the power-on
+--   asking, waiting    the bytes that place 0 gets in the one run and in the other
 -- Assumes nothing.
 use Rattle.std.specs.Prelude.{ℕ, List, [], ◌∷◌, ◌++◌, codes}
 use Rattle.digest.specs.Hex.{leading_digest}

@@ -1,19 +1,19 @@
--- An outsider has no say (RULES, Places): "two runs from one fresh set-up with a password, with the same calls in the
--- same order, which differ only in the bytes given to one secured place, and where in neither run that place ever
--- matches its digest".
---   Alike p a b                    the same call, or receiving at place p with other bytes
---   AllAlike p xs ys               the same calls in the same order, but for the bytes given to place p
---   is_opening c, opens_none cs    the call c opens; no call of cs does
+-- An outsider has no say (RULES, Places): two runs from one fresh set-up with a password have the same calls in the
+-- same order, differ only in the bytes given to one secured place, and in neither run does that place ever match its
+-- digest.
+--   Alike p a b                    a and b are the same call, or both receive at place p, with other bytes
+--   AllAlike p xs ys               xs and ys are the same calls in the same order, but for the bytes given to place p
+--   is_opening c, opens_none cs    the call c is an opening; no call of cs is
 --   phase_at B p d                 the phase of place p
 --   QuietOnceApart B p d e xs ys   from any moment at which the two runs differ in the phase of place p, nobody opens
---   is_at_place p c                closing or receiving at place p: what it gives is that place's own answer
---   others_got B p d cs            what the calls cs give, one after another, those at place p left out
---   SameElsewhere B p d e          the device part, and every other place's connection, are the same
---   Unheard B                      the request
+--   is_at_place p c                the call c closes or receives at place p: what it gives is that place's own answer
+--   others_got B p d cs            what the calls cs give, one after another, without those at place p
+--   SameElsewhere B p d e          the device part, and every other place's connection, are the same in d and e
+--   Unheard B                      on the board B an outsider has no say
 -- What holds at the end of every two such runs holds at every moment: what came before is two such runs.
--- So someone on the network without the password can do nothing to the projector but take up places: each for 30
--- seconds, and for 30 more from a refused line on. Against that a host can close whoever stays silent (closing at a
--- place is its own call), or keep strangers off the network.
+-- So someone on the network without the password can do nothing to the projector but occupy places: each for 30
+-- seconds, and for 30 more after a refused line. Against that a host can close whoever stays silent (closing at a place
+-- is its own call), or keep strangers off the network.
 -- TO BELIEVE IT, believe, and nothing else: what a password is (`has_password` of device/specs/Calls), when a first
 -- line matches (`IsNeverMatched` of Outsider), ours/specs/Board, and here Calls.
 -- Assumes nothing.
@@ -68,7 +68,7 @@ others_got B p d [] = []
 others_got B p d (c ∷ cs) =
     if is_at_place p c then others_got B p (after B d c) cs else gave_by B d c ∷ others_got B p (after B d c) cs
 
--- ---- the request
+-- ---- the theorem
 
 pub record SameElsewhere {R : Type 0} (B : Board R) (p : ℕ) (d e : R) : Type 0 where
   pub device : SameDevicePart B d e

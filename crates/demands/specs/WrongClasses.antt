@@ -1,4 +1,5 @@
--- Wrong boards against demand 2, as to the class (RULES, Class 2); proofs/WrongBoardsFall.antt has where each falls.
+-- Wrong boards against demand 2, as to the class (RULES, Class 2). That each violates it is proved in
+-- proofs/WrongBoardsFall.antt.
 -- Assumes nothing.
 use Rattle.std.specs.Prelude.{◌&&◌, ◌++◌, take, drop, if◌then◌else◌, ◌==◌, codes}
 use Rattle.text.specs.Words.{◌is◌}
@@ -25,12 +26,12 @@ answers_class_2 = but_receive (λ d p bs m.
     }) m
     else r)
 
--- keeps the rule of Class 1 for the input that is told: a digit 1 to 9
+-- keeps the rule of Class 1 for the input that a reply says: a digit 1 to 9
 abbrev pub refuses_letters : Board Device
 refuses_letters = but_reader (λ c l.
     if is_same_by itself (reply_parameter l) (codes "6A") then outcome_alone disallowed else read_reply c l)
 
--- from the top, one step up is the bottom
+-- from the top, one step up leads to the bottom
 abbrev from_the_top : Device → Device → Device
 from_the_top before now =
     if before.own.speaker == volume_most && now.own.speaker == volume_most

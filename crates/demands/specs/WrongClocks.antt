@@ -1,5 +1,5 @@
--- Wrong boards against demand 3 (RULES, What the product holds and Readings that look right);
--- proofs/WrongBoardsFall.antt has where each falls.
+-- Wrong boards against demand 3 (RULES, What the product holds and Readings that look right). That each violates it is
+-- proved in proofs/WrongBoardsFall.antt.
 -- Assumes nothing.
 use Rattle.std.specs.Prelude.{ℕ, ◌*◌, ◌/◌, Bool, false, not, ◌&&◌, ◌||◌, List, map, if◌then◌else◌}
 use Rattle.record.specs.Limits.{is_lit}

@@ -1,5 +1,5 @@
--- Wrong boards against demand 2, as to who is let in and what the other calls do; proofs/WrongBoardsFall.antt has where
--- each falls.
+-- Wrong boards against demand 2, as to who is let in and what the other calls do. That each violates it is proved in
+-- proofs/WrongBoardsFall.antt.
 --   secured_sample    the sample set-up, with the password of the specification's example
 -- Assumes nothing.
 use Rattle.std.specs.Prelude.{ℕ, [], length, if◌then◌else◌, ◌==◌, codes}
@@ -42,7 +42,7 @@ ignores_password =
 abbrev pub greets_with_zero : Board Device
 greets_with_zero = but_opening (λ d random m. ours.opening d 0 m)
 
--- time lets him in at place 0 whose connection is in this phase
+-- letting time pass opens the connection at place 0 if it is in this phase
 abbrev time_lets_in : ℕ → Board Device
 time_lets_in phase = but_pass (λ d n.
     let r = ours.pass d n in
@@ -67,7 +67,7 @@ hides_faults = but_fault (λ d mark. record { number = (ours.set_fault d mark).n
 abbrev pub hides_errors : Board Device
 hides_errors = but_errors (λ d errors. record { number = (ours.set_errors d errors).number; device = d })
 
--- tells a byte taken by an opening
+-- an opening reports a byte as taken
 abbrev pub takes_at_opening : Board Device
 takes_at_opening = but_opening (λ d random m.
     let r = ours.opening d random m in

@@ -1,4 +1,5 @@
--- Wrong boards against demand 3 with marks (RULES, Lamps); proofs/WrongBoardsFall.antt has where each falls.
+-- Wrong boards against demand 3 with marks (RULES, Lamps). That each violates it is proved in
+-- proofs/WrongBoardsFall.antt.
 --   two_lamps     the sample set-up with two lamps
 --   one_rests     the second lamp's mark is cleared before the lamps burn for 100 seconds
 -- Assumes nothing.
@@ -22,7 +23,7 @@ one_rests = opens 0 memory ∷ enables 1 false ∷ says "%1POWR 1" ∷ passes 10
 abbrev having_marks : Device → List ℕ → Device
 having_marks d ms = with_own d (with_marks d.own ms)
 
--- time passes with these marks in the place of its own, which come back
+-- time passes with these marks instead of the device's own, which are put back afterwards
 abbrev passing_with : (Device → List ℕ) → Board Device
 passing_with marks = but_pass (λ d n.
     let r = ours.pass (having_marks d (marks d)) n in
@@ -35,7 +36,7 @@ burns_all_lamps = passing_with (λ d. all_marks d.settings.lamp_count)
 abbrev pub counts_disabled : Board Device
 counts_disabled = passing_with (λ d. set d.own.enabled 1 1)
 
--- as the lamps are switched on, each is enabled again
+-- when the lamps are switched on, each is enabled again
 abbrev switched_on : Device → Device → Device
 switched_on before now =
     if before.own.power == off && now.own.power == warming

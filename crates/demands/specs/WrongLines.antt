@@ -1,5 +1,5 @@
--- Wrong boards against demand 2, as to lines, their cuts and their reading (RULES, What the product holds and
--- "Readings that look right"); proofs/WrongBoardsFall.antt has where each falls.
+-- Wrong boards against demand 2, as to lines, their cuts and their reading (RULES, What the product holds and "Readings
+-- that look right"). That each violates it is proved in proofs/WrongBoardsFall.antt.
 -- Assumes nothing.
 use Rattle.std.specs.Prelude.{ℕ, suc, Bool, not, ◌&&◌, List, [], ◌∷◌, ◌++◌, map, length, take, drop, ◌==◌, codes}
 use Rattle.std.specs.Prelude.{if◌then◌else◌}
@@ -26,7 +26,7 @@ use Rattle.ours.specs.Board.{Board, Lent, ours, lent_by}
 use Rattle.record.specs.Given.{Given}
 use Rattle.demands.specs.OursBut.{but_receive, but_reader}
 
--- takes every byte, and says this to them
+-- takes every byte, and gives this reply to them
 abbrev always_replying : (List ℕ → List ℕ) → Board Device
 always_replying answer =
     but_receive (λ d p bs m. lent_by (record { number = 0; taken = length bs; reply = answer bs; device = d }) m)
@@ -93,7 +93,7 @@ upper_cases = retelling_by (λ r. record {
   device = r.device;
 })
 
--- forgets the collected bytes where it is handed none
+-- forgets the collected bytes if it is given none
 abbrev forgetting_at : Device → ℕ → List ℕ → List ℕ → Lent Device
 forgetting_at d p [] m =
     let none = with_place d d.own p (with_line (connection_at d p) empty_line) in
@@ -103,7 +103,7 @@ forgetting_at d p (b ∷ bs) m = ours.receive d p (b ∷ bs) m
 abbrev pub forgets_at_nothing : Board Device
 forgets_at_nothing = but_receive forgetting_at
 
--- takes a NAME reply in other letters than our projector's for the empty text
+-- reads a NAME reply in other letters than our projector's as the empty text
 abbrev empty_reading : ReadingOutcome → ReadAs
 empty_reading means_it = meaning (text_is [])
 empty_reading erra_said = outcome_alone erra_said
@@ -119,7 +119,7 @@ reads_our_names c l =
 abbrev pub others_nameless : Board Device
 others_nameless = but_reader reads_our_names
 
--- takes a power off from the ERRA line
+-- reads a power off from the ERRA line
 abbrev reads_off_at_erra_line : Command → List ℕ → ReadAs
 reads_off_at_erra_line c l =
     if is_same_by itself l erra_line then record { outcome = erra_said; said = power_is Off } else read_reply c l
@@ -137,7 +137,8 @@ are_apart a b = if a then not b else b
 abbrev turned_if : Bool → Own → Own
 turned_if t o = with_mutes o (flag_of (are_apart t (is_raised o.video_muted))) o.audio_muted
 
--- the picture goes dark as it begins to swallow a line, and comes back at that line's CR, not at a hang-up
+-- the picture goes dark when it begins to swallow a line, and comes back at that line's CR, but not when the line's
+-- connection closes
 abbrev pub darkens_swallowing : Board Device
 darkens_swallowing = but_receive (λ d p bs m.
     let r = ours.receive d p bs m in

@@ -1,7 +1,7 @@
--- Wrong boards against RULES, Places: each lets someone without the password have a say beyond his own place;
--- proofs/WrongBoardsFall.antt has where each falls.
+-- Wrong boards against RULES, Places: on each an outsider has a say beyond its own place. That each violates `Unheard`
+-- is proved in proofs/WrongBoardsFall.antt.
 --   fails_now d p e      the connection at place p was awaiting in d, and has failed in e
---   on_failure change    our board, but where a log-in fails the record is changed so
+--   on_failure change    our board, but when a first line does not match, the record is changed so
 -- Assumes nothing.
 use Rattle.std.specs.Prelude.{ℕ, ◌+◌, min, Bool, ◌&&◌, ◌||◌, List, [], set, length, if◌then◌else◌, slice_index_or, ◌==◌}
 use Rattle.text.specs.Words.{over}
@@ -30,7 +30,7 @@ on_failure change = but_receive (λ d p bs m.
       device = if fails_now d p r.device then change r.device p else r.device;
     })
 
--- closes the next place with it
+-- closes the next place too
 abbrev pub closes_next : Board Device
 closes_next = on_failure (λ d p. with_place d d.own (p + 1) closed)
 
@@ -40,8 +40,8 @@ counts_failures = on_failure (λ d p.
     let errors = d.own.errors in
     with_own d (with_errors d.own (set errors 5 (min error_most (slice_index_or errors 5 0 + 1)))))
 
--- the refusal line goes out at another place, the next that receives: beside the record it remembers whose refusal is
--- still owed, the number of places where none is
+-- the refusal line goes out at another place, the next that receives: beside the record the board remembers the place
+-- whose refusal is not sent yet, or the number of places if there is none
 abbrev Owing : Type 0
 Owing = Device × ℕ
 
@@ -57,7 +57,7 @@ owing_then r place = record {
   device = (r.device, place);
 }
 
--- with that line for the reply
+-- with that line as the reply
 abbrev replying_with : Lent Device → List ℕ → List ℕ → Lent Device
 replying_with r line m = record {
   number = r.number;

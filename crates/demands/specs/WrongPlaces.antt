@@ -1,4 +1,5 @@
--- Wrong boards with four places (RULES, Places); proofs/WrongBoardsFall.antt has where each falls.
+-- Wrong boards with four places (RULES, Places). That each violates a demand or `Interleaved` is proved in
+-- proofs/WrongBoardsFall.antt.
 --   besides X x receive     our board, with an X beside the record, x at first, that only receiving sees and changes
 -- Assumes nothing.
 use Rattle.std.specs.Prelude.{ℕ, List, if◌then◌else◌, ◌==◌}

@@ -1,4 +1,4 @@
--- Wrong boards against demand 1: what a refusal leaves; proofs/WrongBoardsFall.antt has where each falls.
+-- Wrong boards against demand 1: what a refusal leaves. That each violates it is proved in proofs/WrongBoardsFall.antt.
 -- Assumes nothing.
 use Rattle.std.specs.Prelude.{if◌then◌else◌, ◌==◌, codes}
 use Rattle.text.specs.Words.{over}

@@ -1,5 +1,5 @@
-//! The three demands, stated over any board and proved for ours. Definitions and laws only; there is no code here to
-//! link.
+//! The three demands, stated over any board and proved for ours. This crate has definitions and laws only, and no code
+//! to link.
 #![tactic(auto)]
 
 pub mod theorems;
@@ -15,7 +15,7 @@ ghost use Rattle.demands.specs.BoardSwap.{BoardSwap};
 ghost use Rattle.demands.specs.ClassOne.{ClassOneAlone};
 ghost use Rattle.demands.specs.Beside.{RandomKept, UnheardThroughout, UnheardAnyhow};
 
-/// Our board keeps the demands. Nothing is done: that it has this contract is that the theorems stand.
+/// Our board keeps the demands. The function does nothing: its contract is the theorems.
 pub fn ours_keeps_the_demands()
     ensures keeps_running { KeepsRunning ours }
     ensures speaks_pjlink { SpeaksPjlink ours }
@@ -26,7 +26,7 @@ pub fn ours_keeps_the_demands()
     ensures class_1_alone { ClassOneAlone ours }
 {}
 
-/// What our board keeps beside the demands. That an outsider is unheard needs its premise about openings.
+/// What our board keeps beside the demands. The last: without its premise about openings, an outsider is not unheard.
 pub fn ours_keeps_more()
     ensures random_number_kept { RandomKept ours }
     ensures unheard_throughout { UnheardThroughout ours }

@@ -1,5 +1,5 @@
-// What is proved beside the demands, and what our board does on the samples that they are tried on. Nothing is done
-// here: that these functions have their contracts is that the theorems stand.
+// What is proved beside the demands, and what our board does on the samples that they are tried on. The functions here
+// do nothing: their contracts are the theorems.
 ghost use Rattle.std.specs.Prelude.{◌≡◌, ◌<◌, ◌≤◌, true, false, ℕ, List, length, slice_index_or, codes};
 ghost use Rattle.pjlink.specs.declared.command.Command.{Command};
 ghost use Rattle.record.specs.Limits.{places_count, phase_awaiting, phase_failed, cooling};
@@ -24,8 +24,8 @@ ghost use Rattle.demands.specs.Unheard.{AllAlike, QuietOnceApart, phase_at};
 ghost use Rattle.demands.specs.WrongDoors.{secured_sample};
 ghost use Rattle.demands.specs.WrongLamps.{two_lamps, one_rests};
 
-/// Any two boards that meet the demands give and show the same, whatever else each keeps, and a Class 1 set-up of
-/// theirs is as it was. Ours is such a board.
+/// Any two boards that meet the demands give and show the same, whatever else each keeps, and each answers a Class 1
+/// set-up by Class 1 alone. Ours is such a board.
 pub fn boards_that_meet_the_demands_are_alike<R, S>()
     ensures ours_is_one { MeetsDemands ours }
     ensures alike { (B : Board R) (C : Board S) → MeetsDemands B → MeetsDemands C → AreAlike B C }
@@ -43,7 +43,7 @@ pub fn outsiders_read_erra()
         → read_reply c (received_at d p bytes room).reply ≡ outcome_alone erra_said }
 {}
 
-/// The lines that settle the rules are answered so, and those of Class 2 (RULES, Commands and Class 2).
+/// The lines that settle the rules, and those of Class 2, have these answers (RULES, Commands and Class 2).
 #[tactic(auto, using(crate::proofs::Settled::settled, crate::proofs::Settled::settled_class_2))]
 pub fn ours_settles()
     ensures class_1 { Settles ours }
@@ -58,7 +58,7 @@ pub fn the_longest_replies_are_reached()
     ensures class_2 { (ours.receive (opened_after long_named) 0 (codes "%2INNM ?11\r") memory).length ≡ longest_reply }
 {}
 
-/// Two lines at two places, each in halves by turns, are both answered, and what place 1 asks for is what place 0 did:
+/// Two lines at two places, sent in halves by turns, are both answered. Place 1 asks for the power that place 0 set:
 /// warm-up (RULES, Places).
 pub fn halves_by_turns_are_answered()
     ensures power_set { (heard ours 0 (two_opened ours) halves).replied ≡ with_cr "%1POWR=OK" }
@@ -71,8 +71,9 @@ pub fn a_disabled_lamp_stays_dark()
     ensures rests { slice_index_or (run_of ours sets_up two_lamps one_rests).own.lamps 1 0 ≡ 0 }
 {}
 
-/// That an outsider is unheard is said of some runs (RULES, Places): these two meet each premise, place 0 has failed in
-/// the one and is still awaited in the other, and in both the lamp burnt for the 20 seconds between what place 1 said.
+/// An outsider is unheard in runs that meet some premises (RULES, Places). These two runs meet each premise: place 0
+/// has failed in one and is still awaiting in the other, and in both the lamp burnt for the 20 seconds between the two
+/// commands of place 1.
 pub fn an_outsider_can_be_unheard()
     ensures accepted { (ours.set_up secured_sample).number ≡ 0 }
     ensures secured { has_password fresh_secured.settings ≡ true }

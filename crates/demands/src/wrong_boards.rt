@@ -1,5 +1,5 @@
-// The wrong boards, each ours but for what the clause's name says of it: none keeps what it was made against. Nothing
-// is done here: that these functions have their contracts is that the boards fall.
+// The wrong boards. Each is ours but for what the clause's name says of it, and none keeps the demand that it was made
+// against. The functions here do nothing: their contracts are that the boards violate the demands.
 ghost use Rattle.demands.specs.KeepsRunning.{KeepsRunning};
 ghost use Rattle.demands.specs.SpeaksPjlink.{SpeaksPjlink};
 ghost use Rattle.demands.specs.CountsSeconds.{CountsSeconds, TimeAdds};
@@ -58,14 +58,14 @@ pub fn wrong_doors_fall()
     ensures takes_a_byte_at_opening { SpeaksPjlink takes_at_opening → ⊥ }
 {}
 
-/// An outsider is unheard.
+/// That an outsider is unheard.
 pub fn wrong_outsiders_fall()
     ensures closes_the_next_place { Unheard closes_next → ⊥ }
     ensures counts_failed_log_ins { Unheard counts_failures → ⊥ }
     ensures refuses_at_another_place { Unheard refuses_elsewhere → ⊥ }
 {}
 
-/// Demand 3: the clock. One that stands still obeys the adding law, and falls to the history.
+/// Demand 3: the clock. A clock that does nothing meets the adding law, and violates what is said of the history.
 pub fn wrong_clocks_fall()
     ensures stands_still { CountsSeconds still_clock → ⊥ }
     ensures standing_still_adds { TimeAdds still_clock }

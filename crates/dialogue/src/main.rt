@@ -14,7 +14,7 @@ use setup::wanted::{Class, Wanted};
 use std::io;
 use std::io::{Stdout, Write};
 
-// A line or a reply without its CR, after a mark.
+// Writes the bytes that show the direction, then a line or a reply without its CR, and LF.
 fn write_line(out: &mut Stdout, mark: &[u8], line: &[u8]) -> io::Result<()> {
     out.write_all(mark)?;
     if 1 <= line.len() {

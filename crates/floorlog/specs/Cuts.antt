@@ -1,10 +1,12 @@
--- The last line of a log that cannot be played to its end (RULES, Floor log).
---   failure_line f      "the last line is `! read failed`, in the place of all that is printed at the end. Where the
---                       count of lines, of a line's bytes or of seconds could pass 64 bits it is `! broken off`"; of a
---                       failed write it goes to standard error
---   end_text told       what is written last: that line, and after a failed write nothing more
---   EndFails fails told e    the errors of what is written last: those of the sink, and after a failed write its own
---   number_line n       "A FORM that does not load prints one line, `! ` and its number"
+-- The last line of a log that cannot be replayed to its end (RULES, Floor log).
+--   failure_line f      the line for the failure f: "the last line is `! read failed`, instead of all that is printed
+--                       at the end. If the count of lines, of a line's bytes or of seconds could pass 64 bits, it is `!
+--                       broken off`". The line for a failed write goes to standard error
+--   end_text told       what is written last: that line if the replay failed, but nothing after a failed write
+--   EndFails fails told e    the error e may end this writing: one of the sink's, or after a failed write that error
+--                            itself
+--   number_line n       the line for a form that does not load: "A FORM that does not load prints one line, `! ` and
+--                       its number"
 -- Assumes nothing.
 use Rattle.std.specs.Prelude.{ℕ, ◌≡◌, List, [], ◌∷◌, codes, Ok, Err}
 use Rattle.std.specs.declared.result.Result.{Result}

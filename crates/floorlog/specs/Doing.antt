@@ -1,13 +1,14 @@
 -- What an event of a log does and what is printed for it, by the definitions of the calls (RULES, Floor log).
---   log_place           the place that a log drives (RULES, Places)
---   opened_in_log d r   opening there: a second `O` is refused with 5, by the replay's own test; else the device's
---                       opening, which takes that place (proofs/OnePlace.antt)
+--   log_place           the place at which a log's events happen (RULES, Places)
+--   opened_in_log d r   the opening of a connection there: a second `O` is refused with 5, by the replay's own test;
+--                       any other is the device's opening, which takes that place (proofs/OnePlace.antt)
 --   event_result d e    what the event e does to the device d: the call's number, its reply and the record that it
 --                       leaves
 --   result_text e r     what is printed for an event with that result: the reply without its CR, `-` for none, `! ` and
 --                       the number of a refusal, or `?` for a line of no such form
---   event_answer e r    the number that the call of an event with that result gives; None of a line of no form
---   printed_line n e r  the line number n, a space, that, and LF
+--   event_answer e r    the number of an event's call with that result; None for a line of no form
+--   printed_line n e r  the printed line: the line number n, a space, what is printed for the event e with the result
+--                       r, and LF
 -- Assumes nothing.
 use Rattle.std.specs.Prelude.{ℕ, not, List, [], ◌∷◌, ◌++◌, if◌then◌else◌, ◌==◌, codes}
 use Rattle.std.specs.Prelude.{Some, None}
@@ -29,7 +30,7 @@ changed_to c = record { number = c.number; taken = 0; reply = []; device = c.dev
 abbrev pub log_place : ℕ
 log_place = 0
 
--- 5 stands where the table of opening had it; its 2 never applies, as a line is printed where there is room
+-- 5 is where the table of opening has it; its 2 never applies, as a line is printed into enough room
 abbrev pub log_opening_rows : Device → List NumberRow
 log_opening_rows d = (1 when not (is_legal d)) ∷ (5 when not (is_closed (connection_at d log_place))) ∷ []
 

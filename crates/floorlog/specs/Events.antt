@@ -1,14 +1,15 @@
--- A log as events, one a line (RULES, Floor log: "one event a line").
---   LogEvent           a connection opened with a random number; bytes received; seconds passed; the connection closed;
---                      or a line of no such form, which changes nothing
---   event_said e       the same of an event as the code has it
---   log_line_most          the most bytes of a line, without its LF
---   l starts "O"       the line has that letter, a space and perhaps more
+-- A log as events, one a line (RULES, Floor log).
+--   LogEvent           an event: a connection opened with a random number; bytes received; seconds passed; the
+--                      connection closed; or a line that has none of these forms, which changes nothing
+--   event_said e       the event e of the code, as a LogEvent
+--   log_line_most          how many bytes a line has at most, without its LF
+--   l starts "O"       the line l begins with that letter and a space
 --   random_said s      `O`: s is eight lowercase hex digits, the random number
 --   seconds_said s     `T`: s is one to ten decimal digits of a number of seconds, at most 4,294,967,295
---   form_said l        which of the four forms l has: a text is received with a CR after it
---   event l            the same, for a line that has at most `log_line_most` bytes and no CR in it; else no such form
---   events log         those of a log
+--   form_said l        the event of l by which of the four forms it has: a text is received with a CR after it
+--   event l            the event of the line l: that, if it has at most `log_line_most` bytes and no CR in it, else one
+--                      of no form
+--   events log         the events of a log
 -- Assumes nothing.
 use Rattle.std.specs.List.{list_all}
 use Rattle.std.specs.Prelude.{ℕ, Bool, ◌&&◌, List, ◌++◌, length, map, drop, codes, if◌then◌else◌, nat_le, ◌==◌}

@@ -1,7 +1,7 @@
 -- What is kept of a line of a log.
---   kept_most             so many bytes are kept of a line, which are all of one that has a form
+--   kept_most             how many bytes are kept of a line: all of one that has a form
 --   kept l                what is kept of the line l
---   kept_lines log        of each line of a log what is kept
+--   kept_lines log        what is kept of each line of a log
 -- Assumes nothing.
 use Rattle.std.specs.Prelude.{ℕ, List, map, take}
 use Rattle.textio.specs.Lines.{LogLine, lines_in}

@@ -1,6 +1,6 @@
--- What a clause reads of a `KeptLine`.
+-- What the clauses say of a `KeptLine`.
 --   kept_text k     what is kept of the line
---   kept_line k     this, and whether an LF ended the line
+--   kept_line k     what is kept of the line, and whether an LF ended it
 -- Assumes nothing.
 use Rattle.std.specs.Prelude.{ℕ, List, take}
 use Rattle.textio.specs.Lines.{LogLine}

@@ -1,7 +1,8 @@
--- Of which kind a log is (RULES, Floor log: "a log whose first line begins with `LOG ` is the history of a board").
---   begins_history l        the line l begins so
---   is_history ls           the first of the lines ls does; a log of no line is no history
---   is_history_from k ls    the same where the lines before ls have told k
+-- The kind of a log (RULES, Floor log): a log whose first line begins with `LOG ` is the history of a board.
+--   begins_history l        the line l begins with `LOG `
+--   is_history ls           a log of the lines ls is a history: the first begins so; a log of no line is no history
+--   is_history_from k ls    a log is a history, if the lines before ls say that it is of the kind k; if there are none,
+--                           ls says
 -- Assumes nothing.
 use Rattle.std.specs.Prelude.{ℕ, Bool, true, false, ◌&&◌, List, [], ◌∷◌}
 use Rattle.text.specs.Words.{◌is◌}

@@ -1,6 +1,6 @@
--- The last line that is printed for a log (RULES, Floor log: "after the last, one line with power and lamp seconds").
---   last_line_of power lamps  the line
---   last_device_line d        that of a device
+-- The last line that is printed for a log: the power and the lamps' seconds (RULES, Floor log).
+--   last_line_of power lamps  the line for this power and these lamps
+--   last_device_line d        the line for the device d
 -- Assumes nothing.
 use Rattle.std.specs.Prelude.{ℕ, List, ◌++◌, take, codes}
 use Rattle.record.specs.declared.types.Device.{Device}

@@ -1,11 +1,13 @@
--- A log observed line by line, by someone of whom `output`, `Leaves` and `Overflows` are known.
---   Observes .. before after line old new    a line leaves `after` of `before`: a text is written, and with it what
---                                            comes then is what would have come with the line
+-- A log observed line by line, by an observer of which `output`, `Leaves` and `Overflows` are given.
+--   Observes .. before after line old new    the line takes the observer from `before` to `after`: a text is written,
+--                                            and it and what comes then are what comes of the line and those after it
 --   BreaksOff .. before after log left old new
---                                            all lines are told that have ended in what was read of the log, where this
---                                            is left: what comes of them is written, and after them nothing
---   FailsOn fails over f                     the failure f of a line is an error of the sink, or what comes overflows
---   CannotFollow Overflows s log             the log is too long, or has more in it than can be counted
+--                                            the observer got each line that has ended in what was read of the log,
+--                                            of which `left` is left: what comes of these lines is written, and
+--                                            nothing after it
+--   FailsOn fails over f                     the failure f of a line is an error of the sink, or the lines have too
+--                                            much in them
+--   CannotFollow Overflows s log             the log is too long, or it has more in it than the observer can count
 -- Assumes nothing.
 use Rattle.std.specs.Prelude.{ℕ, ◌≡◌, ◌≢◌, ◌⊎◌, All, List, [], ◌∷◌, ◌++◌}
 use Rattle.std.specs.declared.option.Option.{Option}

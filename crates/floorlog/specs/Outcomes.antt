@@ -1,10 +1,10 @@
 -- What an event of a log comes to, and how it is printed (RULES, Floor log).
 --   reply_text s           what is printed for the reply s: "the reply without CR, or `-` for none"
 --   refusal_shown n        "`! ` and the number of a refusal"
---   outcome_text o m       what is printed for what an event came to, where its reply stands at the front of m
---   answer_of o            the number that its call gives; None of a line of no form
---   IsReplyWithin o n      a reply has at most so many bytes
---   printed_most           a printed line never needs more room, nor does the last one
+--   outcome_text o m       what is printed for the outcome o, where its reply is at the start of m
+--   answer_of o            the number of its call; None for a line of no form
+--   IsReplyWithin o n      its reply, if any, has at most n bytes
+--   printed_most           how many bytes a printed line has at most; the last line has no more
 -- Assumes nothing.
 use Rattle.std.specs.Prelude.{ℕ, ◌-◌, ◌≤◌, List, ◌++◌, length, take, if◌then◌else◌, ◌==◌, codes}
 use Rattle.std.specs.Prelude.{Some, None}

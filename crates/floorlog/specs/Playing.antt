@@ -1,6 +1,6 @@
 -- What a log does and what is printed for it, event by event (RULES, Floor log).
 --   state_after d es    the device after these events
---   lines_printed n d es what is printed for them, the first being line n + 1
+--   lines_printed n d es what is printed for these events, from the device d on; the first is line n + 1
 --   sample_device       the sample set-up: W 20, C 60, one lamp at 0 s, input 11, texts empty, no password
 --   replay_text d log   all that is printed for a log that begins with the device d
 -- Assumes nothing.

@@ -1,7 +1,7 @@
--- A whole log played back (RULES, Floor log).
---   IsReplayed d log ..   the sink got all that is printed for the log from the device d, and so the device is after it
+-- A whole log replayed (RULES, Floor log).
+--   IsReplayed d log ..   the sink got all that is printed for the log from the device d, and the device is as after it
 --   IsPlayedSoFar d log left ..   the sink got what is printed for each line that has ended in what was read of the
---                         log, where this is left, and nothing after them
+--                                 log, of which `left` is left, and nothing after it
 -- Assumes nothing.
 use Rattle.std.specs.Prelude.{ℕ, List, ◌≡◌, ◌≢◌, ◌++◌, All, map}
 use Rattle.std.specs.declared.option.Option.{Option}

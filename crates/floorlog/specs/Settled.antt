@@ -1,7 +1,7 @@
 -- Logs and what the replay prints for them, on the sample set-up (RULES, Floor log).
---   l prints t         for the log l the text t is printed
---   log_rows           such logs
---   ArePrinted rows    each row holds
+--   l prints t         the text t is printed for the log l
+--   log_rows           the worked logs
+--   ArePrinted rows    what each row says is so
 -- Assumes nothing.
 use Prim.Native.String.{String}
 use Rattle.std.specs.Prelude.{◌≡◌, List, [], ◌∷◌, codes}
@@ -15,8 +15,8 @@ pub record PrintedLog : Type 0 where
 abbrev pub ◌prints◌ : String → String → PrintedLog
 l prints t = record { log = l; text = t }
 
--- the page's own log, its last line without LF; no line; a place that nobody is at, opened twice, a swallowed line, and
--- closed; lines of no form: empty, too few digits, in upper case, none after `T`, more than is passed, one lamp's mark
+-- the log of RULES, its last line without LF; no line; a closed place, one opened twice, a line that is swallowed, and
+-- a closing; lines of no form: empty, too few digits, in upper case, none after `T`, too great a number, a lamp's mark
 abbrev pub log_rows : List PrintedLog
 log_rows =
     ("O 00000000\nR %1POWR 1\nT 3600\nR %1LAMP ?" prints

@@ -1,7 +1,8 @@
--- The seconds of an event, and what is left of the places.
+-- The seconds of an event, and what it leaves of the places.
 --   seconds_of e        the seconds that an event lets pass
---   places_after legal n cs   the connections after n seconds of a record of which it is known whether it is legal
---   Drives n d after    the other places of the record after are those of d, n seconds later (RULES, Floor log)
+--   places_after legal n cs   the connections after n seconds, if the record is legal; else as they are
+--   Drives n d after    the places of the record `after` are those of d, n seconds later, but for the place of the log
+--                       (RULES, Floor log)
 -- Assumes nothing.
 use Rattle.std.specs.Prelude.{ℕ, ◌≡◌, Bool, List, map, set, if◌then◌else◌}
 use Rattle.record.specs.Legal.{is_legal}

@@ -1,13 +1,14 @@
--- What of a log of the first kind is not played: lines that are not understood, and calls that are refused (RULES, The
--- programs).
---   begins_as_history l   the line begins as a header, an opening or a stated line of a history
---   why_misread l         why the line l, which has no form, has none: the first of these that holds of it
---   misread_words w       what is said of that, behind the number of the line
---   line_noted u n w c         u after line n, of which the call gave c, or which has no form, for the reason w
+-- What of a floor log is not played: lines that are not understood, and calls that are refused (RULES, The programs).
+--   begins_as_history l   the line l begins as a header, an opening or a stated line of a history
+--   why_misread l         why the line l, which has no form, has none: the first reason that is true of it
+--   misread_words w       what is said of the reason w, after the number of the line
+--   line_noted u n w c         u after line n, whose call gave the number c; a line of no form has no c, and the reason
+--                              w
 --   SaidLine, said_line   a line by what it says, and why it would say nothing
---   unplayed_by .. u n d ls   u after these lines, the first being line n + 1, from the device d on: of each the call
---                         gives `answer`, and leaves `next`
---   answer d e            the number that the call of an event gives;    left_by_event d e   the device that it leaves
+--   unplayed_by .. u n d ls   u after these lines, the first of which is line n + 1, from the device d on; the call of
+--                             each gives `answer`, and leaves `next`
+--   answer d e            the number of the event's call; None for a line of no form;    left_by_event d e   the device
+--                         that it leaves
 --   unplayed_of d log     what of a log is not played, from the device d on
 --   unplayed_text u       the words for it: whether there are lines of a history, then the lines that were not
 --                         understood, then the calls that were refused, if any, with the first of each
@@ -39,7 +40,7 @@ begins_stated l = l at 0 is "S" && l at 1 is " " && l at 2 from "0" to "9"
 abbrev pub begins_as_history : List ℕ → Bool
 begins_as_history l = begins_history l || begins_opening l || begins_stated l
 
--- UTF-8's mark, which some editors put before a text
+-- UTF-8's byte order mark, which some editors put before a text
 abbrev pub has_byte_order_mark : List ℕ → Bool
 has_byte_order_mark l = l at 0 == 239 && l at 1 == 187 && l at 2 == 191
 

@@ -1,4 +1,4 @@
-// The last line of a log that cannot be played to its end (RULES, Floor log).
+// The last line of a log that cannot be replayed to its end (RULES, Floor log).
 ghost use Rattle.std.specs.Prelude.{[], List, ℕ, ◌≡◌, ◌≢◌, ◌++◌, OnOk, Err};
 ghost use Rattle.std.specs.declared.io.Error.{Error};
 ghost use Rattle.textio.specs.Fronts.{WritesText};
@@ -11,7 +11,8 @@ use textio::forms::fill;
 use textio::lines::Failure;
 use textio::writer::{ByteSink, put};
 
-/// What stands last for a failure. No log that is played back ends so by itself.
+/// Returns the line that is written last for a failure. The output of a log that is replayed to its end never ends with
+/// it.
 pub fn last_line(failure: &Failure) -> &'static [u8]
     ensures line { result.now ≡ failure_line failure.now }
     ensures no_log { (d : Device) (log before : List ℕ) → replay_text d log ≢ before ++ result.now }
@@ -23,8 +24,8 @@ pub fn last_line(failure: &Failure) -> &'static [u8]
     }
 }
 
-/// What stands last where a log was cut short, and all that waits is handed on. After a failed write nothing is
-/// written, since more output would hide what is missing: its error is given back.
+/// Ends the output: writes the last line of a failed replay, and flushes the sink. After a failed write it writes
+/// nothing, since more output would hide what is missing, and returns the error of that write.
 pub fn end_output<W: ByteSink>(told: Result<(), Failure>, to: &mut W) -> io::Result<()>
     ensures text { WritesText (EndFails W.fails_with told) (W.contents to.old) (W.contents to.new) result
         (end_text told) }
@@ -41,7 +42,7 @@ pub fn end_output<W: ByteSink>(told: Result<(), Failure>, to: &mut W) -> io::Res
     }
 }
 
-/// The one line for a form that does not load.
+/// Writes the one line for a stored form that does not load: `! ` and its number. Flushes the sink.
 pub fn tell_number<W: ByteSink>(to: &mut W, number: u32) -> io::Result<()>
     ensures text { WritesText W.fails_with (W.contents to.old) (W.contents to.new) result (number_line number) }
     ensures none_waits { OnOk result (W.waiting to.new ≡ []) }

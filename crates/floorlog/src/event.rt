@@ -1,5 +1,5 @@
-// One event of a log: what it does, and what is printed for it. The record is lent with what its one test said, and no
-// record is tested here.
+// One event of a log: what it does, and what is printed for it. The record was tested where the log began; no record is
+// tested here.
 ghost use Rattle.std.specs.Prelude.{◌≡◌, List, [], ℕ, Some};
 ghost use Rattle.text.specs.Words.{over};
 ghost use Rattle.device.specs.Calls.{reply_room, received_at, closed_by};
@@ -24,18 +24,18 @@ pub enum Event<'a> {
     Opens(u32),
     /// These bytes are received.
     Receives(&'a [u8]),
-    /// So many seconds pass.
+    /// This many seconds pass.
     Passes(u32),
     /// The connection closes.
     Closes,
-    /// The line has none of these forms, and nothing happens.
+    /// The line has none of these forms. Nothing happens.
     NoSuch,
 }
 
-/// The place that a log drives (RULES, Floor log).
+/// The place at which a log's events happen (RULES, Floor log).
 pub const LOG_PLACE: usize = 0;
 
-// Opening at that place, where it is closed: then it is the lowest closed place, which the device takes.
+// Opens a connection at that place, if it is closed: then it is the lowest closed place, which the device takes.
 #[tactic(auto, using(crate::proofs::LogOpenings::log_opened_again, crate::proofs::LogOpenings::log_opened_closed))]
 fn open(legal: &mut Legal<'_>, random: u32, reply: &mut [u8; REPLY_ROOM]) -> EventOutcome
     ensures same_reference { legal.new.device.ghost_name ≡ legal.old.device.ghost_name }
@@ -83,7 +83,7 @@ fn close(legal: &mut Legal<'_>) -> EventOutcome
     }
 }
 
-// An event on a legal record.
+// Makes an event's call on a legal record.
 #[tactic(auto, unfolding(crate::specs::Doing::event_result), using(device::proofs::EnoughRoom::closing_quiet))]
 fn call_legal(
     legal: &mut Legal<'_>,
@@ -111,8 +111,8 @@ fn call_legal(
     }
 }
 
-/// An event on any record; its reply stands at the front of the memory. A record that is not legal is refused where the
-/// line has a form.
+/// Makes an event's call on any record. Its reply is at the start of `reply`. On a record that is not legal, each event
+/// but `NoSuch` is refused with `NotLegal`.
 pub fn call(tested: &mut Tested, event: &Event<'_>, reply: &mut [u8; REPLY_ROOM]) -> EventOutcome
     ensures within { IsReplyWithin result reply_room }
     ensures text { outcome_text result reply.new
@@ -135,7 +135,7 @@ pub fn call(tested: &mut Tested, event: &Event<'_>, reply: &mut [u8; REPLY_ROOM]
     }
 }
 
-/// The seconds that an event lets pass.
+/// Returns the seconds that an event lets pass.
 pub fn seconds_of(event: &Event<'_>) -> u32
     ensures { result ≡ seconds_of (event_said event.now) }
 {
@@ -145,8 +145,8 @@ pub fn seconds_of(event: &Event<'_>) -> u32
     }
 }
 
-/// An event, and its printed line. Returns the number that its call gives, 0 where it was served; none of a line of no
-/// form.
+/// Makes an event's call, and puts its printed line, which begins with `number`, in `out`. Returns the call's number, 0
+/// if it was served; `None` if the line has no form.
 #[tactic(auto, unfolding(crate::specs::Doing::printed_line))]
 pub fn print(tested: &mut Tested, number: u64, event: &Event<'_>, out: &mut Printed) -> Option<u32>
     requires { out.old.items ≡ [] }

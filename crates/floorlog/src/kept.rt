@@ -14,13 +14,13 @@ use textio::lines::{Failure, LineRead};
 use textio::reader::{BufferedReader, ByteSource};
 use textio::writer::ByteSink;
 
-// of a longer line one byte more is kept, which tells it from the others
+// one byte more of a longer line, by which it is known to be longer
 const KEPT_MOST: usize = LOG_LINE_MOST + 1;
 
-// that, and the CR with which a text is received
+// that, and the CR with which an `R` line's text is received
 const KEPT_ROOM: usize = 4098;
 
-// The next line of a log, from the start of the memory: what is kept of it, if there is one.
+// Reads the next line of a log into the memory, from its start. Returns what is kept of it, if there is one.
 fn read_line<R: ByteSource, W: ByteSink>(
     from: &mut BufferedReader<R>,
     to: &mut W,
@@ -40,7 +40,7 @@ fn read_line<R: ByteSource, W: ByteSink>(
     lines::next_line(from, to, &mut line[..KEPT_MOST])
 }
 
-// A CR behind the line that the memory holds.
+// Puts a CR after the line that the memory holds.
 fn put_cr(line: &mut [u8; KEPT_ROOM], held: usize)
     requires { held ≤ kept_most }
     ensures line { take held line.new ≡ take held line.old }
@@ -49,8 +49,8 @@ fn put_cr(line: &mut [u8; KEPT_ROOM], held: usize)
     line[held] = b'\r';
 }
 
-/// A line of a log, without its LF: all of it, or as much as tells that it has no form; and whether an LF ended it. A
-/// CR stands behind it, with which a text is received.
+/// A line of a log, without its LF: all of it, or as much as shows that it has no form; and whether an LF ended it. A
+/// CR follows it, with which a text is received.
 #[derive(Drop)]
 pub struct KeptLine {
     bytes: [u8; KEPT_ROOM],
@@ -64,7 +64,7 @@ impl KeptLine {
     ghost use Rattle.floorlog.specs.KeptText.{kept_text, kept_line};
     ghost use Rattle.floorlog.specs.Events.{event_said, event};
 
-    /// Before a line is read.
+    /// Returns the line before any is read: it has no byte.
     pub fn new() -> KeptLine
         ensures { kept_text result ≡ [] }
     {
@@ -75,28 +75,28 @@ impl KeptLine {
         }
     }
 
-    /// What is kept of it.
+    /// Returns what is kept of the line.
     pub fn text(&self) -> &[u8]
         ensures { result.now ≡ kept_text self.now }
     {
         &self.bytes[..self.held]
     }
 
-    /// Whether an LF ended it. Only the last line of a log may have none, where it may have been cut.
+    /// Returns whether an LF ended the line. Only the last line of a log may have none; it may then have been cut.
     pub fn is_ended(&self) -> bool
         ensures { result ≡ (kept_line self.now).ended }
     {
         self.ended
     }
 
-    /// Its event.
+    /// Returns the event of the line.
     pub fn event(&self) -> Event<'_>
         ensures { event_said result ≡ event (kept_text self.now) }
     {
         line::read(&self.bytes[..self.held + 1])
     }
 
-    /// The next line of a log in its place, if there is one.
+    /// Reads the next line of a log in place of this one. Returns whether there is one.
     pub fn read<R: ByteSource, W: ByteSink>(
         &mut self,
         from: &mut BufferedReader<R>,

@@ -1,4 +1,4 @@
-// A log of either kind observed: its first line tells which it is.
+// A log of either kind observed. Its first line says of which kind it is.
 ghost use Rattle.std.specs.Prelude.{◌≡◌, ◌∷◌, [], List, MatchBool, if◌then◌else◌};
 ghost use Rattle.textio.specs.Lines.{LogLine};
 ghost use Rattle.floorlog.specs.KeptText.{kept_line};
@@ -10,27 +10,28 @@ use std::io;
 use textio::lines::Failure;
 use textio::writer::ByteSink;
 
-/// Of which kind a log is.
+/// The kind of a log.
 #[derive(Clone, Copy)]
 pub enum LogKind {
-    /// No line has come yet.
+    /// No line has been read yet.
     Unbegun,
-    /// The first kind: events at place 0, one a line.
+    /// A floor log: events at place 0, one a line.
     Events,
     /// The second kind: the history of a board.
     History,
 }
 
-/// Two observers, of which the first line of a log chooses one: that of histories, if it begins with `LOG `.
+/// Two observers. The first line of a log chooses one of them: that of histories if it begins with `LOG `.
 #[derive(Drop)]
 pub struct ByKind<A, B> {
-    /// The observer of a log of the first kind.
+    /// The observer of a floor log.
     pub events: A,
     /// The observer of a history.
     pub history: B,
     kind: LogKind,
 }
 
+/// Returns whether a line begins with `LOG `, as the first line of a history does.
 #[tactic(auto, unfolding(crate::specs::Kinds::begins_history))]
 pub(crate) fn begins_history(line: &[u8]) -> bool
     ensures { result ≡ begins_history line.now }
@@ -42,7 +43,7 @@ pub(crate) fn begins_history(line: &[u8]) -> bool
 }
 
 impl LogKind {
-    // Whether the log is a history, where this is its next line.
+    // Returns whether the log is a history if this is its next line.
     fn is_history(self, line: &KeptLine) -> bool
         ensures { (ls : List LogLine) → result ≡ is_history_from self (kept_line line.now ∷ ls) }
     {
@@ -55,7 +56,7 @@ impl LogKind {
 }
 
 impl<A: Observer, B: Observer> ByKind<A, B> {
-    /// Before the first line.
+    /// Returns the two observers before the first line.
     pub fn new(events: A, history: B) -> ByKind<A, B>
         ensures observers { (result.events ≡ events) × (result.history ≡ history) }
         ensures kind { result.kind ≡ LogKind.Unbegun }
@@ -67,7 +68,7 @@ impl<A: Observer, B: Observer> ByKind<A, B> {
         }
     }
 
-    /// Whether the log is a history. Before its first line it is none.
+    /// Returns whether the log is a history. Before its first line it is none.
     pub fn is_history(&self) -> bool
         ensures { result ≡ is_history_from self.now.kind [] }
     {

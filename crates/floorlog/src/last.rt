@@ -6,7 +6,7 @@ use crate::outcome::Printed;
 use history::shown;
 use record::types::Device;
 
-/// The last line for a device.
+/// Puts the last line for a device in `out`.
 #[tactic(auto, using(history::proofs::ShownFits::shown_lengths), unfolding(crate::specs::LastLine::last_line_of))]
 pub fn put_last(device: &Device, out: &mut Printed)
     requires { out.old.items ≡ [] }

@@ -1,5 +1,5 @@
 //! The floor log (RULES, Floor log): what a line of it says, what its event does to the record and what is printed for
-//! it; a whole log played back, from any source of bytes to any sink; and the last line of one that cannot be played to
+//! it; a whole log replayed, from any source of bytes to any sink; and the last line of one that cannot be replayed to
 //! its end.
 #![tactic(auto)]
 
@@ -33,7 +33,7 @@ use textio::lines::Failure;
 use textio::reader::{BufferedReader, ByteSource};
 use textio::writer::ByteSink;
 
-/// The sample set-up, every place closed.
+/// Returns the sample set-up, every place closed.
 #[tactic(auto, unfolding(crate::specs::Playing::sample_device), using(crate::proofs::Samples::sample))]
 pub fn sample() -> Device
     ensures sample { result ≡ sample_device }
@@ -45,9 +45,9 @@ pub fn sample() -> Device
     device
 }
 
-/// The log that a reader has left, played from a device, which need not be legal; what its lines are answered, and the
-/// line of power and lamps, go to a sink. It gives the device after the log. What is printed is handed on before each
-/// read, which may wait.
+/// Replays the log that is left in a reader, from a device, which need not be legal. Writes what each line is answered,
+/// and last the line of power and lamps. Flushes the sink before each read, which may wait. Returns the device after
+/// the log, or the failure that ended it.
 pub fn replay<R: ByteSource, W: ByteSink>(
     begun: Device,
     from: &mut BufferedReader<R>,

@@ -6,7 +6,7 @@ ghost use Rattle.floorlog.specs.Events.{event_said, log_line_most, random_said, 
 
 use crate::event::Event;
 
-/// The most bytes of a line, without its LF.
+/// How many bytes a line has at most, without its LF.
 pub const LOG_LINE_MOST: usize = 4096;
 
 const SECONDS_MOST: u64 = 4294967295;
@@ -23,7 +23,7 @@ fn are_hex_digits(s: &[u8]) -> bool
     s.iter().all(|b| is_hex_digit(*b))
 }
 
-// Eight lowercase hexadecimal digits.
+// Reads eight lowercase hexadecimal digits.
 #[tactic(auto, unfolding(crate::specs::Events::random_said))]
 fn random_said(s: &[u8]) -> Event<'_>
     ensures { event_said result ≡ random_said s.now }
@@ -34,7 +34,7 @@ fn random_said(s: &[u8]) -> Event<'_>
     Event::NoSuch
 }
 
-// One to ten decimal digits, of a number that a u32 can hold.
+// Reads one to ten decimal digits of a number that a u32 can hold.
 #[tactic(auto, unfolding(crate::specs::Events::seconds_said))]
 fn seconds_said(s: &[u8]) -> Event<'_>
     ensures { event_said result ≡ seconds_said s.now }
@@ -48,14 +48,14 @@ fn seconds_said(s: &[u8]) -> Event<'_>
     }
 }
 
-// Whether it is no longer than a line can be.
+// Returns whether it has no more bytes than a line can have.
 fn is_short(l: &[u8]) -> bool
     ensures { result ≡ nat_le (length l.now) log_line_most }
 {
     l.len() <= LOG_LINE_MOST
 }
 
-/// The event of a line, without its LF, that is lent with a CR behind it: a text is received with that.
+/// Returns the event of a line. `line` is the line without its LF, followed by a CR, with which a text is received.
 #[tactic(auto, unfolding(crate::specs::Events::event, crate::specs::Events::form_said))]
 pub fn read(line: &[u8]) -> Event<'_>
     ensures { (l : List ℕ) → line.now ≡ l ++ codes "\r" → event_said result ≡ event l }

@@ -1,5 +1,4 @@
-// A log observed: its lines handed on one after the other, from any source of bytes, and what is made of them written
-// to any sink.
+// A log observed: an observer is given its lines one after the other, from any source of bytes, and writes to any sink.
 ghost use Rattle.std.specs.Prelude.{[], ◌∷◌, ◌≡◌, ℕ, List, OnOk, OnErr, IfErr, IfSome};
 ghost use Rattle.std.specs.Io.KnownBytes.{Appends};
 ghost use Rattle.textio.specs.Fronts.{WritesFront, WritesText};
@@ -16,19 +15,19 @@ use textio::lines::Failure;
 use textio::reader::{BufferedReader, ByteSource};
 use textio::writer::ByteSink;
 
-/// Who is told the lines of a log, and writes what comes of them.
+/// Receives the lines of a log, and writes what comes of them.
 pub trait Observer {
-    /// What is written for the lines that are left, and at their end. Each line comes as it is kept, with whether an LF
+    /// What is written for the lines that are left, and at their end. A line is what is kept of it, and whether an LF
     /// ended it.
     ghost output: { Self → List LogLine → List ℕ };
 
-    /// It is left so by these lines.
+    /// These lines leave the observer so.
     ghost leaves: { Self → List LogLine → Self → Type 0 };
 
-    /// It cannot count all that is to be counted in these lines.
+    /// These lines have more in them than the observer can count.
     ghost overflows: { Self → List LogLine → Type 0 };
 
-    /// A line comes.
+    /// Receives the next line.
     fn line<W: ByteSink>(&mut self, line: &KeptLine, to: &mut W) -> Result<(), Failure>
         ensures ok { OnOk result (Observes output leaves overflows self.old self.new (kept_line line.now)
             (W.contents to.old) (W.contents to.new)) }
@@ -37,13 +36,13 @@ pub trait Observer {
         ensures err { IfErr result
             (FailsOn W.fails_with ((ls : List LogLine) → overflows self.old (kept_line line.now ∷ ls))) };
 
-    /// No line comes any more.
+    /// Receives the end of the log.
     fn end<W: ByteSink>(&mut self, to: &mut W) -> io::Result<()>
         ensures text { WritesText W.fails_with (W.contents to.old) (W.contents to.new) result (output self.old []) }
         ensures left { OnOk result (leaves self.old [] self.new) };
 }
 
-// The end of a log; and all that waits is handed on.
+// Gives an observer the end of the log, and flushes the sink.
 fn end<W: ByteSink, O: Observer>(observer: &mut O, to: &mut W) -> io::Result<()>
     ensures text { WritesText W.fails_with (W.contents to.old) (W.contents to.new) result (O.output observer.old []) }
     ensures left { OnOk result (O.leaves observer.old [] observer.new) }
@@ -53,8 +52,8 @@ fn end<W: ByteSink, O: Observer>(observer: &mut O, to: &mut W) -> io::Result<()>
     to.flush()
 }
 
-/// The log that a reader has left is observed to its end. What is written is handed on before each read, which may
-/// wait.
+/// Gives an observer the lines that are left in a reader, and the end of the log. Flushes the sink before each read,
+/// which may wait.
 pub fn follow<R: ByteSource, W: ByteSink, O: Observer>(
     observer: &mut O,
     from: &mut BufferedReader<R>,

@@ -11,7 +11,7 @@ use device::calls::REPLY_ROOM;
 use record::refusal::Refusal;
 use text::numbered::Numbered;
 
-/// The most bytes of a printed line: twenty digits, a space, a reply and LF.
+/// How many bytes a printed line has at most: twenty digits, a space, a reply and LF.
 pub const PRINTED_MOST: usize = 158;
 
 /// A line that is being printed.
@@ -20,17 +20,17 @@ pub type Printed = ArrayVec<u8, PRINTED_MOST>;
 /// What an event of a log comes to.
 #[derive(Clone, Copy)]
 pub enum EventOutcome {
-    /// It was served; its reply, CR included, has so many bytes: 0 where there is none.
+    /// It was served. Its reply, CR included, has this many bytes: 0 if there is none.
     Served(usize),
     /// The call was refused.
     Refused(Refusal),
-    /// The place that a log drives is not closed, and cannot be opened again.
+    /// The log's place is not closed, and cannot be opened again.
     AlreadyOpen,
-    /// The line has no such form, and nothing happened.
+    /// The line has none of the forms, and nothing happened.
     NoSuch,
 }
 
-// Bytes at the end of a line.
+// Appends bytes to a line.
 pub(crate) fn put_text(text: &[u8], out: &mut Printed)
     requires { array_vec_len out.old + length text.now ≤ printed_most }
     ensures { out.new.items ≡ out.old.items ++ text.now }
@@ -38,7 +38,7 @@ pub(crate) fn put_text(text: &[u8], out: &mut Printed)
     out.try_extend_from_slice(text).unwrap();
 }
 
-// The reply without its CR, or `-` for none.
+// Appends the reply without its CR, or `-` for none.
 fn put_reply(reply: &[u8], out: &mut Printed)
     requires { array_vec_len out.old + length (reply_text reply.now) ≤ printed_most }
     ensures { out.new.items ≡ out.old.items ++ reply_text reply.now }
@@ -50,7 +50,7 @@ fn put_reply(reply: &[u8], out: &mut Printed)
     }
 }
 
-// `! ` and the number of a refusal.
+// Appends `! ` and the number of a refusal.
 fn put_refusal(number: u32, out: &mut Printed)
     requires { array_vec_len out.old + length (refusal_shown number) ≤ printed_most }
     ensures { out.new.items ≡ out.old.items ++ refusal_shown number }
@@ -60,7 +60,7 @@ fn put_refusal(number: u32, out: &mut Printed)
 }
 
 impl EventOutcome {
-    /// The number that its call gives, 0 where it was served; none of a line of no form.
+    /// Returns the call's number, 0 if it was served; `None` if the line has no form.
     pub fn answer(self) -> Option<u32>
         ensures { result ≡ answer_of self }
     {
@@ -72,7 +72,7 @@ impl EventOutcome {
         }
     }
 
-    /// Puts what is printed for it at the end of a line; its reply stands at the front of the memory.
+    /// Appends what is printed for it to a line. Its reply is at the start of the memory.
     pub fn put(self, memory: &[u8; REPLY_ROOM], out: &mut Printed)
         requires within { IsReplyWithin self reply_room }
         requires room { array_vec_len out.old + length (outcome_text self memory.now) ≤ printed_most }
@@ -85,7 +85,7 @@ impl EventOutcome {
             EventOutcome::NoSuch => out.push(b'?'),
         }
     }
-    /// Puts the printed line with that number: the number, a space, what is printed for it, and LF.
+    /// Appends the printed line: the line's number, a space, what is printed for it, and LF.
     #[tactic(auto, using(crate::proofs::Outcomes::line_lengths))]
     pub fn put_line(self, number: u64, memory: &[u8; REPLY_ROOM], out: &mut Printed)
         requires empty { out.old.items ≡ [] }

@@ -1,4 +1,4 @@
-// A log played back: what its lines are answered, and in the end the line of power and lamps.
+// A log replayed: what its lines are answered, and at the end the line of power and lamps.
 ghost use Rattle.std.specs.Prelude.{◌≡◌, ◌+◌, ◌^◌, ◌≤◌, ◌++◌, map, length};
 ghost use Rattle.textio.specs.Lines.{texts_of};
 ghost use Rattle.textio.specs.Fronts.{WritesText};
@@ -22,11 +22,11 @@ use textio::lines::Failure;
 use textio::writer;
 use textio::writer::ByteSink;
 
-/// A log as it is played: its record, tested where the log began; how many of its lines came; and which of them were
+/// A log as it is replayed: its record, tested where the log began; how many lines were read; and which of them were
 /// not played.
 #[derive(Drop)]
 pub struct Player {
-    /// The record as the lines played so far left it.
+    /// The record after the lines played so far.
     pub tested: Tested,
     played: u64,
     unplayed: Unplayed,
@@ -34,7 +34,7 @@ pub struct Player {
 }
 
 impl Player {
-    /// Before a log that begins with a device, which need not be legal.
+    /// Returns a player before a log that begins with a device, which need not be legal.
     pub fn new(device: Device) -> Player
         ensures device { result.tested.device ≡ device }
         ensures played { result.played ≡ 0 }
@@ -47,7 +47,7 @@ impl Player {
         }
     }
 
-    // The next line, which has that number.
+    // Plays the next line, which has that number.
     fn advance<W: ByteSink>(&mut self, number: u64, line: &KeptLine, to: &mut W) -> io::Result<()>
         requires { number ≡ self.old.played + 1 }
         ensures played { self.new.played ≡ number }
@@ -64,7 +64,7 @@ impl Player {
         told
     }
 
-    /// What was not played.
+    /// Returns what was not played.
     pub fn unplayed(&self) -> Unplayed
         ensures { result ≡ self.now.unplayed }
     {
@@ -72,7 +72,7 @@ impl Player {
     }
 }
 
-// The line with that number, played and printed; the number that its call gives, and how the writing went.
+// Plays and prints the line with that number. Returns the call's number, and how the writing ended.
 fn play<W: ByteSink>(
     t: &mut Tested,
     number: u64,

@@ -32,7 +32,7 @@ fn a_read_that_fails_in_mid_line(rt: HostRuntime) {
     let told = crate::replay(sample(), &mut source(5, 25), &mut to);
     assert!(rt; matches!(told, Err(Failure::Read(_))));
     assert!(rt; to.text() == b"1 PJLINK 0\n2 %1POWR=OK\n".as_slice());
-    // it is handed on before the read that fails
+    // it is flushed before the read that fails
     assert_eq!(rt; to.flushed(), to.text().len());
 }
 

@@ -1,5 +1,5 @@
-// What is proved beside the contracts of the functions. Nothing is done here: that these functions have their contracts
-// is that the theorems stand.
+// What is proved beside the contracts of the functions. The functions here do nothing: their contracts are the
+// theorems.
 ghost use Rattle.std.specs.Prelude.{◌≡◌, ◌≢◌, ◌<◌, List, ℕ, true, false};
 ghost use Rattle.record.specs.Legal.{is_legal};
 ghost use Rattle.record.specs.Limits.{places_count};
@@ -12,7 +12,7 @@ ghost use Rattle.floorlog.specs.Doing.{log_place, opened_in_log};
 ghost use Rattle.floorlog.specs.Playing.{sample_device, state_after};
 ghost use Rattle.floorlog.specs.Settled.{ArePrinted, log_rows};
 
-/// A log drives place 0 only (RULES, Floor log): where that is closed, an `O` takes it; where it is not, the `O` is
+/// A log's events happen at place 0 only (RULES, Floor log): if it is closed, an `O` takes it; if not, the `O` is
 /// refused with 5; and after any log on the sample set-up every other place is closed.
 pub fn a_log_drives_one_place()
     ensures taken { (d : Device) → is_legal d ≡ true → is_closed (connection_at d log_place) ≡ true
@@ -23,8 +23,8 @@ pub fn a_log_drives_one_place()
         → connection_at (state_after sample_device (events log)) p ≡ closed }
 {}
 
-/// Logs are answered as RULES, Floor log, has it: the page's own, one of no line, refusals and no reply, lines of no
-/// form.
+/// The output of worked logs (RULES, Floor log): the log of that page, one of no line, refusals and no reply, lines of
+/// no form.
 #[tactic(auto, using(crate::proofs::Settled::logs_printed))]
 pub fn logs_print_so()
     ensures { ArePrinted log_rows }

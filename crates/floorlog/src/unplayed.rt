@@ -1,5 +1,4 @@
-// What of a log of the first kind is not played: lines that are not understood, and calls that are refused (RULES, The
-// programs).
+// What of a floor log is not played: lines that are not understood, and calls that are refused (RULES, The programs).
 ghost use Rattle.std.specs.Prelude.{◌≡◌, ◌+◌, ◌<◌, ◌≤◌, ◌++◌, [], length};
 ghost use Rattle.std.specs.Prelude.{IsTrue, ◌↔◌};
 ghost use Rattle.arrayvec.specs.ArrayVec.{array_vec_len};
@@ -15,10 +14,10 @@ use crate::kinds;
 use crate::line::LOG_LINE_MOST;
 use arrayvec::ArrayVec;
 
-/// Why a line is not understood: the first of these that holds of it.
+/// Why a line is not understood: the first of these that is true of it.
 #[derive(Clone, Copy)]
 pub enum LineError {
-    /// It begins as a header, an opening or a stated line of a history, which a log of the first kind has not.
+    /// It begins as a header, an opening or a stated line of a history, which a floor log does not have.
     OfHistory,
     /// It has more bytes than a line can have.
     TooLong,
@@ -32,17 +31,17 @@ pub enum LineError {
     Empty,
     /// It begins with a NUL.
     Nul,
-    /// It is an opening with something else than eight lowercase hexadecimal digits.
+    /// It is an opening whose random number is not eight lowercase hexadecimal digits.
     RandomWanted,
-    /// It lets pass something else than a number of seconds.
+    /// It lets seconds pass, and their number is none.
     SecondsWanted,
-    /// It is, or begins as, a lamp's mark.
+    /// It is, or begins as, the line of a lamp's mark.
     Mark,
-    /// It closes, and has more.
+    /// It is a closing with more bytes after it.
     NotAlone,
-    /// It has the letter of an event, and no space behind it.
+    /// It has the letter of an event, and no space after it.
     SpaceWanted,
-    /// It begins with a digit or a bracket, as a time stamp does.
+    /// It begins with a digit or a bracket, as a timestamp does.
     Stamped,
     /// It begins with no letter of an event.
     NoLetter,
@@ -53,7 +52,7 @@ pub enum LineError {
 pub struct MisreadLine {
     /// Its number in the log, from 1.
     pub line: u64,
-    /// Why.
+    /// Why it is not understood.
     pub why: LineError,
 }
 
@@ -66,22 +65,22 @@ pub struct RefusedCall {
     pub number: u32,
 }
 
-/// What of a log of the first kind is not played.
+/// What of a floor log is not played.
 #[derive(Clone, Copy)]
 pub struct Unplayed {
     /// How many lines are not understood.
     pub misread: u64,
-    /// The first of them.
+    /// The first line that is not understood.
     pub first_misread: Option<MisreadLine>,
     /// How many calls are refused.
     pub refused: u64,
-    /// The first of them.
+    /// The first call that is refused.
     pub first_refused: Option<RefusedCall>,
-    /// Whether one of the lines that are not understood is of a history.
+    /// Whether one of the lines that are not understood is a line of a history.
     pub has_history: bool,
 }
 
-/// The most bytes of the words for it: four numbers have twenty digits at most.
+/// How many bytes the words for it have at most. Four numbers in them have up to twenty digits each.
 pub const UNPLAYED_MOST: usize = 480;
 
 /// The words for what is not played.
@@ -146,7 +145,7 @@ fn why_of_letter(line: &[u8]) -> LineError
     }
 }
 
-// Why a line that has no form has none.
+// Returns why a line that has no form has none.
 #[tactic(auto, unfolding(crate::specs::Unplayed::why_misread))]
 fn why_misread(line: &[u8]) -> LineError
     ensures { result ≡ why_misread line.now }
@@ -169,7 +168,7 @@ fn why_misread(line: &[u8]) -> LineError
     why_of_letter(line)
 }
 
-// Bytes at the end of the words.
+// Appends bytes to the words.
 fn put_text(text: &[u8], out: &mut UnplayedText)
     requires { array_vec_len out.old + length text.now ≤ 480 }
     ensures { out.new.items ≡ out.old.items ++ text.now }
@@ -178,7 +177,7 @@ fn put_text(text: &[u8], out: &mut UnplayedText)
 }
 
 impl LineError {
-    // What is said of it, behind the number of the line.
+    // Returns what is said of it, after the number of the line.
     fn words(self) -> &'static [u8]
         ensures words { result.now ≡ misread_words self }
         ensures short { length result.now ≤ 60 }
@@ -209,7 +208,7 @@ impl LineError {
 }
 
 impl RefusedCall {
-    // Why it is refused, behind the number of the line.
+    // Appends why it is refused, after the number of the line.
     #[tactic(auto, using(crate::proofs::UnplayedFits::words_lengths))]
     fn put_words(&self, out: &mut UnplayedText)
         requires { array_vec_len out.old ≤ 320 }
@@ -224,7 +223,7 @@ impl RefusedCall {
 }
 
 impl Unplayed {
-    /// Before a log.
+    /// Returns what is not played before a log: nothing.
     pub fn new() -> Unplayed
         ensures { result ≡ none_unplayed }
     {
@@ -237,15 +236,15 @@ impl Unplayed {
         }
     }
 
-    /// Whether all is played.
+    /// Returns whether all was played.
     pub fn is_none(&self) -> bool
         ensures { IsTrue result ↔ (self.now.misread + self.now.refused ≡ 0) }
     {
         self.misread == 0 && self.refused == 0
     }
 
-    /// Notes the line with that number, of which the call gave that number: 0 where it was served; none where the line
-    /// has no form.
+    /// Notes the line with that number. `answer` is the number of its call, 0 if it was served; `None` if the line has
+    /// no form.
     pub fn note(&mut self, number: u64, line: &[u8], answer: Option<u32>)
         requires { self.old.misread + self.old.refused < number }
         ensures noted { self.new ≡ line_noted self.old number (why_misread line.now) answer }
@@ -271,7 +270,7 @@ impl Unplayed {
         }
     }
 
-    // That it has lines of a history.
+    // Appends that there are lines of a history, if there are.
     fn put_headless(&self, out: &mut UnplayedText)
         requires { out.old.items ≡ [] }
         ensures text { out.new.items ≡ headless_text self.now.has_history }
@@ -285,7 +284,7 @@ impl Unplayed {
         }
     }
 
-    // How many lines are not understood, if any, and the first of them.
+    // Appends how many lines are not understood, if any, and the first of them.
     #[tactic(auto, using(crate::proofs::UnplayedFits::words_lengths))]
     fn put_misread(&self, out: &mut UnplayedText)
         requires { array_vec_len out.old ≤ 90 }
@@ -303,7 +302,7 @@ impl Unplayed {
         out.push(b'\n');
     }
 
-    // How many calls are refused, if any, and the first of them.
+    // Appends how many calls are refused, if any, and the first of them.
     #[tactic(auto, using(crate::proofs::UnplayedFits::words_lengths))]
     fn put_refused(&self, out: &mut UnplayedText)
         requires { array_vec_len out.old ≤ 230 }
@@ -319,8 +318,9 @@ impl Unplayed {
         first.put_words(out);
     }
 
-    /// Puts the words for it: whether lines are of a history; how many lines are not understood, and how many calls are
-    /// refused, with the first of each and why. Each has a line that LF ends, if there is something to say.
+    /// Puts the words for it in `out`: whether lines are of a history; how many lines are not understood; and how many
+    /// calls are refused; the last two with the first of each and why. Each of the three has a line, ended by LF, if
+    /// there is something to say.
     #[tactic(auto, unfolding(crate::specs::Unplayed::unplayed_text))]
     pub fn put(&self, out: &mut UnplayedText)
         requires { out.old.items ≡ [] }

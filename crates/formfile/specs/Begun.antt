@@ -1,9 +1,9 @@
 -- What a log can begin with, whatever an argument names and whatever a file holds (RULES, Floor log and Stored form).
---   IsBegun r         a legal record, or why there is none
---   form_room         so many bytes are read at most, one more than any form has
---   IsBegunBy form r  r is what loading gives of these bytes, and the sum of what is read of them (RULES, History of a
---                     board: "the first file's header has that of the stored form")
---   IsReadBy form r   the same, or they could not be read
+--   IsBegun r         r is a legal record, or why there is none
+--   form_room         how many bytes are read at most: one more than any form has
+--   IsBegunBy form r  r is what loading these bytes gives, and the sum of what is read of them, which the first file's
+--                     header has (RULES, History of a board)
+--   IsReadBy form r   r is that, or the bytes could not be read
 -- Assumes nothing.
 use Rattle.std.specs.Prelude.{ℕ, List, ◌≡◌, take, true, Result, Ok, Err}
 use Rattle.crc32.specs.Crc.{crc32_of}

@@ -1,5 +1,5 @@
-// The device that a log begins with, and the sum that its history begins with (RULES, History of a board): the sample
-// set-up, or those of a stored form (RULES, Stored form) in a file.
+// The device that a log begins with, and the checksum that its history begins with (RULES, History of a board): those
+// of the sample set-up, or of a stored form in a file (RULES, Stored form).
 #![tactic(auto)]
 
 #[cfg(test)]
@@ -23,16 +23,16 @@ use stored::error::LoadError;
 use stored::storing::FORM_MOST;
 use stored::{loading, storing};
 
-// A byte more than the longest form that its counts, a byte each, can ask for, legal or not: a file that fills this has
-// bytes left over.
+// One byte more than the longest form that its counts, a byte each, can ask for, legal or not: a file that fills this
+// has bytes left over.
 const FILE_ROOM: u64 = 68867;
 
 /// What a log begins with.
 #[derive(Drop)]
 pub struct Begun {
-    /// The record.
+    /// The device.
     pub device: Device,
-    /// The CRC-32 of its form.
+    /// The CRC-32 of its stored form.
     pub sum: u32,
 }
 
@@ -66,7 +66,7 @@ impl From<Error> for NotBegun {
     }
 }
 
-// The sum of the form that is stored of a legal record.
+// Returns the CRC-32 of the stored form of a legal record.
 #[tactic(auto, using(stored::proofs::FormMost::stored_fits, crate::proofs::FormSum::form_first))]
 fn form_sum(device: &Device) -> u32
     requires { is_legal device.now ≡ true }
@@ -88,7 +88,7 @@ pub fn sample() -> Begun
     Begun { device, sum }
 }
 
-// By as many bytes of a form as are read.
+// Loads the bytes that were read of a form.
 #[tactic(auto, using(crate::proofs::FormBegun::loaded_is_legal))]
 fn loaded(bytes: &[u8]) -> Result<Begun, NotBegun>
     ensures begun { IsBegun result }
@@ -111,7 +111,7 @@ pub fn read_from<R: Read + Drop>(mut from: R, alloc: Global) -> Result<Begun, No
 {
     let mut bytes = Vec::new(alloc);
     (&mut from).take(FILE_ROOM).read_to_end(&mut bytes)?;
-    // a read that fails where these bytes end is reported too
+    // a read that fails after these bytes is reported too
     let mut more = [0u8; 1];
     from.read(&mut more)?;
     loaded(&bytes)

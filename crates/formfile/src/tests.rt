@@ -1,9 +1,9 @@
-// A form from a reader that fails behind the last byte that is asked for.
+// A form from a reader that fails after the last byte that is asked for.
 use crate::NotBegun;
 use std::io;
 use std::io::{Error, ErrorKind, Read};
 
-// So many bytes, and then an error.
+// This many bytes, and then an error.
 #[derive(Drop)]
 struct Late {
     left: usize,
@@ -26,7 +26,7 @@ fn a_late_failure_is_told(rt: HostRuntime) {
         let begun = crate::read_from(Late { left }, rt.alloc());
         assert!(rt; matches!(begun, Err(NotBegun::Unread(_))));
     }
-    // which is not asked for
+    // it fails after a byte that is not asked for
     let begun = crate::read_from(Late { left: 68869 }, rt.alloc());
     assert!(rt; matches!(begun, Err(NotBegun::Refused(_))));
 }

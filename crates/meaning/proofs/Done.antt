@@ -1,6 +1,6 @@
 -- What a request does: it leaves lamps, fault and errors as they are, does nothing unless it is answered OK, and leaves
 -- a legal projector legal.
---   Keeps o k      k has the lamps and their marks, the fault mark and the errors of o
+--   Keeps o k      k has the lamps and their marks, the fault flag and the errors of o
 -- Assumes nothing.
 use Rattle.std.proofs.Common.{ℕ, ◌≤◌, ◌<◌, ◌≡◌, refl, Bool, true, false, not, ◌&&◌, arith, ◌==◌, Ok, Err}
 use Rattle.text.proofs.Choices.{if_all}

@@ -16,7 +16,7 @@ use Rattle.meaning.proofs.LampsSaid.{said_at}
 use Rattle.meaning.proofs.Cases.{meant_passed}
 
 module _ (s : Settings) (o : Own) where
-  -- neither the fault mark nor the power keeps LAMP from its answer
+  -- neither the fault flag nor the power keeps LAMP from its answer
   pub lamps_answered : 1 ≤ s.lamp_count → answer_for s o (Ok (Query Lamp)) ≡ lamps_are (lamps_of s o)
   lamps_answered h = grind (arith, meant_passed, ne_eqb)
 

@@ -1,12 +1,13 @@
 -- What the projector answers to a request, and what the request does to it (RULES, Commands).
---   table_answer s o c    the table of RULES, Commands: what a command that no rule refuses is answered
---   after_command s o c   the own part after it
+--   table_answer s o c    the answer to a command that no rule refuses: the table of RULES, Commands
+--   after_command s o c   the own part after the command c
 --   input_name_of s i          the name of the input i (RULES, Class 2)
---   level_after up level     a volume one step up or down, which stops at the ends (RULES, Class 2)
+--   level_after up level     the volume `level` one step up or down, which stops at the ends (RULES, Class 2)
 --   request_answer s o r, carried_out s o r
---                         the same of a request; one that is no command is always refused, so `nothing` is never said
+--                         answer and own part after the request r without the four rules; a request that is no command
+--                         is always refused by them, so its `nothing` is never said
 --   answer_for s o r      the answer to the request r
---   after_request s o r   the own part after it
+--   after_request s o r   the own part after the request r
 -- Assumes nothing.
 use Rattle.std.specs.Prelude.{ℕ, ◌+◌, ◌-◌, ◌/◌, Bool, false, not, ◌&&◌, ◌||◌, List, [], ◌∷◌, take}
 use Prim.Native.Char.{code}
@@ -43,7 +44,7 @@ use Rattle.record.specs.declared.types.Own.{Own}
 use Rattle.meaning.specs.SetUpInputs.{no_input, inputs_of, listed_index}
 use Rattle.meaning.specs.Rules.{is_undefined, is_out_of_parameter, is_failure, is_unavailable}
 
--- in PJLink's words: 0 off, 1 on, 2 cooling, 3 warm-up
+-- PJLink's numbers: 0 off, 1 on, 2 cooling, 3 warm-up
 abbrev pub power_said : PowerSeen → PowerStatus
 power_said SeenOff = Off
 power_said (SeenWarmUp left) = WarmUp
@@ -79,7 +80,7 @@ name_bytes n = take n.len n.bytes
 abbrev pub input_name_of : Settings → Input → List ℕ
 input_name_of s i = name_bytes (slice_index_or s.names (listed_index s i) blank_name)
 
--- a body without a query is never asked one (Rules, `is_no_query`)
+-- a body that has no query is never asked one (Rules, `is_no_query`)
 abbrev pub query_answer : Settings → Own → Body → Said
 query_answer s o Powr = power_is (power_said (power_seen o))
 query_answer s o (Inpt k) = chosen_is (chosen_of s o)
@@ -99,7 +100,7 @@ query_answer s o Snum = text_said s.serial
 query_answer s o Sver = text_said s.version
 query_answer s o Innm = nothing
 
--- a set that passes answers OK
+-- the answer to a set that no rule refuses is OK
 abbrev pub table_answer : Settings → Own → Command → Said
 table_answer s o (Query b) = query_answer s o b
 table_answer s o (NameQuery i) = text_is (input_name_of s i)
@@ -116,7 +117,7 @@ after_power s o wanted =
     else if not wanted && o.power == on then with_power_left o cooling s.cool
     else o
 
--- The unnamed half stays.
+-- the half that is not named stays as it is
 abbrev pub after_mute : Own → Half → Bool → Own
 after_mute o VideoHalf wanted = with_mutes o (flag_of wanted) o.audio_muted
 after_mute o AudioHalf wanted = with_mutes o o.video_muted (flag_of wanted)
@@ -143,7 +144,7 @@ abbrev pub carried_out : Settings → Own → Request → Own
 carried_out s o (Ok c) = after_command s o c
 carried_out s o (Err u) = o
 
--- The first that applies.
+-- the first of the four rules that applies
 unfoldable pub answer_for : Settings → Own → Request → Said
 answer_for s o r =
     if is_undefined s r then refused 1

@@ -1,12 +1,12 @@
 -- When a request is refused: the four rules of RULES, Commands, in its order. PJLink 1.04, 2.5 names the four refusals.
--- Which body is query-only, which asks for lamps and which has to be on stands in its row (`row_of` of `pjlink`).
+-- Which body is query-only, which needs lamps and which needs the power to be on is in its row (`row_of` of `pjlink`).
 --   is_undefined s r          rule 1, ERR1: undefined command
 --   is_out_of_parameter s r   rule 2, ERR2: out of parameter
 --   is_failure o r            rule 3, ERR4: projector failure
 --   is_unavailable o r        rule 4, ERR3: unavailable time
--- A request is what is read off a line (`request_of`): a command with a parameter that is `?` or one its body knows, a
--- body with any other parameter (Unlisted), or no body of its line's class. Class 2 has the same rules (RULES, Class
--- 2).
+-- A request is what is read of a line (`request_of`): a command with a parameter that is `?` or one that its body
+-- knows, a body with any other parameter (Unlisted), or no body of the line's class. Class 2 has the same rules (RULES,
+-- Class 2).
 -- Assumes nothing.
 use Rattle.std.specs.Prelude.{ℕ, Bool, true, false, not, ◌&&◌, ◌||◌, Ok, Err, ◌==◌}
 use Rattle.pjlink.specs.Bodies.{row_of, has_set, has_parameters, has_query}
@@ -21,7 +21,7 @@ use Rattle.record.specs.declared.types.Settings.{Settings}
 use Rattle.record.specs.declared.types.Own.{Own}
 use Rattle.meaning.specs.SetUpInputs.{is_listed}
 
--- `?` to a body that has no query is asked for by no line (`request_of`): it is no command, and so undefined
+-- no line asks `?` of a body that has no query (`request_of`): it is no command, and so undefined
 abbrev pub is_no_query : Command → Bool
 is_no_query (Query b) = not (has_query b)
 is_no_query c = false
@@ -38,14 +38,13 @@ is_unlisted s (InputSet k i) = not (is_listed s i)
 is_unlisted s (NameQuery i) = not (is_listed s i)
 is_unlisted s c = false
 
--- 2. POWR, INPT or AVMT with a parameter neither `?` nor listed: ERR2. So for FREZ, SVOL, MVOL and INNM (RULES, Class
--- 2).
+-- 2. POWR, INPT or AVMT with a parameter neither `?` nor listed: ERR2. FREZ, SVOL, MVOL and INNM too (RULES, Class 2).
 abbrev pub is_out_of_parameter : Settings → Request → Bool
 is_out_of_parameter s (Err UnknownBody) = false
 is_out_of_parameter s (Err (Unlisted b)) = has_parameters b
 is_out_of_parameter s (Ok c) = is_unlisted s c
 
--- 3. POWR, INPT, AVMT, set or query, with the fault mark: ERR4. So for FREZ, SVOL and MVOL (RULES, Class 2).
+-- 3. POWR, INPT, AVMT, set or query, with the fault flag: ERR4. FREZ, SVOL and MVOL too (RULES, Class 2).
 abbrev pub is_failure : Own → Request → Bool
 is_failure o (Err UnknownBody) = false
 is_failure o (Err (Unlisted b)) = has_set b && is_raised o.fault
@@ -55,7 +54,7 @@ abbrev pub is_untimely : ℕ → Command → Bool
 is_untimely power (PowerSet wanted) = is_between power
 is_untimely power c = (row_of (body_of c)).on && not (power == on)
 
--- 4. POWR set in warm-up or cooling; INPT and AVMT, set or query, unless on: ERR3. So for FREZ, SVOL and MVOL (RULES,
+-- 4. POWR set in warm-up or cooling; INPT and AVMT, set or query, unless on: ERR3. FREZ, SVOL and MVOL too (RULES,
 -- Class 2).
 abbrev pub is_unavailable : Own → Request → Bool
 is_unavailable o (Err u) = false

@@ -1,12 +1,12 @@
 -- The inputs of a set-up, which keeps them as pairs of characters (RULES, The legal record and Commands). What a pair
--- stands for is the table of RULES, Inputs (`input_for`); past this file the meaning knows inputs only.
+-- stands for is in the table of RULES, Inputs (`input_for`); the other files of this crate know inputs only.
 --   pairs_of s           the characters in use: the first 2 × input_count, and no more than the array has
 --   input_of_pair a b    the input for which a pair stands; one that stands for none is in no legal set-up
---   pair_input p         the same of a pair as it lies there
+--   pair_input p         the input for which the pair p stands
 --   inputs_of_pairs cs   the inputs of pairs, in their order
 --   inputs_of s          the inputs in set-up order
---   index_in i is        the first place of the input i among the inputs is; where there is none, their number
---   listed_index s i         the place of the input i
+--   index_in i is        the first index of the input i among the inputs is; if it is not there, their number
+--   listed_index s i         the first index of the input i in the set-up; if it is not there, the number of inputs
 --   is_listed s i        the input i is in the set-up
 -- Assumes nothing.
 use Rattle.std.specs.Prelude.{ℕ, suc, ◌*◌, Bool, List, [], ◌∷◌, take, unwrap_or, if◌then◌else◌}

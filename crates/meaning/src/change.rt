@@ -9,7 +9,8 @@ use record::types::{Own, Settings};
 use record::views::Power;
 use text::flag;
 
-// POWR 1 when off starts warm-up, POWR 0 when on starts cooling; otherwise the power stays, a number of none too.
+// Sets the power. POWR 1 when off starts warm-up, and POWR 0 when on starts cooling. Otherwise the power stays as it
+// is, also one whose number stands for no power.
 #[tactic(auto, unfolding(crate::specs::Meaning::after_power))]
 fn set_power(s: &Settings, o: &mut Own, wanted: bool)
     ensures { o.new ≡ after_power s.now o.old wanted }
@@ -21,7 +22,7 @@ fn set_power(s: &Settings, o: &mut Own, wanted: bool)
     }
 }
 
-// The unnamed half stays.
+// Mutes or unmutes a half. The half that is not named stays as it is.
 fn mute(o: &mut Own, half: Half, wanted: bool)
     ensures { o.new ≡ after_mute o.old half wanted }
 {
@@ -35,7 +36,7 @@ fn mute(o: &mut Own, half: Half, wanted: bool)
     }
 }
 
-// One step up or down, stopped at the ends (RULES, Class 2).
+// Returns the level one step up or down. It stops at the ends (RULES, Class 2).
 #[tactic(auto, unfolding(crate::specs::Meaning::level_after))]
 fn step(up: bool, level: u8) -> u8
     ensures { result ≡ level_after up level }
@@ -61,7 +62,7 @@ fn set_level(o: &mut Own, v: Volume, up: bool)
     }
 }
 
-/// The own part as the command leaves it; a query changes nothing.
+/// Does to the own part what the command says. A query changes nothing.
 pub fn carry_out(settings: &Settings, own: &mut Own, command: Command)
     ensures { own.new ≡ after_command settings.now own.old command }
 {

@@ -15,7 +15,7 @@ const NO_INPUT: Input = Input {
     number: 0,
 };
 
-// No legal set-up has a pair that stands for no input.
+// Returns the input for which a pair stands. No legal set-up has a pair that stands for no input.
 #[tactic(auto, using(words::proofs::SourcesFollowed::reader_follows))]
 fn input_of_pair(a: u8, b: u8) -> Input
     ensures { result ≡ input_of_pair a b }
@@ -29,7 +29,7 @@ fn is_same_input(i: Input, j: Input) -> bool
     input::source_digit(i.source) == input::source_digit(j.source) && i.number == j.number
 }
 
-// The pairs in use.
+// Returns the pairs in use.
 fn pairs_of(s: &Settings) -> &[[u8; 2]]
     ensures inputs { map pair_input result.now ≡ inputs_of s.now }
     ensures few { length result.now ≤ INPUTS_MOST }
@@ -39,7 +39,7 @@ fn pairs_of(s: &Settings) -> &[[u8; 2]]
     pairs
 }
 
-/// The inputs, in set-up order.
+/// Returns the inputs, in set-up order.
 pub fn inputs_of(settings: &Settings) -> ArrayVec<Input, INPUTS_MOST>
     ensures { result.items ≡ inputs_of settings.now }
 {
@@ -51,7 +51,7 @@ pub fn inputs_of(settings: &Settings) -> ArrayVec<Input, INPUTS_MOST>
     inputs
 }
 
-/// The first place of the input; where there is none, how many inputs there are.
+/// Returns the first index of the input in the set-up. If it is not there, returns the number of inputs.
 pub fn listed_index(settings: &Settings, input: Input) -> usize
     ensures { result ≡ listed_index settings.now input }
 {
@@ -62,14 +62,14 @@ pub fn listed_index(settings: &Settings, input: Input) -> usize
         .unwrap_or(pairs.len())
 }
 
-/// Whether the input is in the set-up.
+/// Returns whether the input is in the set-up.
 pub fn is_listed(settings: &Settings, input: Input) -> bool
     ensures { result ≡ is_listed settings.now input }
 {
     listed_index(settings, input) < settings.input_count
 }
 
-/// The input at a place; past them none.
+/// Returns the input at an index of the set-up, from 0. Past the last there is `no_input`.
 #[tactic(auto, using(crate::proofs::InputsByPlace::paired_at))]
 pub fn input_at(settings: &Settings, place: usize) -> Input
     ensures { result ≡ slice_index_or (inputs_of settings.now) place no_input }

@@ -17,7 +17,7 @@ use pjlink::request::Unasked;
 use record::types::{Own, Settings};
 use words::error_reply::ErrorReply;
 
-// A command: the first rule that applies refuses it; else it is answered, and then carried out.
+// Answers a command, and does what it says. The first rule that applies refuses it, and then nothing changes.
 #[tactic(auto, unfolding(crate::specs::Meaning::answer_for, crate::specs::Meaning::after_request))]
 fn answer<'a>(s: &'a Settings, o: &mut Own, c: Command) -> Reply<'a>
     ensures said { said_by result ≡ answer_for s.now o.old (Ok c) }
@@ -35,7 +35,7 @@ fn answer<'a>(s: &'a Settings, o: &mut Own, c: Command) -> Reply<'a>
     if rules::is_unavailable(o, c) {
         return Err(ErrorReply::Unavailable);
     }
-    // rule 1 has refused a query that there is not
+    // rule 1 has refused a query of a body that has none
     let Some(answer) = table::answer(s, o, c) else {
         return Err(ErrorReply::Undefined);
     };
@@ -43,7 +43,7 @@ fn answer<'a>(s: &'a Settings, o: &mut Own, c: Command) -> Reply<'a>
     Ok(answer)
 }
 
-/// What a legal projector answers, and the own part that the request leaves.
+/// Returns the reply of a legal projector to a request, and leaves the own part as the request does.
 #[tactic(auto, unfolding(crate::specs::Meaning::answer_for, crate::specs::Meaning::after_request))]
 pub fn decide<'a>(
     settings: &'a Settings,

@@ -1,4 +1,4 @@
-//! When a command is refused: the four rules of RULES, Commands.
+//! The four rules by which a command is refused (RULES, Commands).
 ghost use Rattle.std.specs.Prelude.{◌≡◌, Ok};
 ghost use Rattle.meaning.specs.Rules.{is_no_query, is_undefined, is_out_of_parameter, is_failure, is_untimely};
 ghost use Rattle.meaning.specs.Rules.{is_unavailable};
@@ -19,14 +19,14 @@ fn is_no_query(c: Command) -> bool
     }
 }
 
-/// Rule 1: a query that there is not, or one of lamps where there are none.
+/// Rule 1, ERR1: returns whether the command is a query of a body that has none, or one of lamps where there are none.
 pub fn is_undefined(settings: &Settings, command: Command) -> bool
     ensures { result ≡ is_undefined settings.now (Ok command) }
 {
     is_no_query(command) || (command.body().row().lamps && settings.lamp_count == 0)
 }
 
-/// Rule 2: an input that is not in the set-up.
+/// Rule 2, ERR2: returns whether the command names an input that is not in the set-up.
 pub fn is_out_of_parameter(settings: &Settings, command: Command) -> bool
     ensures { result ≡ is_out_of_parameter settings.now (Ok command) }
 {
@@ -36,7 +36,7 @@ pub fn is_out_of_parameter(settings: &Settings, command: Command) -> bool
     }
 }
 
-/// Rule 3: a set, where the projector is at fault.
+/// Rule 3, ERR4: returns whether the command is one that the fault flag refuses, and the flag is set.
 pub fn is_failure(own: &Own, command: Command) -> bool
     ensures { result ≡ is_failure own.now (Ok command) }
 {
@@ -52,7 +52,7 @@ fn is_untimely(power: Power, c: Command) -> bool
     }
 }
 
-/// Rule 4: a command that the power does not allow now.
+/// Rule 4, ERR3: returns whether the power does not allow the command now.
 #[tactic(auto, using(record::proofs::PowerSeen::power_tests))]
 pub fn is_unavailable(own: &Own, command: Command) -> bool
     ensures { result ≡ is_unavailable own.now (Ok command) }

@@ -1,4 +1,4 @@
-//! What a command that no rule refuses is answered: the table of RULES, Commands.
+//! The answer to a command that no rule refuses: the table of RULES, Commands.
 ghost use Rattle.std.specs.Prelude.{◌≡◌, map, take, slice_index_or};
 ghost use Rattle.text.specs.Flags.{is_raised};
 ghost use Rattle.pjlink.specs.Carried.{value_said};
@@ -33,7 +33,7 @@ fn power_said(power: views::Power) -> PowerStatus
     }
 }
 
-// A lamp by its whole hours.
+// Returns a lamp with its whole hours.
 fn lamp_said(lit: bool, seconds: u32) -> LampHours
     ensures { result ≡ lamp_said lit seconds }
 {
@@ -43,7 +43,7 @@ fn lamp_said(lit: bool, seconds: u32) -> LampHours
     }
 }
 
-// The first `count` lamps.
+// Returns the first `count` lamps.
 #[tactic(auto, using(crate::proofs::LampsSaid::lamps_one_by_one))]
 fn lamps_said(
     seconds: &[u32; LAMPS_MOST],
@@ -73,7 +73,7 @@ fn name_of(n: &InputName) -> &[u8]
     rooms::first(&n.bytes, n.len)
 }
 
-// The name at a place; past the list there is none.
+// Returns the name at an index. Past the list it is empty.
 fn name_at(names: &[InputName; INPUTS_MOST], place: usize) -> &[u8]
     ensures { result.now ≡ name_bytes (slice_index_or names.now place blank_name) }
 {
@@ -83,7 +83,7 @@ fn name_at(names: &[InputName; INPUTS_MOST], place: usize) -> &[u8]
     name_of(&names[place])
 }
 
-// A body without a query has no answer.
+// Returns the answer to `?` of a body. `None` if `?` does not ask the body.
 #[tactic(auto, using(record::proofs::PowerSeen::power_tests))]
 fn query_answer<'a>(s: &'a Settings, o: &Own, b: Body) -> Option<Answer<'a>>
     ensures { value_said result ≡ query_answer s.now o.now b }
@@ -113,7 +113,8 @@ fn query_answer<'a>(s: &'a Settings, o: &Own, b: Body) -> Option<Answer<'a>>
     }
 }
 
-/// A set is answered OK; none is the answer of a query that there is not.
+/// Returns the answer to a command. The answer to a set is OK. `None` if the command is a query of a body that has
+/// none.
 pub fn answer<'a>(settings: &'a Settings, own: &Own, command: Command) -> Option<Answer<'a>>
     ensures { value_said result ≡ table_answer settings.now own.now command }
 {

@@ -1,5 +1,5 @@
-//! What is proved beside the contracts of the functions. Nothing is done here: that these functions have their
-//! contracts is that the theorems stand.
+//! What is proved beside the contracts of the functions. The functions here do nothing: their contracts are the
+//! theorems.
 ghost use Rattle.std.specs.Prelude.{◌≡◌, Bool, true, false, Result, Ok};
 ghost use Rattle.text.specs.Flags.{is_raised};
 ghost use Rattle.words.specs.Inputs.{is_input};
@@ -25,7 +25,7 @@ ghost use Rattle.meaning.specs.Rules.{is_undefined, is_out_of_parameter, is_fail
 ghost use Rattle.meaning.specs.Meaning.{power_said, power_digit, request_answer, carried_out, answer_for};
 ghost use Rattle.meaning.specs.Meaning.{after_request};
 
-/// Two results that meet the promise of a call say the same, and leave the same.
+/// Any two results that meet the contract of a call say the same, and leave the same.
 pub fn one_result()
     ensures { (s : Settings) (o : Own) (r : Request) (m n : Result Answer ErrorReply) (k l : Own)
         → (said_by m ≡ answer_for s o r) × (k ≡ after_request s o r)
@@ -33,7 +33,7 @@ pub fn one_result()
         → (said_by m ≡ said_by n) × (k ≡ l) }
 {}
 
-/// The first of the four rules that applies refuses, with its own refusal (RULES, Commands).
+/// The first of the four rules that applies refuses the request, with its own error reply (RULES, Commands).
 #[tactic(auto, using(crate::proofs::Cases::first_rule))]
 pub fn the_first_rule_decides()
     ensures undefined { (s : Settings) (o : Own) (r : Request) → is_undefined s r ≡ true
@@ -50,8 +50,8 @@ pub fn the_first_rule_decides()
         → (answer_for s o r ≡ request_answer s o r) × (after_request s o r ≡ carried_out s o r) }
 {}
 
-/// What is not answered OK does nothing. Of AVMT's two halves "the unnamed half stays", whatever becomes of the set
-/// (RULES, Commands).
+/// A request that is not answered OK changes nothing. Of AVMT's two halves "the unnamed half stays", whatever the
+/// answer to the set (RULES, Commands).
 pub fn what_a_request_leaves()
     ensures unless_okay { (s : Settings) (o : Own) (r : Request) → (answer_for s o r ≡ okay → ⊥)
         → after_request s o r ≡ o }
@@ -61,8 +61,8 @@ pub fn what_a_request_leaves()
         → (after_request s o (Ok (MuteSet AudioHalf wanted))).video_muted ≡ o.video_muted }
 {}
 
-/// The input that was set is the one that is then answered, under either class, and only an input that a line can carry
-/// is listed.
+/// The input that was set is the one that is then answered, under either class. Only an input that a line can name is
+/// listed.
 #[tactic(auto, using(crate::proofs::InputSets::set_then_asked, crate::proofs::InputSets::listed_is_input))]
 pub fn an_input_set_is_answered()
     ensures answered { (s : Settings) (o : Own) (i : Input) (j k : ClassNumber) → is_settings s ≡ true
@@ -71,13 +71,13 @@ pub fn an_input_set_is_answered()
     ensures carried { (s : Settings) (i : Input) → is_settings s ≡ true → is_listed s i ≡ true → is_input i ≡ true }
 {}
 
-/// POWR answers the number that a legal record has of the power.
+/// POWR answers the number that a legal record has for the power.
 #[tactic(auto, using(crate::proofs::PowerSaid::power_code_said))]
 pub fn the_power_is_answered_by_its_number()
     ensures { (s : Settings) (o : Own) → IsOwn s o → power_code (power_said (power_seen o)) ≡ power_digit o.power }
 {}
 
-/// A power set is answered OK exactly where the projector is neither at fault nor between on and off.
+/// The answer to a power set is OK exactly if the fault flag is clear and the power is off or on.
 #[tactic(auto, using(crate::proofs::PowerSets::power_set_only, crate::proofs::PowerSets::power_set_passes))]
 pub fn when_a_power_set_passes()
     ensures passes { (s : Settings) (o : Own) (wanted : Bool) → is_raised o.fault ≡ false → is_between o.power ≡ false

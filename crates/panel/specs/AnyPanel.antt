@@ -1,10 +1,10 @@
--- A panel: anything that answers the calls on the panel record that RULES, Panel speaks of. What is asked of one is
--- stated over it, so that wrong panels can be tried.
---   AnyPanel        `none`: the panel of no projector; `add p s`: a projector more, with the password s; `command p i k
---                   room`: the command k to the projector i, with so much memory for its line; `hear p i l`: the line l
---                   from the projector i; `tell p i l`: what that line was; `lose p i`: its connection is gone
---   ours_panel      our calls: beside each, the function whose contract says this field, and with it the one of C
---   ours_hearing f  our panel, with f in the place of the step
+-- A panel: anything that answers the calls on the panel record of RULES, Panel. The theorems are stated over it, so
+-- that wrong panels can be tried.
+--   AnyPanel        `none`: the panel without a projector; `add p s`: adds a projector with the password s; `command p
+--                   i k room`: the command k to the projector i, with this much memory for its line; `hear p i l`: the
+--                   line l from the projector i; `tell p i l`: what that line was; `lose p i`: its connection is gone
+--   ours_panel      our calls; beside each is the function whose contract says this field, and the call of C
+--   ours_hearing f  our panel with f instead of its step
 -- Assumes nothing.
 use Rattle.std.specs.Prelude.{ℕ, List, Option}
 use Rattle.codes.specs.declared.command.Coded.{Coded}

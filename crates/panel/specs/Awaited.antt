@@ -1,6 +1,6 @@
 -- The state of the connection to a projector (RULES, Panel).
 --   talk_begun g                   the talk that begins with the greeting g
---   awaits_of e                    what is awaited of the projector
+--   awaits_of e                    what is awaited from the projector of the entry e
 -- Assumes nothing.
 use Rattle.std.specs.Prelude.{if◌then◌else◌, ◌==◌}
 use Rattle.text.specs.Flags.{is_raised}

@@ -1,18 +1,17 @@
--- What the panel keeps of a projector (RULES, Panel: "each with its own password, greeting, one command under way, and
--- last known power, input and lamps", and "a per-projector count" of strays), in its parts. What is not known or not
--- under way is zero.
+-- What the panel keeps of a projector (RULES, Panel), in its parts: its password, its greeting, one command under way,
+-- its last known power, input and lamps, and its count of strays. What is not known or not under way is zero.
 --   Talk                 the state of its connection: its greeting, whether the digest was sent, its command
 --   Shown                what is shown of it: power, input and lamps, each known or not
 --   talk_of e, shown_of e, password_in e   these parts of the entry e, and its password
---   entry_of t l s n     the entry of a password, a talk, what is shown and a count of strays
---   no_talk              its greeting is awaited
---   greeted_by n r       it greeted: n says how, r is the random number
---   sent_on t k          the command k was sent
---   rested_on t          no command is under way
---   leads_next t         the next command is the first after a secured greeting, so the digest leads it
---   nothing_shown        all is unknown
---   fresh_entry s        a projector just added, with the password s
---   blank_entry          all zero
+--   entry_of t l s n     the entry with the password l, the talk t, what is shown s, and the count of strays n
+--   no_talk              the talk before a greeting
+--   greeted_by n r       the talk after a greeting: n is its number, r the random number
+--   sent_on t k          the talk t after the command k was sent
+--   rested_on t          the talk t without a command under way
+--   leads_next t         the next command of the talk t is the first after a secured greeting, so the digest leads it
+--   nothing_shown        what is shown if all is unknown
+--   fresh_entry s        the entry of a projector that was just added, with the password s
+--   blank_entry          the entry in which all is zero
 -- Assumes nothing.
 use Rattle.std.specs.Prelude.{ℕ, Bool, not, ◌&&◌, List, take, replicate, ◌==◌}
 use Rattle.text.specs.Flags.{is_raised, flag_of}
@@ -41,7 +40,7 @@ pub record Shown : Type 0 where
   pub hours : List ℕ
   pub lit : List ℕ
 
--- the greeting: none yet, `PJLINK 0`, `PJLINK 1`
+-- the number of a greeting: 0 none yet, 1 `PJLINK 0`, 2 `PJLINK 1`
 abbrev pub ungreeted : ℕ
 ungreeted = 0
 
@@ -129,7 +128,7 @@ rested_on t = record {
   command = none_coded;
 }
 
--- no lamps: rooms of their own, all zero
+-- no lamps: their arrays are all zero
 abbrev pub nothing_shown : Shown
 nothing_shown = record {
   power_known = 0;

@@ -1,14 +1,14 @@
--- What a line from a projector was (RULES, Panel). A host may ask for it; the step (Stepping) is the same.
---   HeardAs            its greeting; no greeting, where one is awaited; late; or what the reader takes from it as the
---                      reply to the command under way: accepted, ERRA, foreign or malformed by its outcome
---   greeting_heard g   where its greeting is awaited, by what the reader of greetings takes from the line
---   reply_heard m l    where the command m is under way
---   line_heard e l     the line l from the projector whose entry is e
---   heard_by_code h    what the code says of a line, seen so
---   hearing_told r     the same of a call, which says nothing where it is refused
---   heard_bytes h      the bytes of the parameter that the reader took: no more than a reading has room for
---   heard_kind h, heard_reading h     what a line was as numbers (enum pj_heard_kind): its kind, and what the
---                      reader takes from it, where it was read as a reply
+-- What a line from a projector was (RULES, Panel). A host may ask for it; the line changes the entry as Stepping says.
+--   HeardAs            what a line was: a greeting; none, where one is awaited; late; or the reading of it as a reply
+--                      to the command under way: accepted, ERRA, foreign or malformed by its outcome
+--   greeting_heard g   what a line is while the greeting is awaited, where the reader of greetings read g
+--   reply_heard m l    what the line l is while the command m is under way
+--   line_heard e l     what the line l from the projector of the entry e is
+--   heard_by_code h    the code's h as a HeardAs
+--   hearing_told r     what a line was by the result r of a call; none if the call is refused
+--   heard_bytes h      the bytes of the parameter that was read: no more than a reading has room for
+--   heard_kind h, heard_reading h     what a line was, as numbers: its kind (enum pj_heard_kind), and its reading, if
+--                      it was read as a reply
 -- Assumes nothing.
 use Rattle.std.specs.Prelude.{not, List, [], if◌then◌else◌, Option, Some, None, Result, Ok, Err, ℕ, ◌==◌}
 use Rattle.text.specs.Flags.{is_raised}
@@ -39,7 +39,7 @@ greeting_heard (Some Open) = greets
 greeting_heard (Some (Secured random)) = greets
 greeting_heard g = no_greeting
 
--- the command under way is one, in a legal entry
+-- in a legal entry the command under way is one
 abbrev pub reply_heard : Option Command → List ℕ → HeardAs
 reply_heard (Some c) l = replies (read_reply c l)
 reply_heard None l = too_late

@@ -1,11 +1,11 @@
--- A legal panel, a definition a part (docs/DECISIONS.md, "The panel"). An array of a record is a list of any length
--- here, so each part says its arrays' lengths.
---   is_talk t         a greeting or none; a random number and a digest of a secured one only; a command under way only
---                     with a greeting, and one that the writer takes
+-- When a panel is legal, a definition for each part (docs/DECISIONS.md, "The panel"). An array of a record is a list of
+-- any length here, so each part says its arrays' lengths.
+--   is_talk t         the talk t has a greeting or none; a random number and a digest only of a secured one; a command
+--                     under way only after a greeting, and one that the writer takes
 --   is_power_shown, is_input_shown, shows_lamps   what is known is in the reader's range, what is not is zero
---   is_entry e        the entry is legal: a password of 0 to 32 letters and digits, and strays to their stop
---   is_unused e       nothing is kept of it: with is_entry, all zero (proofs/Unused)
---   is_panel p        up to eight projectors, and the entries past them unused
+--   is_entry e        the entry e is legal: a password of 0 to 32 letters and digits, and at most 65,535 strays
+--   is_unused e       nothing is kept in the entry e: if it is legal, all is zero (proofs/Unused)
+--   is_panel p        the panel p has up to eight projectors, and the entries past them are unused
 -- Assumes nothing.
 use Rattle.std.specs.List.{list_all}
 use Rattle.std.specs.Prelude.{ℕ, ◌==◌, Bool, not, ◌&&◌, ◌||◌, List, if◌then◌else◌, is_some, nat_le}

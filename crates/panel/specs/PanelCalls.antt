@@ -1,14 +1,14 @@
--- The panel's calls (RULES, Panel; the numbers in the order of the table, with 9 after them).
---   PanelAs                what a call gives: its number, the line to be sent, the panel
---   panel_kept n p         the number n, no line and the panel that was given
---   no_panel               the panel of no projector
---   entry_at p i, with_entry p i e   the entry of the projector i; the panel with the entry e there
+-- The panel's calls (RULES, Panel; their numbers in the order of the table, with 9 after the others).
+--   PanelAs                what a call gives: its number, the line to send, the panel
+--   panel_kept n p         what a call gives that keeps the panel: the number n, no line, and the panel p
+--   no_panel               the panel without a projector
+--   entry_at p i, with_entry p i e   the entry of the projector i; the panel p with the entry e there
 --   adding_rows, commanding_rows, projector_rows   when each call is refused, and with which number
---   added_to p s             a projector more, with the password s: 1, then 3
---   command_at p i k room  the command k to the projector i: 1, 2, 3, 9, or its line
---   stepped_at p i l       the line l from the projector i: 1, 3, or the step on its entry alone
---   told_at p i l          what that line was, where the call is served
---   lost_at p i            its connection is gone: 1, 3
+--   added_to p s             adds a projector with the password s: 1, then 3
+--   command_at p i k room  sends the command k to the projector i: 1, 2, 3, 9, or its line
+--   stepped_at p i l       the line l from the projector i: 1, 3, or what it does to that projector's entry
+--   told_at p i l          what that line was, if the call is served
+--   lost_at p i            the connection of the projector i is gone: 1, 3
 -- Assumes nothing.
 use Rattle.std.specs.Prelude.{ℕ, ◌+◌, not, List, [], ◌∷◌, set, replicate, slice_index_or, nat_le, nat_lt, is_some}
 use Rattle.std.specs.Prelude.{Option, Some, None}

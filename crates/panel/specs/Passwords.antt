@@ -1,8 +1,8 @@
 -- A projector's password in its room (RULES, Panel and Passwords): 0 to 32 letters and digits at the start, and zero
 -- after them.
 --   password_of s        the password s in its room
---   no_password          none
---   is_password_kept t   the password is legal: one that the controller's writer takes, and nothing after it
+--   no_password          no password, in its room
+--   is_password_kept t   the password t is legal: one that the controller's writer takes, and zero after it
 -- Assumes nothing.
 use Rattle.std.specs.Prelude.{ℕ, ◌==◌, Bool, List, length, replicate}
 use Rattle.text.specs.Rooms.{used_part, holds, filled_room}

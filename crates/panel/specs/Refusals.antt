@@ -1,5 +1,5 @@
--- Why a call on a panel is refused, and the number that it then gives (RULES, The numbers a call gives).
---   panel_refusal_number r       the number of a refusal
+-- Why a call on a panel is refused, and the number that it gives then (RULES, The numbers a call gives).
+--   panel_refusal_number r       the number of the refusal r
 -- Assumes nothing.
 use Rattle.std.specs.Prelude.{ℕ}
 use Rattle.panel.specs.declared.refusal.PanelRefusal.{PanelRefusal}

@@ -1,7 +1,8 @@
--- What an accepted reply shows (RULES, Panel: "an OK or error changes no reading", "the panel shows the last accepted
--- reading").
---   with_power_shown, with_input_shown, with_lamps_shown   what is shown, with that known besides
---   showing s m          what was said is shown: a power, an input or lamps; anything else changes nothing
+-- What an accepted reply shows (RULES, Panel): an OK or an error changes no reading, and the panel shows the last
+-- accepted one.
+--   with_power_shown, with_input_shown, with_lamps_shown   what is shown, and this reading as known
+--   showing s m          what is shown after a reply that says m: a power, an input or lamps are shown; anything else
+--                        changes nothing
 -- Assumes nothing.
 use Rattle.std.specs.Prelude.{ℕ, false, List, map, length}
 use Rattle.text.specs.Flags.{flag_of}

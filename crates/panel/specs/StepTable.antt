@@ -1,8 +1,9 @@
--- What each kind of line does, as a table (RULES, Panel), whoever steps: the entry e, at the line l, becomes f. A legal
--- entry steps by this table (proofs/StepsByTable), and no two rows give different entries.
---   IsUnderWay e c     its greeting was accepted, and the command c is under way
---   IsStray e l        the line is late, foreign or malformed: by the connection's state, or by the reader's number
---   StepTo e l f       the rows
+-- What each kind of line does, as a table (RULES, Panel), for any panel: the entry e becomes f by the line l. A legal
+-- entry changes by this table (proofs/StepsByTable), and no two rows give different entries.
+--   IsUnderWay e c     the greeting of e was accepted, and the command c is under way
+--   IsStray e l        the line l is late, foreign or malformed: by the state of the connection, or by the number of
+--                      the reading
+--   StepTo e l f       the rows of the table
 -- Assumes nothing.
 use Rattle.std.specs.Prelude.{ℕ, ◌≡◌, Bool, true, false, List, Option, Some}
 use Rattle.text.specs.Flags.{is_raised}

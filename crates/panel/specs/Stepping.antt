@@ -1,16 +1,17 @@
--- The step on a line (RULES, Panel). Each clause is a sentence there:
---   with_stray e        "A late, foreign or malformed reply changes nothing but a per-projector count of such lines,
---                       stopped at 65,535."
---   greeted_as e g      "Until a greeting is accepted, any other line is malformed": the ERRA line too
---   heard_line e l      "after it, a line with no command under way is late": whatever the line is
---   heard_as e o m      "A malformed or foreign line leaves the command under way; any accepted reply ends it, and an
---                       OK or error changes no reading; ERRA ends it, makes that projector's readings unknown and
---                       awaits a new greeting." What the reader answers with 10 or 12 is malformed, with 11 foreign.
+-- What a line does to an entry, and what a command does (RULES, Panel). Each clause is a sentence there.
+--   with_stray e        the entry e after a late, foreign or malformed line: only the count of such lines changes, and
+--                       it stops at 65,535
+--   greeted_as e g      the entry e after a line while the greeting is awaited: any line but a greeting is malformed,
+--                       the ERRA line too
+--   heard_line e l      the entry e after the line l; without a command under way any line is late
+--   heard_as e o m      the entry e after a reply: a malformed or foreign one leaves the command under way; an accepted
+--                       one ends it, and an OK or an error changes no reading; ERRA ends it, makes all readings unknown
+--                       and awaits a new greeting. A reading with 10 or 12 is malformed, one with 11 is foreign
 --   lost_entry e        the connection is gone (docs/DECISIONS.md): as after ERRA, but the readings stay
---   sent_entry e k      the command k was sent
---   is_unready e        "A command before the greeting or over another"
+--   sent_entry e k      the entry e after the command k was sent
+--   is_unready e        a command to e is refused: it is before the greeting, or another is under way
 --   command_sent e c room    what is sent of the command c: the digest leads the first one after a secured greeting
---   line_sent e m room       the same of a command by its code; nothing of none
+--   line_sent e m room       the same of the command m that a code stands for; nothing if it stands for none
 -- Lines are read by the controller's own readers, read_greeting and read_reply, and written by its writer.
 -- Assumes nothing.
 use Rattle.std.specs.Prelude.{ℕ, ◌+◌, min, Bool, not, ◌||◌, List, [], if◌then◌else◌, Option, Some, None, ◌==◌}
@@ -66,7 +67,7 @@ heard_as e o m = with_stray e
 abbrev pub heard_by : PanelEntry → ReadAs → PanelEntry
 heard_by e r = heard_as e r.outcome r.said
 
--- the command under way is one, in a legal entry
+-- in a legal entry the command under way is one
 abbrev pub replied_to : PanelEntry → Option Command → List ℕ → PanelEntry
 replied_to e (Some c) l = heard_by e (read_reply c l)
 replied_to e None l = with_stray e

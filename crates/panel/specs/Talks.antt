@@ -1,10 +1,10 @@
--- What happens to an entry, one event after the other, and which commands of one talk the digest leads. A talk is what
--- goes on from a greeting until a new one is awaited.
---   Happens            a command is asked for, a line comes, or the connection is gone
---   after_it e x       the entry after it: a command that is refused changes nothing
---   is_sent e x        it is a command, and it is sent
---   led_in_talk e xs   of the commands sent in the talk that goes on in e, in their order: whether the digest leads
---   is_first_led bs    it leads the first of them and no other
+-- What happens to an entry, one event after the other, and which commands of one talk the digest leads. A talk goes
+-- from a greeting until a new one is awaited.
+--   Happens            an event: a command to be sent, a line, or the loss of the connection
+--   after_it e x       the entry e after the event x; a command that is refused changes nothing
+--   is_sent e x        the event x is a command that is sent
+--   led_in_talk e xs   for each command sent in the talk of e, in order, whether the digest leads it
+--   is_first_led bs    the digest leads the first of these commands and no other
 -- Assumes nothing.
 use Rattle.std.specs.List.{list_all}
 use Rattle.std.specs.Prelude.{Bool, true, false, not, ◌&&◌, List, [], ◌∷◌, ◌++◌, ℕ, is_some, if◌then◌else◌, ◌==◌}

@@ -1,5 +1,5 @@
-// The panel's calls, in place (RULES, Panel): each tests the panel, finds the projector, and works on that one's entry
-// alone. A refused call leaves the panel and the buffer as they were.
+// The panel's calls, in place (RULES, Panel). Each tests the panel, finds the projector, and changes that projector's
+// entry alone. A refused call leaves the panel and the buffer as they were.
 ghost use Rattle.std.specs.Prelude.{◌≡◌, ◌≤◌, length, IfOk};
 ghost use Rattle.pjlink.specs.Said.{parameter_most};
 ghost use Rattle.text.specs.Words.{over};
@@ -19,7 +19,8 @@ use words::lamp::LAMPS_MOST;
 use words::texts;
 
 impl PanelEntry {
-    /// Returns the entry of a projector with that password: its greeting is awaited, nothing is known, no strays.
+    /// Returns the entry of a projector with this password: its greeting is awaited, nothing is known, and there are no
+    /// strays.
     pub fn new(password: Password) -> PanelEntry
         ensures { result ≡ entry_of password no_talk nothing_shown 0 }
     {
@@ -45,7 +46,7 @@ impl PanelEntry {
 }
 
 impl Panel {
-    /// Returns the panel of no projector.
+    /// Returns the panel without a projector.
     pub fn new() -> Panel
         ensures { result ≡ ours_panel.none.panel }
     {
@@ -55,7 +56,7 @@ impl Panel {
         }
     }
 
-    /// Adds a projector, numbered by how many there were. Errors, in this order: `NotLegal`; `OutOfRange` for a
+    /// Adds a projector. Its number is how many there were. Errors, in this order: `NotLegal`; `OutOfRange` for a
     /// password that is not 0 to 32 letters and digits, and for a ninth projector.
     #[tactic(auto, unfolding(crate::specs::PanelCalls::added_to), using(words::proofs::TextsTold::password_long))]
     pub fn add(&mut self, password: &[u8]) -> Result<(), PanelRefusal>
@@ -73,9 +74,9 @@ impl Panel {
         Ok(())
     }
 
-    /// Writes the line of a command to a projector to the start of `out`, and returns its length in bytes. Errors, in
-    /// this order: `NotLegal`; `NoRoom` for less than 168 bytes; `OutOfRange` for no such projector and for no command;
-    /// `NotReady` before the greeting or over another command.
+    /// Writes the line of a command to a projector to the start of `out`. Returns its length in bytes. Errors, in this
+    /// order: `NotLegal`; `NoRoom` for less than 168 bytes; `OutOfRange` for no such projector and for no command;
+    /// `NotReady` before the greeting or while another command is under way.
     #[tactic(auto, using(crate::proofs::LinesSent::entry_sends), unfolding(crate::specs::PanelCalls::command_at))]
     pub fn send(
         &mut self,
@@ -109,7 +110,7 @@ impl Panel {
         Ok(self.entries[projector].send(coded, command, out))
     }
 
-    /// Steps the entry of a projector on its line, with its CR, and returns what the line was. Errors, in this order:
+    /// Updates the entry of a projector by its line, with its CR. Returns what the line was. Errors, in this order:
     /// `NotLegal`; `OutOfRange` for no such projector.
     #[tactic(auto, using(crate::proofs::PanelsTold::few_projectors), unfolding(crate::specs::PanelCalls::stepped_at))]
     pub fn hear<'a>(&mut self, projector: usize, line: &'a [u8]) -> Result<Heard<'a>, PanelRefusal>

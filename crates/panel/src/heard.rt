@@ -13,8 +13,8 @@ pub enum Heard<'a> {
     NoGreeting,
     /// Late: no command is under way.
     Late,
-    /// What the reader takes from it as the reply to the command under way: an accepted reply, ERRA, or why it is
-    /// foreign (`OtherCommand`) or malformed.
+    /// The reading of it as a reply to the command under way: an accepted reply, ERRA, or why it is foreign
+    /// (`OtherCommand`) or malformed.
     Reply(Result<Reading<'a>, Misread>),
 }
 

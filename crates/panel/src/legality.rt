@@ -1,4 +1,4 @@
-// The legality of the panel, a function a part: what is kept of a projector is in its ranges, and what is not known,
+// When a panel is legal, a function for each part: what is kept of a projector is in its ranges, and what is not known,
 // not under way or past a count is zero.
 ghost use Rattle.std.specs.List.{list_all};
 ghost use Rattle.std.specs.Prelude.{◌≡◌};
@@ -34,7 +34,8 @@ fn is_lit_room(lit: &[u8; LAMPS_MOST], count: usize) -> bool
 }
 
 impl PanelEntry {
-    // A command under way only after a greeting, and one that the writer takes; else none.
+    // Returns whether a command is under way only after a greeting, and is one that the writer takes. Without one all
+    // is zero.
     #[tactic(auto, unfolding(crate::specs::LegalPanels::is_command_kept))]
     fn is_command_kept(&self) -> bool
         ensures { result ≡ is_command_kept (talk_of self.now) }
@@ -45,7 +46,8 @@ impl PanelEntry {
         self.command.code == 0 && self.command.first == 0 && self.command.second == 0
     }
 
-    // A greeting or none; a random number and a digest of a secured one only.
+    // Returns whether the connection's state is legal: a greeting or none, a random number and a digest only of a
+    // secured one, and a command as `is_command_kept` has it.
     #[tactic(auto, unfolding(crate::specs::LegalPanels::is_talk))]
     fn is_talk(&self) -> bool
         ensures { result ≡ is_talk (talk_of self.now) }
@@ -101,7 +103,7 @@ impl PanelEntry {
             && is_lit_room(&self.lit, self.lamp_count)
     }
 
-    // Whether what is shown is in its ranges.
+    // Returns whether what is shown is in its ranges.
     #[tactic(auto, unfolding(crate::specs::LegalPanels::is_shown))]
     fn is_shown(&self) -> bool
         ensures { result ≡ is_shown (shown_of self.now) }
@@ -114,7 +116,7 @@ impl PanelEntry {
             && flag::is_flag(self.lamps_known)
     }
 
-    /// Whether the entry is legal.
+    /// Returns whether the entry is legal.
     #[tactic(auto, unfolding(crate::specs::LegalPanels::is_entry))]
     pub fn is_legal(&self) -> bool
         ensures { result ≡ is_entry self.now }
@@ -123,7 +125,7 @@ impl PanelEntry {
     }
 }
 
-// Nothing is kept in the entry, where it is legal.
+// A legal entry is blank if nothing is kept in it.
 impl Blank for PanelEntry {
     ghost blank = { is_unused };
 
@@ -145,7 +147,7 @@ fn are_legal(entries: &[PanelEntry]) -> bool
 }
 
 impl Panel {
-    /// Whether the panel is legal.
+    /// Returns whether the panel is legal.
     #[tactic(auto, unfolding(crate::specs::LegalPanels::is_panel))]
     pub fn is_legal(&self) -> bool
         ensures { result ≡ is_panel self.now }

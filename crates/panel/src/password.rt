@@ -24,7 +24,7 @@ impl Password {
         }
     }
 
-    /// Whether the password is legal.
+    /// Returns whether the password is legal.
     pub fn is_legal(&self) -> bool
         ensures { result ≡ is_password_kept self.now }
     {

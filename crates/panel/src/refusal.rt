@@ -7,16 +7,16 @@ use std::error::Error;
 use std::fmt;
 use text::numbered::Numbered;
 
-/// Why a call on a panel is refused. The panel, and the buffer for a line, are then as they were.
+/// Why a call on a panel is refused. The panel and the buffer for a line then stay as they were.
 #[derive(Clone, Copy, Debug, PartialEq, Eq)]
 pub enum PanelRefusal {
     /// 1: the panel is not legal.
     NotLegal,
     /// 2: the buffer is too short for a command's line.
     NoRoom,
-    /// 3: no such projector, no command, a password out of its range, a ninth projector.
+    /// 3: there is no such projector or no such command, a password is out of its range, or it is a ninth projector.
     OutOfRange,
-    /// 9: a command before the projector's greeting, or over another.
+    /// 9: a command before the projector's greeting, or while another is under way.
     NotReady,
 }
 
@@ -35,7 +35,7 @@ impl Numbered for PanelRefusal {
     }
 }
 
-/// What its number says.
+/// Writes the meaning of its number.
 impl fmt::Display for PanelRefusal {
     fn fmt<W: fmt::Write>(&self, f: &mut fmt::Formatter<W>) -> fmt::Result {
         f.write_str(numbers::number_text(self.number()))

@@ -15,7 +15,7 @@ use text::flag;
 
 impl PanelEntry {
     /// Writes the line of the command, which has this code, to the start of `out`, led by the digest if it is the first
-    /// after a secured greeting. The command is then under way. Returns the length of the line.
+    /// after a secured greeting. The command is then under way. Returns the length of the line in bytes.
     #[tactic(auto, using(crate::proofs::LinesSent::sent_whole, crate::proofs::LinesSent::password_writable))]
     pub(crate) fn send(&mut self, coded: Coded, command: Command, out: &mut [u8]) -> usize
         requires fits { self.old.password.len ≤ password_room }

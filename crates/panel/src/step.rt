@@ -1,4 +1,4 @@
-// The step on a line, on the entry of the projector that it came from (RULES, Panel).
+// What a line does to the entry of the projector that sent it (RULES, Panel).
 ghost use Rattle.std.specs.Prelude.{◌≡◌, ◌+◌, ◌≤◌, min, length};
 ghost use Rattle.pjlink.specs.Said.{parameter_most};
 ghost use Rattle.pjlink.specs.Greetings.{read_greeting};
@@ -18,7 +18,7 @@ use controller::reading;
 use controller::reading::{Misread, Reading};
 use pjlink::greeting::Greeting;
 
-// One more, stopped at 65,535.
+// Returns one more, at most 65,535.
 fn one_more(strays: u32) -> u32
     ensures { result ≡ min strays_most (strays + 1) }
 {
@@ -29,21 +29,21 @@ fn one_more(strays: u32) -> u32
 }
 
 impl PanelEntry {
-    // A late, foreign or malformed line changes nothing but the count of such lines.
+    // Counts a late, foreign or malformed line. Nothing else changes.
     fn stray(&mut self)
         ensures { self.new ≡ with_stray self.old }
     {
         self.strays = one_more(self.strays);
     }
 
-    /// Records that the connection is gone: a new greeting is awaited, and what is known stays.
+    /// Records that the connection is gone: a new greeting is awaited, and the readings stay.
     pub(crate) fn lose(&mut self)
         ensures { self.new ≡ lost_entry self.old }
     {
         self.begin(Greeted::NotYet);
     }
 
-    // ERRA: a new greeting is awaited, and nothing is known.
+    // Records ERRA: a new greeting is awaited, and all readings are unknown.
     fn erra(&mut self)
         ensures { self.new ≡ erra_entry self.old }
     {
@@ -51,7 +51,7 @@ impl PanelEntry {
         self.show_nothing();
     }
 
-    // No command is under way.
+    // Ends the command under way.
     fn rest(&mut self)
         ensures { self.new ≡ with_talk self.old (rested_on (talk_of self.old)) }
     {
@@ -59,7 +59,7 @@ impl PanelEntry {
         self.command = NO_COMMAND;
     }
 
-    // Until a greeting is accepted, any other line is malformed.
+    // Reads a line while the greeting is awaited. Any line but a greeting is malformed.
     fn greet<'a>(&mut self, line: &'a [u8]) -> Heard<'a>
         ensures entry { self.new ≡ greeted_as self.old (read_greeting line.now) }
         ensures heard { heard_by_code result ≡ greeting_heard (read_greeting line.now) }
@@ -77,7 +77,8 @@ impl PanelEntry {
         Heard::Greeting
     }
 
-    // ERRA and an accepted reply end the command under way, and any other line is malformed or foreign.
+    // Records the reading of a reply. ERRA and an accepted reply end the command under way; any other line is malformed
+    // or foreign.
     fn take(&mut self, reading: &Result<Reading<'_>, Misread>)
         ensures { self.new ≡ heard_as self.old (read_as reading.now).outcome (read_as reading.now).said }
     {
@@ -91,7 +92,7 @@ impl PanelEntry {
         }
     }
 
-    // A line, where a command is under way: one, in a legal entry.
+    // Reads a line while a command is under way. In a legal entry the code is that of a command.
     #[tactic(auto, using(controller::proofs::ReadShort::reading_short))]
     fn reply<'a>(&mut self, coded: Coded, line: &'a [u8]) -> Heard<'a>
         ensures entry { self.new ≡ replied_to self.old (coded_command coded) line.now }
@@ -107,8 +108,8 @@ impl PanelEntry {
         Heard::Reply(reading)
     }
 
-    /// Steps on a line from the projector, with its CR, and returns what it was. A line with no command under way is
-    /// late.
+    /// Updates the entry by a line from the projector, with its CR. Returns what the line was. If no command is under
+    /// way, it is late.
     #[tactic(auto, unfolding(crate::specs::Stepping::heard_line, crate::specs::Hearing::line_heard))]
     pub(crate) fn hear<'a>(&mut self, line: &'a [u8]) -> Heard<'a>
         ensures entry { self.new ≡ heard_line self.old line.now }

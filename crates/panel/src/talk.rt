@@ -1,4 +1,4 @@
-// The state of the connection to a projector: what its numbers mean, what is awaited, and how it begins anew.
+// The state of the connection to a projector: what its numbers mean, what is awaited, and how a connection begins.
 ghost use Rattle.std.specs.Prelude.{◌≡◌};
 ghost use Rattle.panel.specs.Entries.{talk_of, is_secured_talk};
 ghost use Rattle.panel.specs.Stepping.{with_talk};
@@ -11,7 +11,7 @@ use text::flag;
 /// `PanelEntry::greeting`: none yet.
 pub const UNGREETED: u8 = 0;
 
-// It was `PJLINK 0`.
+// `PanelEntry::greeting`: it was `PJLINK 0`.
 const GREETED_OPEN: u8 = 1;
 
 /// `PanelEntry::greeting`: it was `PJLINK 1`.
@@ -28,7 +28,7 @@ pub enum Greeted {
     Secured { random: u32 },
 }
 
-/// What is awaited of a projector.
+/// What is awaited from a projector.
 #[derive(Clone, Copy)]
 pub enum Awaits {
     /// Its greeting.
@@ -40,7 +40,7 @@ pub enum Awaits {
 }
 
 impl PanelEntry {
-    /// Whether the projector asks for a digest.
+    /// Returns whether the projector asks for a digest.
     pub fn is_secured(&self) -> bool
         ensures { result ≡ is_secured_talk (talk_of self.now) }
     {
@@ -63,7 +63,7 @@ impl PanelEntry {
         self.command = NO_COMMAND;
     }
 
-    /// Returns what is awaited of the projector.
+    /// Returns what is awaited from the projector.
     pub fn awaits(&self) -> Awaits
         ensures { result ≡ awaits_of self.now }
     {

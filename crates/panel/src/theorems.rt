@@ -1,5 +1,5 @@
-// What is proved beside the contracts of the functions. Nothing is done here: that these functions have their contracts
-// is that the theorems stand.
+// What is proved beside the contracts of the functions. The functions here do nothing: their contracts are the
+// theorems.
 ghost use Rattle.std.specs.Prelude.{[], ◌≡◌, ◌≢◌, ◌≤◌, ◌<◌, ◌++◌, List, ℕ, Some, true, false, not, length};
 ghost use Rattle.std.specs.List.{list_all};
 ghost use Rattle.text.specs.Flags.{is_raised};
@@ -28,16 +28,16 @@ ghost use Rattle.panel.specs.PanelCalls.{added_to, command_at, stepped_at, lost_
 ghost use Rattle.panel.specs.declared.types.PanelEntry.{PanelEntry};
 ghost use Rattle.panel.specs.declared.types.Panel.{Panel};
 
-/// A legal entry steps by the table of lines, and the table's result is the step's: so the table gives one entry.
+/// A legal entry changes by a line as the table says, and the table gives one entry.
 pub fn a_line_steps_by_the_table()
     ensures steps_by_the_table { (e : PanelEntry) (l : List ℕ) → is_entry e ≡ true → StepTo e l (heard_line e l) }
     ensures row_steps { (e : PanelEntry) (l : List ℕ) (f : PanelEntry) → StepTo e l f → heard_line e l ≡ f }
     ensures one_step { (e : PanelEntry) (l : List ℕ) (f g : PanelEntry) → StepTo e l f → StepTo e l g → f ≡ g }
 {}
 
-/// Lines that the rules do not list one by one (RULES, Panel) change nothing but the count of strays: the ERRA line
-/// before a greeting; that line and a second greeting with no command under way; with one, a line that is neither the
-/// ERRA line nor of a reply's form, so a second greeting too, with any random number.
+/// Lines that RULES, Panel, does not list one by one change nothing but the count of strays: the ERRA line before a
+/// greeting; the ERRA line and a second greeting while no command is under way; while one is, a line that is neither
+/// the ERRA line nor of a reply's form, so a second greeting too, with any random number.
 #[tactic(auto, using(crate::proofs::Examples::counted_strays))]
 pub fn strays_are_counted()
     ensures erra_before_greeting { (e : PanelEntry) → e.greeting ≡ ungreeted → heard_line e erra_line ≡ with_stray e }
@@ -54,8 +54,8 @@ pub fn strays_are_counted()
         → heard_line e (greeting_secured digits) ≡ with_stray e }
 {}
 
-/// Of the commands sent on one connection, for any commands and any lines, the digest leads the first and no other;
-/// after a greeting without security it leads none.
+/// The digest leads the first of the commands sent on a secured connection and no other, for any commands and any
+/// lines. After a greeting without security it leads none.
 pub fn the_digest_leads_the_first()
     ensures secured { (e : PanelEntry) (xs : List Happens) (random : ℕ)
         → is_first_led (led_in_talk (with_talk e (greeted_by greeted_secured random)) xs) ≡ true }
@@ -63,7 +63,8 @@ pub fn the_digest_leads_the_first()
         → list_all not (led_in_talk (with_talk e (greeted_by greeted_open 0)) xs) ≡ true }
 {}
 
-/// What is sent is what the controller's writer gives: the digest and the command's line if it is led, else the line.
+/// What is sent is what the controller's writer writes: the digest and the command's line if the digest leads it, else
+/// the line.
 pub fn the_line_is_the_writers()
     ensures by_the_writer { (e : PanelEntry) (c : Command) (room : ℕ) → command_sent e c room
         ≡ (written_command c (leads_next (talk_of e)) e.random (password_in e) room).bytes }
@@ -75,8 +76,8 @@ pub fn the_line_is_the_writers()
         → command_sent e c room ≡ command_line c }
 {}
 
-/// What is shown changes by an accepted reply with a reading, and by ERRA: by no stray, no OK, no error, no command and
-/// no loss. At first nothing is known.
+/// What is shown changes by an accepted reply with a reading, and by ERRA. No stray, no OK, no error, no command and no
+/// loss of the connection changes it. At first nothing is known.
 pub fn only_a_reading_is_shown()
     ensures stray_keeps { (e : PanelEntry) (l : List ℕ) → IsStray e l
         → (talk_of (heard_line e l) ≡ talk_of e) × (shown_of (heard_line e l) ≡ shown_of e) }
@@ -89,8 +90,8 @@ pub fn only_a_reading_is_shown()
     ensures unknown_at_first { (s : List ℕ) → shown_of (fresh_entry s) ≡ nothing_shown }
 {}
 
-/// A refused call keeps the panel and sends nothing; the number of a call is the first row of its table that applies
-/// (RULES, The numbers a call gives).
+/// A refused call leaves the panel as it was and sends nothing. The number of a call is that of the first row of its
+/// table that applies (RULES, The numbers a call gives).
 pub fn a_refusal_keeps_the_panel()
     ensures adding { (p : Panel) (s : List ℕ) → let a = added_to p s in
         a.number ≢ 0 → (a.panel ≡ p) × (a.line ≡ []) }
@@ -108,7 +109,8 @@ pub fn a_refusal_keeps_the_panel()
     ensures losing_number { (p : Panel) (i : ℕ) → (lost_at p i).number ≡ first_of (projector_rows p i) }
 {}
 
-/// The panel of no projector is legal; past its count a legal panel is blank; adding a projector leaves the others.
+/// The panel without a projector is legal. Past its count a legal panel is blank. Adding a projector leaves the others
+/// as they were.
 pub fn a_panel_grows_by_one()
     ensures none_legal { is_panel no_panel ≡ true }
     ensures blank_past { (p : Panel) (i : ℕ) → is_panel p ≡ true → p.count ≤ i → i < length p.entries
@@ -117,7 +119,7 @@ pub fn a_panel_grows_by_one()
         → entry_at (added_to p s).panel j ≡ entry_at p j }
 {}
 
-/// Two results that meet the promise of a call are equal: what it returns, the panel and the written bytes.
+/// Any two results that meet the contract of a call are equal: what it returns, the panel and the bytes written.
 #[tactic(auto, using(text::proofs::OneResult::one_result))]
 pub fn one_result()
     ensures added { (p : Panel) (password : List ℕ) (r s : ℕ) (x y : Panel)

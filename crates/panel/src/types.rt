@@ -1,16 +1,16 @@
-// The panel's record (RULES, Panel): numbers, arrays and structs of these, so that it can cross to C and any
-// bytes of it are a panel; a flag is 0 or 1 in a legal panel, and raised where it is not 0 (`text::flag`). What is
-// not known, not under way or past a count is zero. `talk` says what its numbers mean.
+// The panel's record (RULES, Panel): numbers, arrays and structs of these, so that C can pass it and any bytes of it
+// are a panel. A flag is 0 or 1 in a legal panel, and set if it is not 0 (`text::flag`). What is not known, not under
+// way or past a count is zero. `talk` says what its numbers mean.
 use codes::command::Coded;
 use words::lamp::LAMPS_MOST;
 
-/// The room of a password (`pj_text`).
+/// How many bytes the array of a password has (`pj_text`).
 pub const PASSWORD_ROOM: usize = 64;
 
-/// The most projectors of a panel.
+/// How many projectors a panel has at most.
 pub const PANEL_MOST: usize = 8;
 
-/// The most hours of a lamp.
+/// How many hours a lamp has at most.
 pub const HOURS_MOST: u32 = 99_999;
 
 /// The count of strays stops here.
@@ -30,7 +30,7 @@ pub struct Password {
 #[repr(C)]
 #[derive(Clone, Copy)]
 pub struct PanelEntry {
-    /// The password that the projector was set up with; 1 to 7 characters are taken too.
+    /// The projector's password. One of 1 to 7 characters is accepted too.
     pub password: Password,
     /// The greeting that it has sent: 0 none yet, 1 `PJLINK 0`, 2 `PJLINK 1` (`enum pj_awaited`).
     pub greeting: u8,
@@ -40,7 +40,7 @@ pub struct PanelEntry {
     pub led: u8,
     /// A flag: a command was sent and its reply is awaited; 0 without a greeting.
     pub under_way: u8,
-    /// That command, as it was given; else all three 0.
+    /// That command, as it was given; all three numbers are 0 if there is none.
     pub command: Coded,
     /// A flag: a reply gave the power, and no ERRA has made all unknown since.
     pub power_known: u8,
@@ -60,7 +60,7 @@ pub struct PanelEntry {
     pub hours: [u32; LAMPS_MOST],
     /// A flag for each lamp: it is lit; 0 past the count.
     pub lit: [u8; LAMPS_MOST],
-    /// How many late, foreign or malformed lines came from it; the count stops at 65,535.
+    /// How many late, foreign or malformed lines it has sent; the count stops at 65,535.
     pub strays: u32,
 }
 

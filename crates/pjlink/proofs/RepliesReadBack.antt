@@ -18,7 +18,7 @@ use Rattle.pjlink.specs.Forms.{IsLetters}
 use Rattle.pjlink.specs.Said.{parameter_most}
 
 module _ (a b c d : ℕ) (letters : list_all is_alnum (a ∷ b ∷ c ∷ d ∷ []) ≡ true) where
-  -- whatever the class, and whatever follows the mark
+  -- whatever the class, and whatever follows the separator
   pub headed : (h m : ℕ) (rest : List ℕ) → is_headed m (codes "%" ++ (h ∷ a ∷ b ∷ c ∷ d ∷ []) ++ (m ∷ rest)) ≡ true
   headed h m rest =
       let after_a = both_right (is_alnum a) _ letters in

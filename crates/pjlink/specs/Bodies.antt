@@ -1,17 +1,18 @@
 -- The bodies of both classes, a row for each: under which class a body is asked for, what it is called, how it is set,
 -- what kind of answer it has and when it is refused all come from its row (RULES, Commands and Class 2; PJLink 1.04,
 -- 4.1 to 4.14). INPT and INST are a body of each class, under one name.
---   row_of b           its class; its letters; what it sets; the kind of its answer; whether it is defined only where
---                      there are lamps (rule 1); whether it is available, set or query, only when on (rule 4)
+--   row_of b           the row of b: its class; its letters; what it sets; the kind of its answer; whether it is
+--                      defined only where there are lamps (rule 1); whether it is available, set or query, only when on
+--                      (rule 4)
 --   bodies, body_rows  every body, those of Class 1 in the order of RULES, then those of Class 2; their rows
 --   class_of b         the class of the line that asks for it
 --   kind_of b          the kind of its answer
 --   is_named k s r      the bytes s name the body of the row r in a line of Class k, in any case of letters
---   is_body k s b      they name the body b
---   body_named k s     the body that they name, or none
---   has_set b          it sets something (rule 3)
---   has_parameters b   it knows a parameter besides `?`: one that it does not know is out of parameter (rules 1 and 2)
---   has_query b        `?` asks it: it has an answer, and names no input
+--   is_body k s b      the bytes s name the body b in a line of Class k
+--   body_named k s     the body that the bytes s name in a line of Class k, or none
+--   has_set b          b sets something (rule 3)
+--   has_parameters b   b has a parameter besides `?`: one that it does not know is out of parameter (rules 1 and 2)
+--   has_query b        `?` asks b: it has an answer, and names no input
 -- Assumes nothing.
 use Rattle.std.specs.Prelude.{ℕ, Bool, true, false, ◌&&◌, List, [], ◌∷◌, map, find, Option, ◌==◌, codes}
 use Rattle.std.specs.Option.{option_map}

@@ -1,7 +1,7 @@
 -- Every answer that a command can have (RULES, Commands and Controller and Class 2).
---   is_set c             c sets something: it is answered OK
+--   is_set c             c sets something: its answer is OK
 --   has_own_parameter c  the parameter of c is another than `?`, so that a projector may not know it
---   is_refusal_to c n    ERRn is allowed in reply to c: `?` may have all but ERR2, any other command all of them
+--   is_refusal_to c n    ERRn is allowed in reply to c: to `?` all but ERR2, to any other command all of them
 --   is_text_by r s       the text s follows the rule r
 --   IsOfKind k m         m is an answer of the kind k
 --   CanSay c m           m is an answer to c: OK to a set, ERRn, or one of the kind of the body that is asked

@@ -1,12 +1,12 @@
--- An answer as it is carried, seen as what is said (RULES, What the product holds).
---   lamps_carried     so many lamps an answer tells of at most, and inputs_carried inputs (RULES, Controller: "INST
---                     allows 1 to 32 inputs, repeats included, LAMP 1 to 8 lamps"): what a set-up may have is record's
---                     to say
---   errors_carried    so many error digits
+-- An answer of the code, as what it says (RULES, What the product holds).
+--   lamps_carried     how many lamps an answer has at most, and inputs_carried how many inputs (RULES, Controller:
+--                     "INST allows 1 to 32 inputs, repeats included, LAMP 1 to 8 lamps"). What a set-up may have,
+--                     crate `record` says
+--   errors_carried    how many error digits an answer has
 --   answer_said a     what an answer says
---   said_by r         what a reply says, an answer or a refusal
---   value_said o      what is read as an answer, where there is one: a parameter that is none says nothing
---   parameter_said o  the same of what is read as a reply
+--   said_by r         what a reply says: an answer or a refusal
+--   value_said o      what an answer says, where one was read; nothing else says nothing
+--   parameter_said o  what a reply says, where one was read; nothing else says nothing
 -- Assumes nothing.
 use Rattle.std.specs.Prelude.{ℕ, Option, Some, None, Result, Ok, Err}
 use Rattle.pjlink.specs.Said.{Said, okay, refused, power_is, chosen_is, mutes_are, errors_are, lamps_are, inputs_are}

@@ -1,14 +1,14 @@
--- The commands that our writer can write, and their lines (PJLink 1.04, 2.1 and 4.1 to 4.14; RULES, Commands and Class
+-- The commands that the writer can write, and their lines (PJLink 1.04, 2.1 and 4.1 to 4.14; RULES, Commands and Class
 -- 2).
 --   body_text b          the four letters of a body
 --   body_of c            the body of a command
---   command_class c      the class of its line, and class_digit k the character of a class
---   half_code h          the character of what a mute is of, with half_text and half_read alike
+--   command_class c      the class of its line; class_digit k is the character of Class k
+--   half_code h          the character of what AVMT mutes; half_text h writes it, and half_read reads it
 --   parameter_of c       its parameter: `?` asks, anything else sets (of a step, 1 is up and 0 is down); INNM's names
 --                        the input that is asked for
---   is_command c         a command whose line can be written: its input is one, its query is one
---   command_text c       `%` and the class, the body, a space, the parameter
---   command_line c       that and CR
+--   is_command c         a command whose line can be written: two characters name its input, `?` asks its body
+--   command_text c       its line without CR: `%` and the class, the body, a space, the parameter
+--   command_line c       its line: that and CR
 -- Assumes nothing.
 use Rattle.std.specs.Prelude.{Bool, true, List, [], ◌∷◌, ◌++◌, ℕ, ◌+◌, Option, codes}
 use Prim.Native.Char.{code}

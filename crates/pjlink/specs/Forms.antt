@@ -1,20 +1,20 @@
 -- The forms of lines (PJLink 1.04, 2.1, 2.2, 2.5 and 5.1; RULES, Connection, Commands and Controller; RULES, Class 2).
---   is_headed m l             l starts with `%`, a byte for its class, four letters or digits and the mark m
+--   is_headed m l             l starts with `%`, a byte for its class, four letters or digits and the separator m
 --   takes_class k b           a set-up of Class k takes a line with the class byte b: `1`, of Class 2 also `2`
 --   is_command_form k l       a line as received, without its CR, that a set-up of Class k takes: headed by a space,
 --                             then 0 to 128 bytes
---   line_class l              the class by its byte
+--   line_class l              the class of the line, by its class byte
 --   is_reply_form k l         a reply of Class k with its CR: headed by `=`, then 0 to 128 bytes with no CR, one CR at
 --                             the end
---   head_body l               the four body bytes of either
---   command_parameter l       what follows the mark; in a reply, up to the CR: reply_parameter l
+--   head_body l               the four body bytes of a line or a reply
+--   command_parameter l       what follows the separator of a line; reply_parameter l: of a reply, up to its CR
 --   IsCommandOf k l j s p     the line l of the form has the class j, the body s and the parameter p
 --   IsReplyOf k l s p         the reply l of the form has the body s and the parameter p
 --   IsLetters s               the body s is four letters or digits
 --   reply_line h s p          the reply with the class byte h, the body s and the parameter p
 --   greeting_open             the greeting of a projector without security
 --   greeting_secured digits   the greeting with its random number's eight digits
---   erra_line                 the refusal of a first line without the matching digest
+--   erra_line                 the reply to a first line without the matching digest
 -- Assumes nothing.
 use Rattle.std.specs.Prelude.{ℕ, ◌-◌, ◌≡◌, true, Bool, ◌&&◌, ◌||◌, List, [], ◌∷◌, ◌++◌, length, take, drop, nat_le}
 use Rattle.std.specs.Prelude.{◌==◌, codes}

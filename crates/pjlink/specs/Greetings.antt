@@ -1,11 +1,11 @@
 -- The two greetings and the ERRA line, and reading them: each with its CR and nothing more (RULES, Connection and
 -- Controller).
 --   greeting_line g     the line of the greeting g
---   random_in l         the number in the place of the random number
+--   random_in l         the number that the eight digits after `PJLINK 1 ` are
 --   greets l r          the line l is the greeting with the random number r, in its eight digits
 --   read_greeting l     what the line l is, if it is one of them
---   Exactly l g         the line l is the line of g; a line that is no greeting is none of them
---   greeting_number g   the number of this in the table of numbers
+--   Exactly l g         the line l is the line of g; if there is no g, it is none of the three
+--   greeting_number g   what the reader's call gives: 0 for a greeting or the ERRA line, else 10
 -- Assumes nothing.
 use Rattle.std.specs.Prelude.{ℕ, ◌^◌, ◌<◌, ◌≡◌, Bool, List, take, drop, if◌then◌else◌, Option, None, Some}
 use Rattle.text.specs.Scans.{is_same_by, itself}
@@ -14,7 +14,7 @@ use Rattle.pjlink.specs.Forms.{erra_line, greeting_open, greeting_secured}
 use Rattle.pjlink.specs.declared.greeting.Greeting.{Greeting}
 use Rattle.pjlink.specs.declared.greeting.Greeting.TheVariants.{Open, Secured, Refused}
 
--- after `PJLINK 1 `
+-- the eight digits after `PJLINK 1 `
 abbrev pub random_in : List ℕ → ℕ
 random_in l = hex_value (take 8 (drop 9 l))
 
@@ -26,7 +26,7 @@ greeting_line Refused = erra_line
 abbrev pub greets : List ℕ → ℕ → Bool
 greets l r = is_same_by itself l (greeting_line (Secured r))
 
--- the digits of the number read are compared with the line's, so that no other digits pass for it
+-- the digits of the number read are compared with those of the line, so that no other digits are taken for it
 unfoldable pub read_greeting : List ℕ → Option Greeting
 read_greeting l =
     if is_same_by itself l (greeting_line Open) then Some Open

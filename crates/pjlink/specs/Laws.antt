@@ -1,5 +1,5 @@
--- The law of what a mute is of, as a value on a line. A trait's law is named from specs/, so it stands here, and no
--- reader has to believe it.
+-- The law of the codec of a half that AVMT mutes. The name of a trait's law has to be in specs/, so this law is here;
+-- no reader has to believe it.
 -- Assumes nothing.
 use Rattle.std.proofs.Common.{true, refl}
 use Rattle.words.specs.Codec.{Codec, Plain, Ends}

@@ -1,12 +1,12 @@
--- The parameter of a reply, read for the command that it answers (RULES, Controller and Class 2: the reader is not told
--- the class of the set-up, and takes what either class answers).
+-- The parameter of a reply, read for the command that it answers (RULES, Controller and Class 2: the reader does not
+-- know the class of the set-up, and takes what either class answers).
 -- ERR1 to ERR4 are tested first, alike for every command.
 --   p spells t             the bytes p are the text t
---   said_or says o         what is said by what was read; nothing where nothing was
---   text_or t p            the text p where it is a legal one
---   read_queried k p       the value in p of an answer of the kind k
---   read_value c p         what p says to c, where it is no refusal: OK to a set, the value to a query
---   refusal_or c o m       the refusal, where p is one that c allows; what p says else
+--   said_or says o         what `says` makes of a value that was read; nothing if none was
+--   text_or t p            the text p if it is legal, else nothing
+--   read_queried k p       the value in p, where the answer is of the kind k
+--   read_value c p         what p says to c if it is no refusal: OK to a set, the value to a query
+--   refusal_or c o m       the refusal in o if c allows it, and nothing if not; without a refusal, m
 --   read_parameter c p     what p says to c
 -- Assumes nothing.
 use Rattle.std.specs.Prelude.{ℕ, Bool, List, Option, Some, None, if◌then◌else◌, codes}

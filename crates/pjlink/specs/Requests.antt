@@ -1,14 +1,14 @@
 -- What a received class, body and parameter ask for (RULES, Commands: bodies without regard to case, parameters
 -- exactly; RULES, Class 2: each body under its own class).
---   mute_of p              what a mute is of, and 0 or 1
+--   mute_of p              the mute that p asks for: what is muted, and 0 or 1
 --   set_of k set p         the command that the parameter p makes of a body of Class k that sets this, or none
---   command_of b p         the command that it makes of the body b, or none
+--   command_of b p         the command that the parameter p makes of the body b, or none
 --   Request                what a line asks for:
 --                            Ok c                 the command c
 --                            Err (Unlisted b)     the body b, with a parameter that is neither its query nor one that
 --                                                 it knows
 --                            Err UnknownBody      no body of the line's class
---   or_unlisted b m        the request that the command m of the body b is, where there is one
+--   or_unlisted b m        the request that the command m of the body b is; without a command, the body's Unlisted
 --   asked_of b p           the request of the body b with the parameter p
 --   request_of k s p       what the body s with the parameter p asks for in a line of Class k
 -- Assumes nothing.

@@ -1,12 +1,12 @@
 -- What a line asks for by the bodies and inputs of one class alone, whatever others there are (RULES, Class 2).
 --   is_row_of_class k r        the row r is of a body of Class k
---   rows_of_class k rows       those of rows that are
+--   rows_of_class k rows       the rows among these that are of bodies of Class k
 --   is_input_of_class k i      the characters of the input i name one of Class k
---   is_foreign k c             the command c chooses another input
---   known_in_class k r         the request r, where the inputs of Class k are all there are: another one is a parameter
---                              that its body does not know
---   request_by rows k s p      what the body s with the parameter p asks for in a line of Class k, where rows are the
---                              rows of all bodies, and the inputs of Class k all inputs
+--   is_foreign k c             the command c chooses an input that is not of Class k
+--   known_in_class k r         the request r, where there are no inputs but those of Class k: any other input is a
+--                              parameter that its body does not know
+--   request_by rows k s p      what the body s with the parameter p asks for in a line of Class k, where these are the
+--                              rows of all bodies and there are no inputs but those of Class k
 -- Assumes nothing.
 use Rattle.std.specs.Prelude.{ℕ, Bool, false, not, List, find, Ok, Err, if◌then◌else◌, ◌==◌}
 use Rattle.std.specs.List.{filter}

@@ -1,14 +1,14 @@
--- What a projector can say, before any bytes, and the parameter that says it (RULES, Commands; PJLink 1.04, 2.5 and 4;
--- RULES, Class 2).
+-- What a projector can say, apart from any bytes, and the parameter that says it (RULES, Commands; PJLink 1.04, 2.5 and
+-- 4; RULES, Class 2).
 --   Said               OK; ERRn; a power; a chosen input; the mutes of video and audio; six error digits; lamps;
 --                      inputs; a text; a class; whether the picture is frozen; or nothing: a parameter that is not
 --                      allowed
---   said_text m        the parameter, row by row
---   said_bytes m       the same, shut
---   parameter_most     no parameter of a reply is longer
---   bytes_most m       no answer of its kind has a longer one: 63 bytes for 8 lamps, 8 × 7 and 7 spaces (PJLink allows
---                      65)
---   said_most          no answer has a longer one: an input's name of 128 bytes (RULES, Class 2)
+--   said_text m        the parameter that says m, row by row
+--   said_bytes m       the bytes of said_text m; crates above cite its laws, not its text
+--   parameter_most     how many bytes a parameter of a reply has at most
+--   bytes_most m       how many bytes an answer of m's kind has at most: 63 for 8 lamps, 8 × 7 and 7 spaces (PJLink
+--                      allows 65)
+--   said_most          how many bytes any answer has at most: an input's name has 128 (RULES, Class 2)
 -- Assumes nothing.
 use Rattle.std.specs.Prelude.{ℕ, ◌*◌, ◌-◌, Bool, List, [], ◌∷◌, ◌++◌, length, codes}
 use Rattle.words.specs.Classes.{class_text}

@@ -1,4 +1,4 @@
--- What the worked lines name (RULES, Inputs, Commands and Class 2).
+-- Names that the worked lines use (RULES, Inputs, Commands and Class 2).
 --   hdmi              the input 31, DIGITAL 1
 --   request_to k b p  what the body b with the parameter p asks for in a line of Class k
 -- Assumes nothing.

@@ -5,7 +5,7 @@
 --   Writes m p         the bytes p are a writing of m: lamps, each in a writing of its own, joined by single spaces; of
 --                      any other answer the one that a projector of ours makes
 --   Says c m p         the parameter p says m in reply to the command c
---   IsAllowed c p t    whether p is allowed there: it says something, or there is nothing that it says
+--   IsAllowed c p t    whether p is allowed in reply to c: true if it says something, false if it says nothing
 -- Assumes nothing.
 use Rattle.std.specs.Prelude.{ℕ, ◌≡◌, Bool, true, false, List}
 use Rattle.words.specs.Joined.{JoinedBy}

@@ -9,10 +9,10 @@ use words::lamp::{LAMPS_MOST, LampHours};
 use words::mutes::Mutes;
 use words::power::PowerStatus;
 
-/// What a command is answered where no rule refuses it.
+/// The answer to a command that no rule refuses (RULES, Commands).
 #[derive(Drop)]
 pub enum Answer<'a> {
-    /// OK to a set.
+    /// OK, the answer to a set.
     Done,
     /// The power.
     Power(PowerStatus),
@@ -34,5 +34,5 @@ pub enum Answer<'a> {
     Freeze(bool),
 }
 
-/// An answer, or a refusal.
+/// What a projector sends back for a command: an answer, or the error reply that refuses it.
 pub type Reply<'a> = Result<Answer<'a>, ErrorReply>;

@@ -1,4 +1,4 @@
-// The bodies of both classes: THE table, a row for each (RULES, Commands; PJLink 1.04, 4.1 to 4.14; RULES, Class 2).
+// The table of the bodies of both classes, a row for each (RULES, Commands; PJLink 1.04, 4.1 to 4.14; RULES, Class 2).
 ghost use Rattle.std.specs.Prelude.{◌≡◌, ◌==◌};
 ghost use Rattle.words.specs.Classes.{class_as_number};
 ghost use Rattle.pjlink.specs.Bodies.{row_of, is_named, is_body, body_named, has_set, has_parameters, has_query};
@@ -13,7 +13,8 @@ use words::byte;
 use words::class::ClassNumber;
 use words::class::ClassNumber::{One, Two};
 
-/// The four letters that name what a command is about, each under its own class: INPT and INST are a body of either.
+/// A body: the four letters that name what a command is about. Each body is of one class; INPT and INST are a body of
+/// each.
 #[derive(Clone, Copy, Debug, PartialEq, Eq)]
 pub enum Body {
     /// POWR: the power (PJLink 1.04, 4.1, 4.2).
@@ -38,26 +39,26 @@ pub enum Body {
     Info,
     /// CLSS: the class (PJLink 1.04, 4.14).
     Clss,
-    /// FREZ: whether the picture stands still (RULES, Class 2).
+    /// FREZ: whether the picture is frozen (RULES, Class 2).
     Frez,
-    /// SVOL: a step of the speaker's level, which it does not tell (RULES, Class 2).
+    /// SVOL: a step of the speaker's level, which has no query (RULES, Class 2).
     Svol,
-    /// MVOL: a step of the microphone's level, which it does not tell (RULES, Class 2).
+    /// MVOL: a step of the microphone's level, which has no query (RULES, Class 2).
     Mvol,
     /// SNUM: the serial number (RULES, Class 2).
     Snum,
     /// SVER: the version of the software (RULES, Class 2).
     Sver,
-    /// INNM: the name of the input behind its `?` (RULES, Class 2).
+    /// INNM: the name of the input that follows its `?` (RULES, Class 2).
     Innm,
 }
 
-/// What a body sets, if anything. INNM sets nothing, and names an input beside its `?`.
+/// What a body sets, if anything. INNM sets nothing; its parameter names an input after the `?`.
 #[derive(Clone, Copy)]
 pub enum Sets {
     /// POWR: `0` off, `1` on.
     SetsPower,
-    /// INPT: the input of its parameter is chosen.
+    /// INPT: chooses the input of its parameter.
     SetsInput,
     /// AVMT: `1` video, `2` audio or `3` both, then `0` off or `1` on.
     SetsMute,
@@ -69,7 +70,7 @@ pub enum Sets {
     StepsMicrophone,
     /// INNM: nothing; its parameter is `?` and an input.
     NamesInput,
-    /// Every other body: nothing, and `?` is its only parameter.
+    /// Every other body sets nothing, and `?` is its only parameter.
     QueryOnly,
 }
 
@@ -99,17 +100,17 @@ pub enum AnswerKind {
     Lamps,
     /// One to 32 inputs.
     Inputs,
-    /// A text that follows a rule. `?` alone asks no input's name.
+    /// A text that follows a rule. The name of an input is not asked by `?` alone.
     Text(TextRule),
     /// The class.
     Class,
     /// Whether the picture is frozen.
     Freeze,
-    /// None: nothing asks the body.
+    /// No answer: `?` does not ask the body.
     Nothing,
 }
 
-/// What is so of a body: rules 1 to 4, its reader and its writer ask nothing else of it.
+/// The properties of a body. Rules 1 to 4 (RULES, Commands), its reader and its writer use nothing else of it.
 #[derive(Clone, Copy)]
 pub struct BodyRow {
     /// The body whose row it is.
@@ -122,14 +123,14 @@ pub struct BodyRow {
     pub set: Sets,
     /// The kind of its answer.
     pub kind: AnswerKind,
-    /// Whether there have to be lamps (rule 1).
+    /// Whether it is defined only where there are lamps (rule 1).
     pub lamps: bool,
-    /// Whether the power has to be on, to set or to ask (rule 4).
+    /// Whether it is available, for a set or a query, only while the power is on (rule 4).
     pub on: bool,
 }
 
-/// Every body: those of Class 1 in the order of RULES, then those of Class 2. It is a static, since a constant would be
-/// put together on the stack at each look-up.
+/// Every body: those of Class 1 in the order of RULES, then those of Class 2. It is a static: a constant would be put
+/// together on the stack at each look-up.
 #[rattlefmt::skip]
 pub static BODIES: [BodyRow; 19] = [
     BodyRow { body: Body::Powr, class: One, letters: *b"POWR", set: SetsPower, kind: Power, lamps: false, on: false },
@@ -173,7 +174,7 @@ fn is_same_class(a: ClassNumber, b: ClassNumber) -> bool
 }
 
 impl BodyRow {
-    /// Whether four letters name its body in a line of the class, whatever their case.
+    /// Returns whether four letters name the body in a line of the class, whatever their case.
     fn is_named(&self, class: ClassNumber, letters: [u8; 4]) -> bool
         ensures { result ≡ is_named (class_as_number class) letters self.now }
     {
@@ -188,7 +189,7 @@ impl BodyRow {
 }
 
 impl Body {
-    /// Its row of the table.
+    /// Returns its row of the table.
     pub fn row(self) -> BodyRow
         ensures { result ≡ row_of self }
     {
@@ -215,7 +216,8 @@ impl Body {
         }
     }
 
-    /// The body that four letters name in a line of the class, whatever their case.
+    /// Returns the body that four letters name in a line of the class, whatever their case. `None` if they name no
+    /// body.
     pub fn named(class: ClassNumber, letters: [u8; 4]) -> Option<Body>
         ensures { result ≡ body_named (class_as_number class) letters }
     {
@@ -223,28 +225,29 @@ impl Body {
         Some(row.body)
     }
 
-    /// Whether four letters name it in a line of the class, whatever their case.
+    /// Returns whether four letters name it in a line of the class, whatever their case.
     pub fn is_named(self, class: ClassNumber, letters: [u8; 4]) -> bool
         ensures { result ≡ is_body (class_as_number class) letters self }
     {
         self.row().is_named(class, letters)
     }
 
-    /// Whether it sets something (rule 3).
+    /// Returns whether it sets something (rule 3).
     pub fn has_set(self) -> bool
         ensures { result ≡ has_set self }
     {
         !matches!(self.row().set, Sets::NamesInput | Sets::QueryOnly)
     }
 
-    /// Whether it knows a parameter besides `?`: one that it does not know is out of parameter (rules 1 and 2).
+    /// Returns whether it has a parameter other than `?`. One that it does not know is out of parameter (rules 1 and
+    /// 2).
     pub fn has_parameters(self) -> bool
         ensures { result ≡ has_parameters self }
     {
         !matches!(self.row().set, Sets::QueryOnly)
     }
 
-    /// Whether `?` asks it.
+    /// Returns whether `?` asks it.
     pub fn has_query(self) -> bool
         ensures { result ≡ has_query self }
     {

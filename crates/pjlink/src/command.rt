@@ -1,4 +1,4 @@
-// The commands that our writer can write, and their lines (PJLink 1.04, 2.1 and 4.1 to 4.14; RULES, Class 2).
+// The commands that the writer can write, and their lines (PJLink 1.04, 2.1 and 4.1 to 4.14; RULES, Class 2).
 ghost use Rattle.std.specs.Prelude.{◌≡◌, ◌++◌, ◌+◌, ◌≤◌, true};
 ghost use Rattle.arrayvec.specs.ArrayVec.{array_vec_len};
 ghost use Rattle.words.specs.Classes.{class_as_number};
@@ -13,7 +13,7 @@ use words::codec::{LINE_MOST, LineBytes, Wire};
 use words::input::Input;
 use words::{codec, input};
 
-/// What a mute is of.
+/// What AVMT mutes.
 #[derive(Clone, Copy)]
 pub enum Half {
     /// The picture: `1` in AVMT's parameter (PJLink 1.04, 4.5).
@@ -24,7 +24,7 @@ pub enum Half {
     BothHalves,
 }
 
-/// What a step is of.
+/// The level that a step changes.
 #[derive(Clone, Copy)]
 pub enum Volume {
     /// The speaker's level, which SVOL steps (RULES, Class 2).
@@ -33,28 +33,27 @@ pub enum Volume {
     Microphone,
 }
 
-/// What our writer can write: the sets, the query of an input's name, and `?` to any body that has it. A step is up
-/// where its bool is true.
+/// A command that the writer can write: a set, the query of an input's name, or `?` to any body that has it.
 #[derive(Clone, Copy)]
 pub enum Command {
-    /// POWR: on where true, else off (PJLink 1.04, 4.1).
+    /// POWR: power on if true, off if false (PJLink 1.04, 4.1).
     PowerSet(bool),
-    /// INPT under the class: the input is chosen (PJLink 1.04, 4.3; RULES, Class 2).
+    /// INPT under the class: chooses the input (PJLink 1.04, 4.3; RULES, Class 2).
     InputSet(ClassNumber, Input),
-    /// AVMT: that much is muted where true, else no longer; the half not named stays (PJLink 1.04, 4.5).
+    /// AVMT: mutes the half if true, unmutes it if false. The half that is not named stays as it is (PJLink 1.04, 4.5).
     MuteSet(Half, bool),
-    /// FREZ: the picture stands still where true, else no longer (RULES, Class 2).
+    /// FREZ: freezes the picture if true, unfreezes it if false (RULES, Class 2).
     FreezeSet(bool),
-    /// SVOL or MVOL: a step up where true, else down (RULES, Class 2).
+    /// SVOL or MVOL: a step up if true, down if false (RULES, Class 2).
     VolumeStep(Volume, bool),
-    /// INNM: what the input is called (RULES, Class 2).
+    /// INNM: asks the name of the input (RULES, Class 2).
     NameQuery(Input),
     /// `?` to the body, any but SVOL, MVOL and INNM (RULES, Commands and Class 2).
     Query(Body),
 }
 
 impl Command {
-    /// The body that it is about.
+    /// Returns the body that the command is about.
     pub fn body(self) -> Body
         ensures { result ≡ body_of self }
     {
@@ -69,14 +68,15 @@ impl Command {
         }
     }
 
-    /// The class of its line.
+    /// Returns the class of its line.
     pub fn class(self) -> ClassNumber
         ensures { class_as_number result ≡ command_class self }
     {
         self.body().row().class
     }
 
-    /// Whether its line can be written: its input is one that two characters can name, its query is one.
+    /// Returns whether its line can be written: two characters can name its input, and `?` asks the body that it
+    /// queries.
     pub fn is_legal(self) -> bool
         ensures { result ≡ is_command self }
     {
@@ -108,7 +108,7 @@ impl Command {
         }
     }
 
-    /// Puts its line at the end of `out`, with its CR: eleven bytes at most.
+    /// Appends its line to `out`, with its CR: 11 bytes at most.
     pub fn put(self, out: &mut LineBytes)
         requires { array_vec_len out.old + 11 ≤ LINE_MOST }
         ensures { out.new.items ≡ out.old.items ++ command_line self }

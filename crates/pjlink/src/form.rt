@@ -8,18 +8,18 @@ use words::byte;
 use words::class::ClassNumber;
 use words::codec::LINE_MOST;
 
-/// What a line of either form has beside its marks.
+/// The parts of a command or a reply, without what separates them.
 #[derive(Clone, Copy)]
 pub struct Parts<'a> {
     /// Its class.
     pub class: ClassNumber,
-    /// The four letters or digits of its body, as they came.
+    /// The four letters or digits of its body, in the case in which they were received.
     pub letters: [u8; 4],
-    /// What follows the mark, up to the line's end.
+    /// What follows the separator, up to the line's end.
     pub parameter: &'a [u8],
 }
 
-// The class of a line with this class byte, where a set-up of Class k takes it.
+// Returns the class that the class byte `h` names, if a set-up of Class k takes lines of it.
 fn class_for(k: ClassNumber, h: u8) -> Option<ClassNumber>
     ensures taken { IfSome result (λ class. takes_class (class_as_number k) h ≡ true × h ≡ class_code class) }
     ensures other { IfNone result (takes_class (class_as_number k) h ≡ false) }
@@ -31,8 +31,8 @@ fn class_for(k: ClassNumber, h: u8) -> Option<ClassNumber>
     }
 }
 
-/// A line as received, without its CR, that a set-up of Class k takes: `%`, the class, four letters or digits, a space,
-/// 0 to 128 bytes. None of any other.
+/// Returns the parts of a line as received, without its CR, if a set-up of class `expected` takes it: `%`, the class,
+/// four letters or digits, a space, 0 to 128 bytes. `None` for any other line.
 #[tactic(auto, unfolding(crate::specs::Forms::is_command_form))]
 pub fn command(expected: ClassNumber, line: &[u8]) -> Option<Parts<'_>>
     ensures taken { IfSome result
@@ -54,7 +54,7 @@ pub fn command(expected: ClassNumber, line: &[u8]) -> Option<Parts<'_>>
     })
 }
 
-// `%`, four letters or digits, and the mark.
+// Returns whether a line begins with `%`, and four letters or digits are followed by the separator.
 fn is_headed(first: u8, letters: [u8; 4], last: u8, mark: u8) -> bool
     ensures { result ≡ is_headed_by mark first letters last }
 {
@@ -67,8 +67,8 @@ fn is_headed(first: u8, letters: [u8; 4], last: u8, mark: u8) -> bool
         && last == mark
 }
 
-/// A reply of Class k, with its CR: `%`, the class, four letters or digits, `=`, 0 to 128 bytes with no CR, CR. None of
-/// any other.
+/// Returns the parts of a reply of class `expected`, with its CR: `%`, the class, four letters or digits, `=`, 0 to 128
+/// bytes with no CR, CR. `None` for any other line.
 #[tactic(auto, unfolding(crate::specs::Forms::is_reply_form))]
 pub fn reply(expected: ClassNumber, line: &[u8]) -> Option<Parts<'_>>
     ensures taken { IfSome result (λ x. IsReplyOf (class_as_number expected) line.now x.letters x.parameter.now) }

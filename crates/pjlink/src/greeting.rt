@@ -1,4 +1,4 @@
-// What a projector greets with, and the line that refuses a digest (RULES, Connection, Controller; PJLink 1.04, 5).
+// The greetings of a projector, and the line that refuses a digest (RULES, Connection, Controller; PJLink 1.04, 5).
 ghost use Rattle.std.specs.Prelude.{◌≡◌, ◌+◌, ◌≤◌, ◌++◌};
 ghost use Rattle.arrayvec.specs.ArrayVec.{array_vec_len};
 ghost use Rattle.text.specs.Scans.{is_same_by, itself};
@@ -7,22 +7,22 @@ ghost use Rattle.pjlink.specs.Greetings.{greeting_line, read_greeting};
 use words::codec;
 use words::codec::{LINE_MOST, LineBytes};
 
-/// The ERRA line.
+/// The ERRA line: the reply to a first line without the matching digest.
 pub const ERRA: [u8; 12] = *b"PJLINK ERRA\r";
 
-/// What a projector greets with.
+/// A greeting of a projector, or the ERRA line.
 #[derive(Clone, Copy)]
 pub enum Greeting {
-    /// Commands are served at once.
+    /// `PJLINK 0`: commands are served at once.
     Open,
-    /// The digest of this random number and the password is awaited.
+    /// `PJLINK 1` and this random number: the digest of the number and the password is awaited.
     Secured(u32),
-    /// The ERRA line: the digest was refused.
+    /// The ERRA line: the digest is refused.
     Refused,
 }
 
 impl Greeting {
-    /// Puts its line at the end of `out`, CR included.
+    /// Appends its line to `out`, with its CR: 18 bytes at most.
     pub fn put(self, out: &mut LineBytes)
         requires { array_vec_len out.old + 18 ≤ LINE_MOST }
         ensures { out.new.items ≡ out.old.items ++ greeting_line self }
@@ -46,7 +46,7 @@ impl Greeting {
         text::is_same(line, own.as_slice())
     }
 
-    /// The greetings and the ERRA line, each to its CR and no further; none of any other line.
+    /// Reads a greeting or the ERRA line, up to its CR and nothing more. `None` for any other line.
     #[tactic(auto, using(crate::proofs::GreetingCases::not_18), unfolding(crate::specs::Greetings::read_greeting))]
     pub fn read(line: &[u8]) -> Option<Greeting>
         ensures { result ≡ read_greeting line.now }

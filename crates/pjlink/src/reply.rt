@@ -11,14 +11,14 @@ use crate::command::Command;
 use words::error_reply::ErrorReply;
 use words::{codec, list, texts};
 
-// The text p where it is a legal one.
+// Returns the text `p` if it is a legal one.
 fn text_if(legal: bool, p: &[u8]) -> Option<Answer<'_>>
     ensures { value_said result ≡ text_or legal p.now }
 {
     if legal { Some(Answer::Text(p)) } else { None }
 }
 
-// Whether a text follows a rule.
+// Returns whether a text follows a rule.
 fn is_text_by(rule: TextRule, s: &[u8]) -> bool
     ensures { result ≡ is_text_by rule s.now }
 {
@@ -52,7 +52,7 @@ fn is_set(c: Command) -> bool
     !matches!(c, Command::NameQuery(_) | Command::Query(_))
 }
 
-// Whether the command has another parameter than `?`, which a projector may not know.
+// Returns whether the command has a parameter other than `?`, which a projector may not know.
 fn has_own_parameter(c: Command) -> bool
     ensures { result ≡ has_own_parameter c }
 {
@@ -71,14 +71,14 @@ fn read_value(c: Command, p: &[u8]) -> Option<Answer<'_>>
     read_queried(c.body().row().kind, p)
 }
 
-// Whether a refusal is allowed in reply to c: ERR2 is none to `?`.
+// Returns whether an error reply is allowed in reply to the command: all are, but for ERR2 to `?`.
 fn may_refuse(c: Command, r: ErrorReply) -> bool
     ensures { result ≡ is_refusal_to c (error_reply_digit r) }
 {
     has_own_parameter(c) || r.number() != 2
 }
 
-/// What the parameter p says to the command c; none where it is not allowed there.
+/// Reads the parameter of a reply to the command. `None` if it is not allowed there.
 #[tactic(auto, unfolding(crate::specs::Reading::read_parameter))]
 pub fn read_parameter(command: Command, parameter: &[u8]) -> Option<Reply<'_>>
     ensures { parameter_said result ≡ read_parameter command parameter.now }

@@ -14,8 +14,7 @@ use words::{codec, input};
 /// Why a line of the form asks for no command.
 #[derive(Clone, Copy, Debug, PartialEq, Eq)]
 pub enum Unasked {
-    /// The body, with a parameter that is neither its query nor one that it knows: ERR2, or ERR1 of a body that knows
-    /// none.
+    /// A body, with a parameter that is neither its query nor one that it knows: ERR2, or ERR1 if the body knows none.
     Unlisted(Body),
     /// No body of the line's class has these letters: ERR1.
     UnknownBody,
@@ -32,7 +31,7 @@ impl fmt::Display for Unasked {
 
 impl Error for Unasked {}
 
-// What is muted, and whether it is to be.
+// Reads a parameter of AVMT: what is muted or unmuted.
 fn mute_of(p: &[u8]) -> Option<Command>
     ensures { result ≡ mute_of p.now }
 {
@@ -40,7 +39,7 @@ fn mute_of(p: &[u8]) -> Option<Command>
     Some(Command::MuteSet(half, codec::parse(on)?))
 }
 
-// `?` and the input that is asked for.
+// Reads a parameter of INNM: `?` and the input whose name is asked.
 #[tactic(auto, unfolding(crate::specs::Requests::name_query_of))]
 fn name_query_of(p: &[u8]) -> Option<Command>
     ensures { result ≡ name_query_of p.now }
@@ -51,7 +50,7 @@ fn name_query_of(p: &[u8]) -> Option<Command>
     }
 }
 
-// What a parameter besides `?` asks of a body of the class that sets this.
+// Reads a parameter other than `?` of a body of the class that sets this.
 fn set_of(class: ClassNumber, set: Sets, p: &[u8]) -> Option<Command>
     ensures { result ≡ set_of class set p.now }
 {
@@ -77,8 +76,8 @@ fn command_of(b: Body, p: &[u8]) -> Option<Command>
     set_of(row.class, row.set, p)
 }
 
-/// What four letters with the parameter p ask for in a line of the class: the letters in any case, the parameter
-/// exactly.
+/// Returns the command that four letters, in any case, and exactly this parameter ask for in a line of the class.
+/// Errors, in this order: `UnknownBody`, `Unlisted`.
 #[tactic(auto, unfolding(crate::specs::Requests::request_of, crate::specs::Requests::asked_of))]
 pub fn request(class: ClassNumber, letters: [u8; 4], parameter: &[u8]) -> Result<Command, Unasked>
     ensures { result ≡ request_of (class_as_number class) letters parameter.now }

@@ -1,5 +1,5 @@
-// What is proved beside the contracts of the functions. Nothing is done here: that these functions have their contracts
-// is that the theorems stand.
+// What is proved beside the contracts of the functions. The functions here do nothing: their contracts are the
+// theorems.
 ghost use Rattle.std.specs.Prelude.{◌≡◌, ◌≤◌, ◌++◌, ℕ, Bool, List, Option, Result, false, true, not, length};
 ghost use Rattle.std.specs.Prelude.{[], ◌∷◌, map, codes, Ok, Err, Some, None};
 ghost use Rattle.words.specs.Bytes.{◌at◌, is_cr_free};
@@ -28,7 +28,8 @@ ghost use Rattle.pjlink.specs.declared.greeting.Greeting.TheVariants.{Secured};
 ghost use Rattle.pjlink.specs.Writings.{Says, IsAllowed};
 ghost use Rattle.pjlink.specs.Worked.{hdmi, request_to};
 
-/// Two lines that meet the promise of a call are equal; two replies that are read say the same.
+/// Two lines that meet the contract of one call are equal. Two replies, or two greetings, read from the same bytes say
+/// the same.
 pub fn one_result()
     ensures answer_written { (out : List ℕ) (m : Said) (k l : List ℕ)
         → k ≡ out ++ said_bytes m → l ≡ out ++ said_bytes m → k ≡ l }
@@ -38,8 +39,8 @@ pub fn one_result()
     ensures greeting_read { (l : List ℕ) (r s : Option Greeting) → r ≡ read_greeting l → s ≡ read_greeting l → r ≡ s }
 {}
 
-/// What is read of a parameter is an answer of which it is a writing, each writing of an answer is read as it, and
-/// nothing is read exactly where the parameter is a writing of none.
+/// What is read of a parameter is an answer of which the parameter is a writing. Each writing of an answer is read as
+/// that answer. Nothing is read exactly if the parameter is a writing of no answer.
 pub fn what_is_read_was_written()
     ensures read_was_written { (c : Command) (p : List ℕ)
         → (read_parameter c p ≡ nothing → ⊥) → Says c (read_parameter c p) p }
@@ -50,8 +51,8 @@ pub fn what_is_read_was_written()
     ensures either { (c : Command) (p : List ℕ) → (t : Bool) × IsAllowed c p t }
 {}
 
-/// A line that a set-up takes is of its class or of a lower one, and has that class's digit; a reply of one class is
-/// none of another (RULES, Class 2).
+/// A line that a set-up takes is of its class or of a lower one, and has that class's digit. A reply of one class is no
+/// reply of another (RULES, Class 2).
 pub fn a_line_has_its_class()
     ensures taken { (k : ℕ) (l : List ℕ) → is_command_form k l ≡ true → 1 ≤ k → line_class l ≤ k }
     ensures digit { (k : ℕ) (l : List ℕ) → is_command_form k l ≡ true → l at 1 ≡ class_digit (line_class l) }
@@ -59,8 +60,8 @@ pub fn a_line_has_its_class()
         → length p ≤ parameter_most → is_cr_free p ≡ true → is_reply_form k (reply_line (class_digit j) s p) ≡ false }
 {}
 
-/// A reply built from a class, a body and a parameter has the form of that class, and gives body and parameter back; a
-/// line of the form has its head and its CR (RULES, Controller).
+/// A reply built from a class, a body and a parameter has the form of that class, and its body and parameter are read
+/// back from it. A line of the form has its head and its CR (RULES, Controller).
 pub fn a_reply_gives_its_parts()
     ensures form { (s : List ℕ) → IsLetters s → (k : ℕ) (p : List ℕ) → length p ≤ parameter_most → is_cr_free p ≡ true
         → is_reply_form k (reply_line (class_digit k) s p) ≡ true }
@@ -71,9 +72,9 @@ pub fn a_reply_gives_its_parts()
     ensures long { (k : ℕ) (l : List ℕ) → is_reply_form k l ≡ true → 8 ≤ length l }
 {}
 
-/// Lines worked out (RULES, Controller and Class 2): commands of Class 2 as they are written; which lines have the form
-/// of each class; what a line asks for under each; which bodies `?` alone does not ask; and a random number, whose
-/// digits are in lower case.
+/// Worked lines (RULES, Controller and Class 2): commands of Class 2 as they are written; which lines have the form of
+/// each class; what a line asks for under each; which bodies `?` alone does not ask; and a random number, whose digits
+/// are in lower case.
 #[tactic(auto, using(crate::proofs::Examples::worked_lines))]
 pub fn lines_are_worked_out()
     ensures written { map command_line
@@ -98,9 +99,9 @@ pub fn lines_are_worked_out()
     ensures upper_case_unheard { read_greeting (codes "PJLINK 1 498E4A67\r") ≡ None }
 {}
 
-/// Parameters of replies worked out (RULES, Controller and Class 2): lamps of other makers, with zeros before their
-/// hours, to five digits in all; the classes; a freeze; inputs of Class 2; ERR2, which answers the query of an input's
-/// name, and no `?`.
+/// Worked parameters of replies (RULES, Controller and Class 2): lamps of other makers, with zeros before their hours,
+/// to five digits in all; the classes; a freeze; inputs of Class 2; ERR2, which is allowed in reply to the query of an
+/// input's name, and not to `?`.
 #[tactic(auto, using(crate::proofs::Examples::worked_parameters))]
 pub fn parameters_are_worked_out()
     ensures padded_hours { read_parameter (Query Lamp) (codes "00412 1")

@@ -1,4 +1,4 @@
-//! The parameter that a reply is said by (RULES, Commands).
+//! The parameter of a reply, as it is written (RULES, Commands).
 ghost use Rattle.std.specs.Prelude.{◌≡◌, ◌+◌, ◌≤◌, ◌++◌, length};
 ghost use Rattle.arrayvec.specs.ArrayVec.{array_vec_len};
 ghost use Rattle.pjlink.specs.Said.{said_bytes};
@@ -27,7 +27,7 @@ fn put_answer(a: &Answer<'_>, out: &mut LineBytes)
     }
 }
 
-/// Puts the reply's parameter at the end of the line.
+/// Appends the reply's parameter to `out`.
 #[tactic(auto, unfolding(crate::specs::Said::said_bytes))]
 pub fn put_parameter(reply: &Reply<'_>, out: &mut LineBytes)
     requires { array_vec_len out.old + length (said_bytes (said_by reply.now)) ≤ LINE_MOST }

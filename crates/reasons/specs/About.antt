@@ -1,8 +1,8 @@
--- Of which version and kit archive and programs are (RULES, The C face).
+-- The version and the kit of archive and programs (RULES, The C face).
 --   face_number      the version of the C face
---   version_said     that version, its date, and the kit that proved and built what says it
---   version_line     the same as the end of a line, which a program writes after its name
---   about_text       what the archive says of itself
+--   version_said     that version, its date, and the kit that proved and built the archive or program
+--   version_line     the end of the line that a program writes after its name: that, and LF
+--   about_text       what the archive says of itself: its name and that
 -- Assumes nothing.
 use Rattle.std.specs.Prelude.{ℕ, List, ◌++◌, codes}
 

@@ -1,10 +1,10 @@
 -- The numbers that calls give (RULES, The numbers a call gives), and the settings of a set-up, in words.
---   number_text n    what the number n says: of 0 that the call is served, of 13 to 19 and above 23 that no call gives
---                    it
---   setting_text n   what the setting of the number n is called, its place in the order of set-up: of 0 that it is
---                    none, above 12 that there is no such setting
+--   number_text n    the meaning of the number n: of 0 that the call is served; of 13 to 19 and above 23 that no call
+--                    gives it
+--   setting_text n   the name of the setting with the number n in the order of set-up: of 0 that it is none; above 12
+--                    that there is no such setting
 --   in_c s           the text s as C has it: with a NUL after it
---   is_printed s     each character of s is a printable one of ASCII, a space among them: none is a NUL
+--   is_printed s     each character of s is a printable one of ASCII, or a space; none is a NUL
 -- Assumes nothing.
 use Rattle.std.specs.Prelude.{ℕ, Bool, ◌&&◌, nat_le, List, [], ◌∷◌, ◌++◌, codes, if◌then◌else◌, ◌==◌}
 use Rattle.std.specs.List.{list_all}

@@ -1,4 +1,4 @@
-// Of which version and kit archive and programs are.
+// The version and the kit of archive and programs.
 ghost use Rattle.std.specs.Prelude.{◌≡◌};
 ghost use Rattle.reasons.specs.Reasons.{in_c};
 ghost use Rattle.reasons.specs.About.{face_number, about_text, version_line};

@@ -1,4 +1,4 @@
-// What a number that a call gives says.
+// The meaning of a number that a call gives.
 ghost use Rattle.std.specs.Prelude.{◌≡◌};
 ghost use Rattle.reasons.specs.Reasons.{number_text, in_c};
 

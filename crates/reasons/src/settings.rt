@@ -1,4 +1,4 @@
-// What the settings of a set-up are called.
+// The names of the settings of a set-up.
 ghost use Rattle.std.specs.Prelude.{◌≡◌};
 ghost use Rattle.reasons.specs.Reasons.{setting_text, in_c};
 

@@ -1,5 +1,5 @@
-// What is proved beside the contracts of the functions. Nothing is done here: that these functions have their contracts
-// is that the theorems stand.
+// What is proved beside the contracts of the functions. The functions here do nothing: their contracts are the
+// theorems.
 ghost use Rattle.std.specs.Prelude.{◌≡◌, ℕ, true};
 ghost use Rattle.reasons.specs.Reasons.{number_text, setting_text, is_printed};
 ghost use Rattle.reasons.specs.About.{about_text};

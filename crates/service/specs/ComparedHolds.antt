@@ -1,9 +1,10 @@
--- What each answer of the comparison says of the readings, apart from how it is found. Exactly one holds (src/theorems,
--- the_answer_told_holds).
---   IsFirstBack rs k             at k the lamp went backwards, and at no place before it
---   IsComparable rs room         as many readings as a table may have, and room for as many differences
---   ComparedHolds rs room c      what the answer c says, with room for so many differences
---   ComparedAs rs out c m        the result of a comparison with the result list out: the answer c, and the list m
+-- What each answer of the comparison says of the readings, apart from how it is found. Exactly one answer is true
+-- (src/theorems, the_answer_told_holds).
+--   IsFirstBack rs k             at the index k the lamp went backwards, and at none before it
+--   IsComparable rs room         there are no more readings than a table may have, and room for as many differences
+--   ComparedHolds rs room c      what the answer c says, with room for this many differences
+--   ComparedAs rs out c m        the result of a comparison into the list out: the answer c, and the list m that out
+--                                then is
 -- Assumes nothing.
 use Rattle.std.specs.Prelude.{ℕ, ◌<◌, ◌≤◌, ◌≡◌, List, ◌++◌, ℤ, length, drop, All, Option, Some, None, Result}
 use Rattle.std.specs.Prelude.{Ok, Err, OnOk, OnErr}

@@ -1,8 +1,8 @@
 -- A lamp's seconds at two readings, and their difference (RULES, Service).
---   difference_of r     the later seconds minus the earlier, an integer: below 0 where the lamp went backwards
---   differences rs      that of each reading
+--   difference_of r     the later seconds minus the earlier, an integer: below 0 if the lamp went backwards
+--   differences rs      the difference of each reading
 --   IsBackwards r       the later seconds are below the earlier
---   IsForwards r        they are not
+--   IsForwards r        the later seconds are not below the earlier
 -- Assumes nothing.
 use Rattle.std.specs.Prelude.{◌≤◌, ◌<◌, List, map, ℤ, pos, ◌-ℤ◌}
 use Rattle.service.specs.declared.LampSeconds.{LampSeconds}

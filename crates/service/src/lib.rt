@@ -1,4 +1,4 @@
-// Service reads all lamps each month: the seconds of two readings, compared (RULES, Service).
+// The monthly service: the seconds of all lamps at two readings, compared (RULES, Service).
 #![tactic(auto)]
 
 #[cfg(test)]
@@ -12,7 +12,7 @@ ghost use Rattle.service.specs.ComparedHolds.{IsFirstBack, ComparedHolds};
 use std::error::Error;
 use std::fmt;
 
-/// The most lamps of a table.
+/// How many lamps a table has at most.
 pub const TABLE_MOST: usize = 64;
 
 /// A lamp's seconds at two readings.
@@ -27,9 +27,9 @@ pub struct LampSeconds {
 /// Why readings are not compared.
 #[derive(Clone, Copy, Debug, PartialEq, Eq)]
 pub enum CompareError {
-    /// There are more readings than a table has places.
+    /// There are more readings than a table may have.
     TooMany,
-    /// The list for the differences has fewer places than there are readings.
+    /// The list for the differences is shorter than the readings.
     NoRoom,
 }
 
@@ -68,8 +68,9 @@ fn first_backwards(readings: &[LampSeconds]) -> Option<usize>
     readings.iter().position(|r| r.later < r.earlier)
 }
 
-/// Writes each lamp's difference to the start of `out`, and returns the first lamp that went backwards, if any. Later
-/// places of `out` stay as they were; with an error all of them stay. Errors, in this order: `TooMany`, `NoRoom`.
+/// Writes each lamp's difference to the start of `out`. Returns the index of the first lamp that went backwards, if
+/// any. What follows in `out` stays as it was; with an error all of it does. Errors, in this order: `TooMany`,
+/// `NoRoom`.
 pub fn compare(readings: &[LampSeconds], out: &mut [i64]) -> Result<Option<usize>, CompareError>
     ensures told { ComparedHolds readings.now (length out.old) result }
     ensures written { OnOk result (out.new ≡ differences readings.now ++ drop (length readings.now) out.old) }

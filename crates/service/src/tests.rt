@@ -1,4 +1,4 @@
-// Comparisons worked out.
+// Worked comparisons.
 use crate::{CompareError, LampSeconds, compare};
 
 fn reading(earlier: u32, later: u32) -> LampSeconds {
@@ -14,7 +14,7 @@ fn all_forwards(rt: HostRuntime) {
     assert_eq!(rt; out, [3600, 0, 5]);
 }
 
-// the first of two that went backwards
+// the first of the two that went backwards
 #[test]
 fn second_and_third(rt: HostRuntime) {
     let mut out = [7; 3];

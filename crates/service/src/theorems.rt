@@ -1,5 +1,5 @@
-// What is proved beside the contracts of the functions. Nothing is done here that they do not do: that these functions
-// have their contracts is that the theorems stand.
+// What is proved beside the contracts of the functions. These functions do only what those do, and their contracts are
+// the theorems.
 ghost use Rattle.std.specs.Prelude.{◌≡◌, ◌↔◌, List, ℕ, ℤ, Result, Option, length, pos, ◌+ℤ◌, ◌<ℤ◌};
 ghost use Rattle.service.specs.ComparedHolds.{ComparedHolds, ComparedAs};
 ghost use Rattle.service.specs.Differences.{difference_of, IsBackwards};
@@ -8,8 +8,8 @@ ghost use Rattle.service.specs.declared.CompareError.{CompareError};
 
 use crate::{CompareError, LampSeconds, TABLE_MOST, compare};
 
-/// The answer holds of the readings, and an answer that holds is the one returned: the place is the lowest one where
-/// the lamp went backwards, and there is none exactly if no lamp went backwards.
+/// The answer is true of the readings, and an answer that is true is the one returned: the index is the lowest one at
+/// which the lamp went backwards, and there is none exactly if no lamp went backwards.
 #[tactic(auto, using(crate::proofs::OneAnswer::one_answer))]
 pub fn the_answer_told_holds(
     readings: &[LampSeconds],
@@ -22,7 +22,7 @@ pub fn the_answer_told_holds(
     compare(readings, out)
 }
 
-/// Two results that meet the promise of a call are equal, the list of differences included.
+/// Any two results that meet the contract of a call are equal, the list of differences included.
 #[tactic(auto, using(crate::proofs::OneAnswer::one_comparison))]
 pub fn one_result()
     ensures { (rs : List LampSeconds) (out : List ℤ) (b c : Result (Option ℕ) CompareError) (m n : List ℤ)

@@ -1,9 +1,9 @@
--- What is lent to set-up, as the rules have it (RULES, The legal record and Class 2).
---   class_number c       the number of the class
---   serial_of c          the serial number; none in Class 1. So version_of c
---   names_lent ns        the names that are lent, each by itself;    names_of c    those of the class
---   wanted_settings w    the settings that are wanted
---   with_class_2 serial version names w    the settings w of a projector of Class 2, with what it alone has
+-- The settings that set-up is given, as the rules have them (RULES, The legal record and Class 2).
+--   class_number c       the number of the class c
+--   serial_of c          the serial number of the class c, empty in Class 1;    version_of c    its software version
+--   names_lent ns        the names in ns, each by itself;    names_of c    those of the class c, none in Class 1
+--   wanted_settings w    the settings w as the rules have them
+--   with_class_2 serial version names w    the settings w for a projector of Class 2, with what it alone has
 -- Assumes nothing.
 use Rattle.std.specs.Prelude.{ℕ, List, []}
 use Rattle.record.specs.Wanted.{Wanted, wanted_in, names_in, counted_in}

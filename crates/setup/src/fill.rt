@@ -1,4 +1,5 @@
-// What set-up keeps of the lent slices: each at the start of a cleared room (RULES, The legal record).
+// What set-up keeps of the slices that it is given: each at the start of a room, whose other bytes are zero (RULES, The
+// legal record).
 ghost use Rattle.std.specs.Prelude.{◌≡◌, ◌≤◌, length, replicate, true};
 ghost use Rattle.words.specs.Texts.{input_name_most};
 ghost use Rattle.record.specs.Limits.{text_room, input_room, listed_most, lamps_most};
@@ -15,7 +16,7 @@ use text::rooms;
 use words::input::INPUTS_MOST;
 use words::lamp::LAMPS_MOST;
 
-/// A text in its room: at most 64 bytes.
+/// Returns a text of at most 64 bytes in its room.
 #[tactic(auto, using(record::proofs::Kept::kept_in_room))]
 pub fn text_of(bytes: &[u8]) -> Text
     requires { length bytes.now ≤ text_room }
@@ -27,7 +28,7 @@ pub fn text_of(bytes: &[u8]) -> Text
     }
 }
 
-/// An input's name in its room: at most 128 bytes (RULES, Class 2).
+/// Returns an input's name of at most 128 bytes in its room (RULES, Class 2).
 #[tactic(auto, using(record::proofs::Kept::kept_in_room))]
 pub fn name_of(bytes: &[u8]) -> InputName
     requires { length bytes.now ≤ input_name_most }
@@ -39,7 +40,7 @@ pub fn name_of(bytes: &[u8]) -> InputName
     }
 }
 
-/// So many names, as they are lent, into the record's list (RULES, Class 2).
+/// Puts this many names into the record's list, whichever form they have (RULES, Class 2).
 #[tactic(auto, using(record::proofs::CountedNames::as_many_counted))]
 pub fn keep_names(list: &mut [InputName; INPUTS_MOST], lent: &Names<'_>, count: usize)
     requires named { are_names count (names_lent lent.now) ≡ true }
@@ -53,7 +54,7 @@ pub fn keep_names(list: &mut [InputName; INPUTS_MOST], lent: &Names<'_>, count: 
     }
 }
 
-// So many names, each after its length in one byte.
+// Puts this many names, each after its length in one byte, into the list.
 fn keep_counted(list: &mut [InputName; INPUTS_MOST], bytes: &[u8], count: usize)
     requires empty { list.old ≡ replicate listed_most blank_name }
     requires named { are_names count (counted_in count bytes.now) ≡ true }
@@ -68,7 +69,7 @@ fn keep_counted(list: &mut [InputName; INPUTS_MOST], bytes: &[u8], count: usize)
     }
 }
 
-// So many names, one after the other in `bytes`, each of its length.
+// Puts this many names into the list. They follow one another in `bytes`; `lengths` has the length of each.
 fn keep_packed(list: &mut [InputName; INPUTS_MOST], bytes: &[u8], lengths: &[usize], count: usize)
     requires empty { list.old ≡ replicate listed_most blank_name }
     requires named { are_names count (names_in lengths.now bytes.now) ≡ true }
@@ -83,7 +84,7 @@ fn keep_packed(list: &mut [InputName; INPUTS_MOST], bytes: &[u8], lengths: &[usi
     }
 }
 
-/// A list of inputs in its room: two characters each, at most 32 inputs (RULES, Inputs).
+/// Returns a list of at most 32 inputs, two characters each, in its room (RULES, Inputs).
 #[tactic(auto, using(record::proofs::Kept::kept_in_room))]
 pub fn input_room(bytes: &[u8]) -> [u8; INPUT_ROOM]
     requires { length bytes.now ≤ input_room }
@@ -92,7 +93,7 @@ pub fn input_room(bytes: &[u8]) -> [u8; INPUT_ROOM]
     rooms::kept(bytes, 0)
 }
 
-/// The starting seconds of at most 8 lamps, in their room (RULES, Lamps).
+/// Returns the starting seconds of at most 8 lamps in their room (RULES, Lamps).
 #[tactic(auto, using(record::proofs::Kept::kept_in_room))]
 pub fn lamp_room(seconds: &[u32]) -> [u32; LAMPS_MOST]
     requires { length seconds.now ≤ lamps_most }
@@ -101,7 +102,7 @@ pub fn lamp_room(seconds: &[u32]) -> [u32; LAMPS_MOST]
     rooms::kept(seconds, 0)
 }
 
-/// Each of so many lamps is enabled (RULES, Lamps).
+/// Returns the marks of this many lamps, each set (RULES, Lamps).
 #[tactic(auto, using(record::proofs::MarksTold::marks_kept))]
 pub fn mark_room(count: usize) -> [u8; LAMPS_MOST]
     requires { count ≤ lamps_most }
@@ -110,8 +111,8 @@ pub fn mark_room(count: usize) -> [u8; LAMPS_MOST]
     rooms::kept(&[1; LAMPS_MOST][..count], 0)
 }
 
-/// Off, both mutes off, the first input, no fault, error status 000000, and the lamps' starting seconds, each enabled,
-/// and both volumes half way.
+/// Returns the own part of a fresh set-up: off, both mutes off, the first input, no fault, error status 000000, the
+/// lamps' starting seconds, each lamp enabled, and both volumes half way.
 pub fn start_own(lamps: &[u32]) -> Own
     requires { length lamps.now ≤ lamps_most }
     ensures { result ≡ start_own lamps.now }

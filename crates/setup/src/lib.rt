@@ -17,7 +17,7 @@ use record::set_up_error::SetUpError;
 use record::types::{Device, Settings};
 use record::{class, fresh};
 
-// The settings, each where it lies in the record.
+// Writes the settings, each where it is in the record.
 #[tactic(auto, using(crate::proofs::Fits::fits))]
 fn keep_settings(settings: &mut Settings, wanted: &Wanted<'_>)
     requires { is_set_up (wanted_settings wanted.now) ≡ true }
@@ -45,8 +45,7 @@ fn keep_settings(settings: &mut Settings, wanted: &Wanted<'_>)
     );
 }
 
-/// The record as an accepted set-up makes it: off, each lamp enabled, every place closed. The settings are those that
-/// can be set up (`Wanted::check`).
+/// Sets up the record with settings that can be set up (`Wanted::check`): off, each lamp enabled, every place closed.
 #[tactic(auto, using(crate::proofs::Fits::lamps_fit, record::proofs::Calls::set_up_made))]
 pub fn start_in(device: &mut Device, wanted: &Wanted<'_>)
     requires { is_set_up (wanted_settings wanted.now) ≡ true }
@@ -57,9 +56,8 @@ pub fn start_in(device: &mut Device, wanted: &Wanted<'_>)
     device.connections = fresh::all_closed();
 }
 
-/// The record as it is set up: off, each lamp enabled, every place closed. Refused where a setting is out of its range,
-/// else where the password is too short: the record is then the blank one (RULES, The numbers a call gives and
-/// Passwords).
+/// Sets up the record: off, each lamp enabled, every place closed. Errors, in this order: a setting is out of its
+/// range; the password is too short. Then the record is the blank one (RULES, The numbers a call gives and Passwords).
 #[tactic(auto, using(crate::proofs::Refusals::outcomes))]
 pub fn set_up_in(device: &mut Device, wanted: &Wanted<'_>) -> Result<(), SetUpError>
     ensures made { gives result device.new ≡ set_up (wanted_settings wanted.now) }
@@ -73,7 +71,7 @@ pub fn set_up_in(device: &mut Device, wanted: &Wanted<'_>) -> Result<(), SetUpEr
     Ok(())
 }
 
-/// The same, of a record of its own.
+/// Returns a new record that is set up. Errors as for `set_up_in`.
 pub fn set_up(wanted: &Wanted<'_>) -> Result<Device, SetUpError>
     ensures { result ≡ set_up (wanted_settings wanted.now) }
 {

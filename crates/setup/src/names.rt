@@ -8,13 +8,13 @@ ghost use Rattle.record.specs.Rules.{are_names};
 
 use record::class;
 
-/// Names that stand one after the other, each after its length in one byte. They are tested where they are read, as
-/// their end is found.
+/// Names that follow one another, each after its length in one byte. They are tested when they are read, as their end
+/// is found then.
 #[derive(Clone, Copy)]
 pub struct CountedNames<'a> {
     /// The names and their lengths.
     pub bytes: &'a [u8],
-    /// So many names.
+    /// How many names there are.
     pub count: usize,
     /// Whether each is the name of an input: at most 128 bytes, each 0x20 to 0xFF (RULES, Texts).
     pub are_named: bool,
@@ -22,7 +22,7 @@ pub struct CountedNames<'a> {
 }
 
 impl<'a> CountedNames<'a> {
-    /// Whether there are as many names as Class 2 wants of so many inputs.
+    /// Returns whether there are as many names as Class 2 requires for this many inputs.
     #[tactic(auto, using(record::proofs::CountedNames::counted_named))]
     pub fn are_fitting(&self, class: u8, inputs: usize) -> bool
         ensures { result ≡ are_names (only_in_2 class inputs) (counted_in self.now.count self.now.bytes.now) }

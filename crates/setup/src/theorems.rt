@@ -1,12 +1,11 @@
-// What is proved beside the contracts of the functions. Nothing is done here: that this function has its contract is
-// that the theorem stands.
+// What is proved beside the contracts of the functions. The function here does nothing: its contract is the theorem.
 ghost use Rattle.std.specs.Prelude.{◌≡◌, Result};
 ghost use Rattle.record.specs.Wanted.{Wanted};
 ghost use Rattle.record.specs.SetUp.{set_up};
 ghost use Rattle.record.specs.SetUpErrors.{check_of};
 ghost use Rattle.record.specs.declared.set_up_error.SetUpError.{SetUpError};
 
-/// Two results that meet the promise of the check are equal; `record` says it of set-up.
+/// Any two results that meet the contract of the check are equal. For set-up, `record` says it.
 pub fn one_result()
     ensures { (w : Wanted) (r s : Result (Unit {0}) SetUpError)
         → r ≡ check_of (set_up w) → s ≡ check_of (set_up w) → r ≡ s }

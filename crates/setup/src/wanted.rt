@@ -1,4 +1,4 @@
-// What set-up is lent, and whether it can be set up (RULES, The legal record).
+// The settings that set-up is given, and whether they can be set up (RULES, The legal record).
 ghost use Rattle.std.specs.Prelude.{◌≡◌};
 ghost use Rattle.record.specs.SetUp.{is_setting_in_range, first_out_of_range, set_up};
 ghost use Rattle.record.specs.SetUpErrors.{check_of};
@@ -14,10 +14,10 @@ use record::types::Setting;
 use record::{inputs, names, own, settings};
 use words::texts;
 
-/// The names of inputs, as they are lent (RULES, Class 2).
+/// The names of inputs, as set-up is given them (RULES, Class 2).
 #[derive(Clone, Copy)]
 pub enum Names<'a> {
-    /// One after the other, each of its length. Lengths that do not add up to their bytes name nothing.
+    /// One after the other, and the length of each. If the lengths do not add up to the bytes, there are no names.
     Packed {
         bytes: &'a [u8],
         lengths: &'a [usize],
@@ -42,15 +42,15 @@ pub enum Class<'a> {
 /// The settings that a projector is to have (RULES, The legal record).
 #[derive(Clone, Copy)]
 pub struct Wanted<'a> {
-    /// At most 64 bytes, in UTF-8.
+    /// What NAME answers: at most 64 bytes, in UTF-8.
     pub name: &'a [u8],
-    /// At most 32 bytes, as `model` and `other`.
+    /// What INF1 answers: at most 32 bytes.
     pub maker: &'a [u8],
     /// What INF2 answers: at most 32 bytes.
     pub model: &'a [u8],
     /// What INFO answers: at most 32 bytes.
     pub other: &'a [u8],
-    /// None, which is no security, or 8 to 32 ASCII letters and digits (RULES, Passwords).
+    /// Empty, which is no security, or 8 to 32 ASCII letters and digits (RULES, Passwords).
     pub password: &'a [u8],
     /// 1 to 32 inputs of the class, all different: two ASCII characters each (RULES, Inputs).
     pub inputs: &'a [u8],
@@ -71,7 +71,7 @@ impl<'a> Names<'a> {
         lengths: &[],
     };
 
-    // Whether they are those of so many inputs of the class.
+    // Returns whether the names are those of this many inputs of the class.
     fn are_fitting(&self, class: u8, inputs: usize) -> bool
         ensures { result ≡ are_names (only_in_2 class inputs) (names_lent self.now) }
     {
@@ -83,7 +83,7 @@ impl<'a> Names<'a> {
 }
 
 impl<'a> Class<'a> {
-    /// 1 or 2.
+    /// Returns 1 or 2.
     pub fn number(&self) -> u8
         ensures { result ≡ class_number self.now }
     {
@@ -93,7 +93,7 @@ impl<'a> Class<'a> {
         }
     }
 
-    /// The serial number; none in Class 1.
+    /// Returns the serial number. In Class 1 it is empty.
     pub fn serial(&self) -> &'a [u8]
         ensures { result.now ≡ serial_of self.now }
     {
@@ -103,7 +103,7 @@ impl<'a> Class<'a> {
         }
     }
 
-    /// The software version; none in Class 1.
+    /// Returns the software version. In Class 1 it is empty.
     pub fn version(&self) -> &'a [u8]
         ensures { result.now ≡ version_of self.now }
     {
@@ -113,7 +113,7 @@ impl<'a> Class<'a> {
         }
     }
 
-    /// The inputs' names; none in Class 1.
+    /// Returns the inputs' names. In Class 1 there are none.
     pub fn names(&self) -> Names<'a>
         ensures { names_lent result ≡ names_of self.now }
     {
@@ -125,7 +125,7 @@ impl<'a> Class<'a> {
 }
 
 impl<'a> Wanted<'a> {
-    /// The settings of a projector of Class 1, in the order in which they are tested.
+    /// Returns the settings of a projector of Class 1. The arguments are in the order in which they are tested.
     pub fn for_class_1(
         name: &'a [u8],
         maker: &'a [u8],
@@ -154,8 +154,8 @@ impl<'a> Wanted<'a> {
         }
     }
 
-    /// The same settings of a projector of Class 2, with what it alone has: the names one after the other, each of its
-    /// length.
+    /// Returns the same settings for a projector of Class 2, with what it alone has: serial number, software version,
+    /// and the names of its inputs, one after the other, with the length of each.
     pub fn for_class_2(
         self,
         serial: &'a [u8],
@@ -200,7 +200,7 @@ impl<'a> Wanted<'a> {
         }
     }
 
-    /// The first setting that is out of its range: a short password is in its.
+    /// Returns the first setting that is out of its range. A short password is in its range.
     pub fn first_out_of_range(&self) -> Option<Setting>
         ensures { result ≡ first_out_of_range (wanted_settings self.now) }
     {
@@ -210,7 +210,8 @@ impl<'a> Wanted<'a> {
             .find(|s| !self.is_in_range(*s))
     }
 
-    /// Whether this can be set up, and else why not: a setting out of its range before a short password.
+    /// Returns whether the settings can be set up. Errors, in this order: a setting is out of its range; the password
+    /// is too short.
     #[tactic(auto, using(crate::proofs::Refusals::reasons))]
     pub fn check(&self) -> Result<(), SetUpError>
         ensures { result ≡ check_of (set_up (wanted_settings self.now)) }

@@ -16,7 +16,7 @@ use Rattle.record.specs.declared.types.CollectedLine.{CollectedLine}
 use Rattle.stream.specs.Collecting.{overlong_line, collected_in, collected_all}
 use Rattle.stream.specs.Machine.{UpTo, one_later, up_to}
 
--- one byte more: under the mark, past the limit, where there is room
+-- one byte more: under the overlong flag, past the limit, where there is room
 abbrev pub more : CollectedLine → ℕ → CollectedLine
 more l b = record { overlong = 0; held = l.held + 1; bytes = set l.bytes l.held b }
 
@@ -45,7 +45,7 @@ module _ (left : List ℕ → List ℕ) (most : ℕ) (l : CollectedLine) (b : �
     one_past h = if_no _ _ unmarked ∙ if_yes _ _ (le-leb most l.held h)
 
 module _ (most : ℕ) where
-  -- the mark stays
+  -- the overlong flag stays
   pub marked_stays : (l : CollectedLine) (bs : List ℕ) → is_raised l.overlong ≡ true → collected_all most l bs ≡ l
   marked_stays l [] e = refl
   marked_stays l (b ∷ bs) e = grind (arith, one_marked, marked_stays l bs e)

@@ -1,5 +1,5 @@
--- Collecting goes on where it stopped, and from nothing it gives the bytes themselves or, past the room, the mark
--- alone.
+-- Collecting goes on where it stopped, and from nothing it gives the bytes themselves or, past the room, the overlong
+-- flag alone.
 -- Assumes nothing.
 use Rattle.std.proofs.Common.{ℕ, ◌≤◌, ◌<◌, ◌≡◌, refl, ap, ◌∙◌, List, [], ◌++◌, arith, length}
 use mathlib.Core.List.{foldl-append}

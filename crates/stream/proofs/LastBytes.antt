@@ -47,7 +47,7 @@ ends_unheld w l e = record {
       ∙ ap (λ (h : List ℕ). w ++ h) (sym (held_none l e));
 }
 
--- a legal line under the mark holds nothing
+-- a legal line under the overlong flag holds nothing
 overlong_unheld : (phase : ℕ) (l : CollectedLine) → LegalLine phase l → is_raised l.overlong ≡ true → l.held ≡ 0
 overlong_unheld phase l p e = grind (arith, marked_none)
 

@@ -1,5 +1,5 @@
--- Collecting keeps a line legal: no CR, at most as many bytes as the phase allows, none under the mark, unused room
--- zero.
+-- Collecting keeps a line legal: no CR, at most as many bytes as the phase allows, none under the overlong flag, unused
+-- room zero.
 -- Assumes nothing.
 use Rattle.std.specs.List.{list_all}
 use Rattle.std.proofs.Common.{ℕ, ◌+◌, ◌≤◌, ◌≡◌, refl, sym, ap, ◌∙◌, true, false, List, [], ◌∷◌, ◌++◌, arith, length}
@@ -64,7 +64,7 @@ gathered_legal phase l bs e p =
     up_to_keeps (code "\r") (line_after (held_most phase)) (LegalLine phase)
     (λ k b n. collected_legal phase k b e n) l bs p
 
--- between lines (RULES, Connection: no collected bytes and no overlong mark) a legal line is the empty one
+-- between lines (RULES, Connection: no collected bytes and no overlong flag) a legal line is the empty one
 zeros_by : (s : List ℕ) → list_all is_zero s ≡ true → s ≡ zeros (length s)
 zeros_by [] e = refl
 zeros_by (x ∷ s) e = grind (arith, zeros_by s (both_right (is_zero x) (list_all is_zero s) e))

@@ -1,5 +1,5 @@
 -- What is collected, byte by byte, is the list of these bytes in its room; a whole line is gathered as it was sent, and
--- of an overlong one the mark alone.
+-- of an overlong one the overlong flag alone.
 -- Assumes nothing.
 use Rattle.std.specs.List.{list_all}
 use Rattle.std.proofs.Common.{ℕ, ◌+◌, ◌≤◌, ◌<◌, ◌≡◌, sym, ap, ◌∙◌, true, List, [], ◌∷◌, ◌++◌, append_assoc}

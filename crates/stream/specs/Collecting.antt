@@ -1,9 +1,9 @@
 -- Collecting a line (RULES, Connection: "takes bytes up to and including the first CR, or all of them if none").
 --   line_of xs                 the line with the bytes xs collected, and its unused room zero
 --   line_text l                the bytes collected of a line
---   empty_line, overlong_line  the line with nothing collected; with the mark alone
---   collected_in left most l b   the line after one byte more; past `most` bytes it only keeps the mark, and `left`
---                              says what is left in its room
+--   empty_line, overlong_line  the line with nothing collected; with its overlong flag alone
+--   collected_in left most l b   the line after one byte more; past `most` bytes it only keeps its overlong flag, and
+--                              `left` says what is left in its room
 --   line_after most l b        the same, where nothing is left in it
 --   collected_all most l bs    the line after these bytes, one after the other
 --   Gathered                   the result of one call on its bytes: the line so far, how many bytes come

@@ -21,14 +21,14 @@ pub struct Passed {
     pub ended: bool,
 }
 
-// The line that got longer than the phase allows: only its mark is kept.
+// The line that is longer than the phase allows: only its overlong flag is kept.
 const OVERLONG: CollectedLine = CollectedLine {
     overlong: 1,
     held: 0,
     bytes: [0; LINE_ROOM],
 };
 
-// The bytes `more`, none of them CR, after those collected; or the overlong mark where there is no room for them all.
+// The bytes `more`, none of them CR, after those collected; or the overlong flag where there is no room for them all.
 fn collect(most: usize, l: &mut CollectedLine, more: &[u8])
     requires { most ≤ line_room }
     ensures { l.new ≡ collected_all most l.old more.now }

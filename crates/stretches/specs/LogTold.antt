@@ -1,15 +1,14 @@
--- What a watched log tells of a lamp, beside demand 3's history of the same log.
---   calls_by d e        the calls that an event of a log of the first kind makes on our board, lent the device d: a
---                       second `O` makes none (RULES, Places)
---   calls_of d es       those of events, one after the other
---   is_marked_in d k    the mark of the lamp at place k is set
---   stretches_in k ts   what is told of the lamp at place k, where ts is told of all lamps (crate `watch`)
---   told_of k s es      the stretches that are told of the lamp at place k with the steps es, from the state s on
---   burnt_of k s es     the seconds that the lamp at place k is told to have burnt, when the log has ended
---   StepsTold b w hs es what is promised of what is told with the steps es, beside the history hs
---   LogsWatched         it is kept of every log of the first kind (crate `burnt` tells exactly this), however the board
---                       began
---   RecordedWatched     and of what is recorded of any calls (RULES, History of a board)
+-- What a watched log reports of a lamp, compared with demand 3's history of the same log.
+--   calls_by d e        the calls that an event of a floor log makes on our board, given the device d: a second `O`
+--                       makes none (RULES, Places)
+--   calls_of d es       the calls of the events es, one after the other
+--   is_marked_in d k    the mark of the lamp at index k is set
+--   stretches_in k ts   the stretches of the lamp at index k among ts, which are of all lamps (crate `watch`)
+--   told_of k s es      the stretches of the lamp at index k that are reported with the steps es, from the state s on
+--   burnt_of k s es     the seconds that the lamp at index k is reported to have burnt when the log has ended
+--   StepsTold b w hs es what is promised of the report of the steps es, compared with the history hs
+--   LogsWatched         that is kept of every floor log (crate `burnt` reports exactly this), whatever it begins with
+--   RecordedWatched     it is kept of what is recorded of any calls, too (RULES, History of a board)
 -- Assumes nothing.
 use Rattle.std.specs.Prelude.{ℕ, ◌<◌, ◌≡◌, Bool, false, List, [], ◌∷◌, ◌++◌, length, if◌then◌else◌, slice_index_or}
 use Rattle.record.specs.Views.{marks_seen}
@@ -59,20 +58,20 @@ burnt_of k s es = slice_index_or (burnt_after s es) k 0
 
 -- however a history begins, with a set-up or with a stored form that loads
 pub record StepsTold (b : Beginning) (w : Wanted) (hs : List HistoryEvent) (es : List Step) : Type 0 where
-  -- each lamp is told of
+  -- each lamp is reported
   pub count : (after_log (watching_from (begun_by ours b w).device) es).device.settings.lamp_count ≡ length w.lamps
-  -- of each lamp its stretches in the history
+  -- the stretches of each lamp are those of the history
   pub stretches : (k : ℕ) → k < length w.lamps
       → StretchesTell w (start_marks b w) k hs (told_of k (watching_from (begun_by ours b w).device) es)
-  -- the seconds that it burnt
+  -- the seconds that it burnt are those of the history
   pub burnt : (k : ℕ) → k < length w.lamps
       → burnt_of k (watching_from (begun_by ours b w).device) es ≡ burning_seconds w (start_marks b w) k hs
-  -- and what it has now
+  -- and so are the seconds that it has at the end
   pub lamps : (k : ℕ) → k < length w.lamps
       → slice_index_or (after_log (watching_from (begun_by ours b w).device) es).device.own.lamps k 0
       ≡ lamp_with (burning_seconds w (start_marks b w) k hs) (slice_index_or w.lamps k 0)
 
--- what someone outside sees of a log of the first kind
+-- what an outside observer sees of a floor log
 abbrev pub log_history : Beginning → Wanted → List ℕ → List HistoryEvent
 log_history b w log = history_of ours b w (calls_of (begun_by ours b w).device (floor_events log))
 
@@ -80,7 +79,7 @@ abbrev pub LogsWatched : Type 0
 LogsWatched = (b : Beginning) (w : Wanted) → IsAccepted ours b w → (log : List ℕ)
     → StepsTold b w (log_history b w log) (log_steps (begun_by ours b w).device log)
 
--- headers and stated lines may stand between the calls
+-- headers and stated lines may be between the calls
 abbrev pub RecordedWatched : Type 0
 RecordedWatched = (b : Beginning) (w : Wanted) → IsAccepted ours b w → (cs : List Call) (es : List LogEntry)
     → entry_calls es ≡ recorded (begun_by ours b w).device cs

@@ -1,15 +1,15 @@
--- Which lamp burnt when ("a log from the floor played back to show which lamp burnt when"), over demand 3's history:
--- the seconds are those of its events, and a second is lit exactly if demand 3 counts it as burning.
---   is_lit_then g ms k            a second in the stage g, with the marks ms, is one that the lamp at place k burns
---   seconds_lit_from w g ms k es  so it is of each second of the events es, one after the other, where they begin at g
+-- Which lamp burnt when ("a log from the floor played back to show which lamp burnt when"), by demand 3's history: the
+-- seconds are those of its events, and a second is lit exactly if demand 3 counts it as burning.
+--   is_lit_then g ms k            the lamp at index k burns in a second of the stage g with the marks ms
+--   seconds_lit_from w g ms k es  whether it burns in each second of the events es, in order, where they begin with g
 --                                 and ms;    seconds_lit w ms k es    where they begin with the device, which is off
 --   Stretch                       the seconds from `from` on and before `to`
 --   stretches_from lit f t ls     the stretches of seconds that are lit as ls says, the first of which is the second t,
 --                                 where one has begun at f if `lit`;    stretches_of ls    from the second 0 on
---   is_in ss i                    the second i lies in one of ss
---   InOrder n ss                  the stretches are in order, apart and none of them empty, and none begins before n
---   lengths_of ss                 their lengths, added up
---   StretchesTell w ms k es ss    what is promised of the stretches of the lamp at place k
+--   is_in ss i                    the second i is in one of the stretches ss
+--   InOrder n ss                  the stretches ss are in order, apart and not empty, and none begins before n
+--   lengths_of ss                 the lengths of the stretches ss, added up
+--   StretchesTell w ms k es ss    what is promised of the stretches ss of the lamp at index k
 -- Assumes nothing.
 use Rattle.std.specs.Prelude.{ℕ, suc, ◌+◌, ◌-◌, ◌≤◌, ◌<◌, ◌≡◌, Bool, true, false, ◌&&◌, ◌||◌, List, [], ◌∷◌, ◌++◌}
 use Rattle.std.specs.Prelude.{if◌then◌else◌, nat_le, nat_lt, ◌==◌, slice_index_or}

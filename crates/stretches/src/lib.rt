@@ -1,4 +1,4 @@
-//! Which lamp burnt when: the stretches of demand 3's history. Definitions and laws only; there is no code here to
+//! Which lamp burnt when: the stretches of demand 3's history. This crate has definitions and laws only, and no code to
 //! link.
 #![tactic(auto)]
 
@@ -8,21 +8,22 @@ ghost use Rattle.demands.specs.History.{HistoryEvent};
 ghost use Rattle.stretches.specs.LogTold.{LogsWatched, RecordedWatched};
 ghost use Rattle.stretches.specs.Stretches.{StretchesTell, seconds_lit, stretches_of};
 
-// Nothing is done: that these functions have their contracts is that every log is watched so, and every history told.
+// The functions here do nothing: their contracts are that every log is watched so, and that the stretches of every
+// history are reported.
 
-/// The report of a log of the first kind, from any accepted set-up or load, is what demand 3's history of it says
-/// (RULES, Floor log).
+/// The report of a floor log, from any accepted set-up or load, is what demand 3's history of it says (RULES, Floor
+/// log).
 pub fn watched_logs_tell_stretches()
     ensures { LogsWatched }
 {}
 
-/// The report of a log of the second kind that records any calls, at any places, from any accepted set-up or load, is
-/// what demand 3's history of these calls says (RULES, History of a board).
+/// The report of a history that records any calls, at any places, from any accepted set-up or load, is what demand 3's
+/// history of these calls says (RULES, History of a board).
 pub fn recorded_logs_tell_stretches()
     ensures { RecordedWatched }
 {}
 
-/// For any history, also that of no log, and any marks that it begins with: the stretches of the lamp at place k are
+/// For any history, also that of no log, and any marks at its beginning: the stretches of the lamp at index k are
 /// exactly its seconds, in order and apart, and add up to what it burnt.
 pub fn any_history_tells_its_stretches()
     ensures { (w : Wanted) (marks : List Bool) (k : ℕ) (es : List HistoryEvent)

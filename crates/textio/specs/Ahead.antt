@@ -1,6 +1,6 @@
--- What a clause reads of a `BufferedReader`.
---   ahead_of r       the bytes that are read and not yet taken
---   left_in f r      these, and then those of the source, where they are known
+-- What the clauses say of a `BufferedReader`.
+--   ahead_of r       the bytes that are read ahead and not yet consumed
+--   left_in f r      these bytes, and then those of the source, if they are known
 -- Assumes nothing.
 use Rattle.std.specs.Prelude.{ℕ, List, slice_range}
 use Rattle.std.specs.declared.option.Option.{Option}

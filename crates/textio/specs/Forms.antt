@@ -1,5 +1,5 @@
 -- A form with numbers in it.
---   form_filled form ns    the form with the next of the numbers in the place of each `#`
+--   form_filled form ns    the form with the next of the numbers ns instead of each `#`
 -- Assumes nothing.
 use Rattle.std.specs.Prelude.{ℕ, Bool, List, [], ◌∷◌, ◌++◌, ◌==◌}
 use Rattle.std.specs.List.{before_first, after_first}

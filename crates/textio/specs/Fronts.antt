@@ -1,7 +1,7 @@
--- What a sink got of bytes that were to be written, where it is known what it holds.
---   WritesFront old new bytes     a front of them, maybe all or none
---   WritesText fails old new ..   what a call that writes a text has done: all of it at `Ok`, else a front of it, and
---                                 the error is one that fails names
+-- What a sink got of bytes that were to be written, if it is known what it holds.
+--   WritesFront old new bytes     the sink got a prefix of them, perhaps all or none
+--   WritesText fails old new ..   what a call that writes a text has done: the sink got all of it if the result is
+--                                 `Ok`, else a prefix, and the error is one that `fails` has
 -- Assumes nothing.
 use Rattle.std.specs.Prelude.{ℕ, List, take}
 use Rattle.std.specs.declared.option.Option.{Option}

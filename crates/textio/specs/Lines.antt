@@ -1,13 +1,13 @@
--- The lines of a log (RULES, Floor log: "A line ends with LF, the last perhaps without").
---   lines_ended g log   the lines that an LF ends, in a log of which the first has begun with g
---   cut_end g log       what follows the last LF of it
+-- The lines of a log (RULES, Floor log): a line ends with LF, the last perhaps without.
+--   lines_ended g log   the lines that an LF ends, in a log whose first line has begun with g
+--   cut_end g log       what follows the last LF of such a log
 --   LogLine             a line without its LF, and whether an LF ended it
---   end_of l            the LF that did, or nothing
+--   end_of l            the LF that ended the line l, or nothing
 --   lines_in log        the lines of a log: those that an LF ends, and what follows the last LF, if anything does
---   texts_of ls         lines without their LF;    lines_of log    those of a log
---   count_most          so many lines, or bytes of one line, are more than are counted
---   HasEndlessLine log  a log has a line of as many bytes
---   IsTooLong log       a log has as many lines, or a line of as many bytes
+--   texts_of ls         the lines ls without their LF;    lines_of log    the lines of a log without their LF
+--   count_most          how many lines of a log, or bytes of a line, are too many to be counted
+--   HasEndlessLine log  the log has a line of that many bytes
+--   IsTooLong log       the log has that many lines, or a line of that many bytes
 -- Assumes nothing.
 use Rattle.std.specs.Prelude.{ℕ, ◌≤◌, ◌⊎◌, Bool, true, false, List, [], ◌∷◌, ◌++◌, Any, length, map, if◌then◌else◌}
 use Rattle.std.specs.Prelude.{◌==◌}

@@ -1,15 +1,16 @@
--- What is read of a log.
---   TakesPart ..        of a line whose bytes `before` are kept so many more are taken, all but the LF that may come
---                       after them: at least `least`; what is then kept has as many bytes as there is memory
---   ShowsPart ..        what is taken of a line at once, by how far it came
---   ReadsPart old new   of the line that has begun a part was read, and no LF
---   line_in memory l    what the memory has of a line that was read
---   IsLine ..           the first line of a log, of which so much is kept, and what is left of the log after it: its
---                       LF, if it has one, is between them, and after a line without LF nothing is left
---   IsNextLine ..       whether there is another line in a log, what is kept of it, and whether an LF ended it
---   FailureComesOf ..   why a log is not read to its end: an error that its source gives, or the sink of what is
---                       printed for it, or that it is so long
---   OnFailedRead P f    P holds where the failure f is an error of the source
+-- How a line of a log is read.
+--   TakesPart ..        more bytes of a line are consumed, at least `least`, and an LF after them if `lf` has one;
+--                       `before` is what was stored of the line, and as much as fits of it and of these bytes is then
+--                       at the start of the memory
+--   ShowsPart ..        what a reader consumes of a line at once, by how far the line was read
+--   ReadsPart old new   a part of a line was read, without an LF
+--   line_in memory l    the line that was read, as it is in the memory
+--   IsLine ..           the first line of a log, of which at most `most` bytes are stored, and the log after it: its
+--                       LF, if it has one, is between them, and after a line without LF there is nothing
+--   IsNextLine ..       whether there is another line in a log, what is stored of it, and whether an LF ended it
+--   FailureComesOf ..   why a log is not read to its end: an error of its source, one of the sink of what is printed
+--                       for it, or its length
+--   OnFailedRead P f    P is so if the failure f is an error of the source
 -- Assumes nothing.
 use Rattle.std.specs.Prelude.{⊤, ℕ, ◌≤◌, false, List, [], ◌∷◌, ◌++◌, ◌≡◌, ◌≢◌, length, take, None, Some, IfSome, All}
 use Rattle.std.specs.declared.option.Option.{Option}

@@ -1,6 +1,6 @@
--- What a clause reads of a `BufferedWriter`.
---   waiting_in w     the bytes that the sink has yet to get
---   held_by f w      those that it has got, and then these, where they are known
+-- What the clauses say of a `BufferedWriter`.
+--   waiting_in w     the bytes that are not yet passed on to the sink
+--   held_by f w      the bytes that the sink has got, and then these, if they are known
 -- Assumes nothing.
 use Rattle.std.specs.Prelude.{ℕ, List, slice_range}
 use Rattle.std.specs.declared.option.Option.{Option}

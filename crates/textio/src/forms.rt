@@ -1,5 +1,5 @@
-// Numbers, and forms with numbers in them, written to any sink. Where a write fails, what was written is a front of it,
-// and the caller ends there: nothing is written after a gap.
+// Numbers, and forms with numbers in them, written to any sink. If a write fails, the sink has got a prefix, and the
+// caller writes no more: nothing is written after a gap.
 ghost use Rattle.std.specs.Prelude.{◌≡◌};
 ghost use Rattle.std.specs.List.{before_first, after_first};
 ghost use Rattle.numbers.specs.Decimal.{long_digits};
@@ -20,7 +20,7 @@ pub fn put_number<W: ByteSink>(to: &mut W, number: u64) -> io::Result<()>
     put(to, digits.as_slice())
 }
 
-/// Writes the form with the next of the numbers in the place of each `#`.
+/// Writes the form, with the next of the numbers instead of each `#`.
 pub fn fill<W: ByteSink>(to: &mut W, form: &str, numbers: &[u64]) -> io::Result<()>
     ensures { WritesText W.fails_with (W.contents to.old) (W.contents to.new) result
         (form_filled form.now numbers.now) }
@@ -36,7 +36,7 @@ pub fn fill<W: ByteSink>(to: &mut W, form: &str, numbers: &[u64]) -> io::Result<
     }
 }
 
-// The text before the first `#`, and the text after it.
+// Returns the text before the first `#`, and the text after it.
 fn cut(form: &str) -> (&str, &str)
     ensures before { result.0.now ≡ before_first is_gap form.now }
     ensures after { result.1.now ≡ after_first is_gap form.now }

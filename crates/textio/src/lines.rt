@@ -25,11 +25,11 @@ pub struct LineRead {
 /// Why a log is not read to its end.
 #[derive(Debug, Drop)]
 pub enum Failure {
-    /// The source gave an error; a line that had begun is no line.
+    /// The source gave an error. A line that had begun is not read.
     Read(Error),
     /// The sink of the output gave an error.
     Write(Error),
-    /// A 64-bit number counts no more lines, or no more bytes of a line.
+    /// The log has more lines than a 64-bit number counts, or a line has more bytes.
     TooLong,
 }
 
@@ -45,7 +45,7 @@ impl fmt::Display for Failure {
 
 impl error::Error for Failure {}
 
-// How far a line came; the place after what is kept of it.
+// How far a line was read, and how many of its bytes are in the buffer.
 #[derive(Clone, Copy)]
 enum LineSeen {
     Part(usize),
@@ -53,7 +53,7 @@ enum LineSeen {
     End,
 }
 
-// What is read ahead of a line is taken, with its LF.
+// Consumes what is read ahead of a line, with its LF, and puts what fits of it into the buffer.
 fn take_shown<R: ByteSource>(
     from: &mut BufferedReader<R>,
     line: &mut [u8],

@@ -1,7 +1,7 @@
-// Memory that is filled from its front on.
+// Memory that is filled from its start.
 ghost use Rattle.std.specs.Prelude.{◌≡◌, ◌++◌, ◌+◌, ◌-◌, ◌≤◌, min, length, take};
 
-// As many bytes as there is room for, from the place `at` on; the place after them.
+// Puts as many of the bytes as there is room for at the index `at`. Returns the index after them.
 pub(crate) fn append(memory: &mut [u8], at: usize, bytes: &[u8]) -> usize
     requires { at ≤ length memory.old }
     ensures place { result ≡ at + min (length bytes.now) (length memory.old - at) }

@@ -1,4 +1,4 @@
-// Bytes that come from a source, with those that are read ahead.
+// Bytes that a source gives, with those that are read ahead.
 ghost use Rattle.std.specs.Prelude.{◌≡◌, ◌≤◌, ◌<◌, ◌↔◌, ℕ, List, Option, IsTrue, OnErr, IfErr, OnOk, length, take};
 ghost use Rattle.std.specs.Io.{ReadsAtMost};
 ghost use Rattle.std.specs.Io.KnownBytes.{Keeps, Consumes, IsAtEnd, ReadConsumes};
@@ -50,7 +50,7 @@ impl<R: ByteSource> BufferedReader<R> {
         }
     }
 
-    /// Whether no byte is read ahead, so that the next line needs a read, which may wait.
+    /// Returns whether no byte is read ahead, so that the next line needs a read, which may wait.
     pub fn is_empty(&self) -> bool
         ensures { IsTrue result ↔ (length (ahead_of self.now) ≡ 0) }
     {

@@ -8,7 +8,7 @@ use crate::writer::ByteSink;
 use std::io;
 use std::io::{Error, ErrorKind, Read, Write};
 
-/// A reader or a writer of std's. Which errors it gives is not known.
+/// A reader or a writer of std. Its errors are not known.
 #[derive(Drop)]
 pub struct Stream<T>(pub T);
 
@@ -17,7 +17,7 @@ impl<R: Read> ByteSource for Stream<R> {
 
     ghost fails_with = { λ _. ⊤ };
 
-    // A read that a signal interrupts is made again.
+    // a read that a signal interrupts is made again
     fn read(&mut self, buf: &mut [u8]) -> io::Result<usize> {
         for _ in 0..u64::MAX {
             match self.0.read(buf) {
@@ -29,7 +29,7 @@ impl<R: Read> ByteSource for Stream<R> {
     }
 }
 
-// A write that takes nothing is a failure.
+// Writes some of the bytes. A write that takes none of them is a failure.
 fn write_some<W: Write>(to: &mut W, bytes: &[u8]) -> io::Result<usize>
     ensures bound { WritesAtMost result bytes.now }
     ensures some { IfOk result (λ n. 0 < length bytes.now → 0 < n) }
@@ -48,7 +48,7 @@ impl<W: Write> ByteSink for Stream<W> {
 
     ghost fails_with = { λ _. ⊤ };
 
-    // A write that a signal interrupts is made again.
+    // a write that a signal interrupts is made again
     fn write(&mut self, buf: &[u8]) -> io::Result<usize> {
         for _ in 0..u64::MAX {
             match write_some(&mut self.0, buf) {

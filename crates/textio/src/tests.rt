@@ -1,5 +1,6 @@
 // What no clause says of std's streams: that a call which a signal interrupts is made again, that a write which takes
-// nothing fails, and that a flush is passed on. Which errors std's streams give, and what waits in them, is not known.
+// nothing fails, and that a flush is passed on. The errors of std's streams, and the bytes that wait in them, are not
+// known.
 
 use crate::reader::ByteSource;
 use crate::streams::Stream;
@@ -8,7 +9,7 @@ use crate::writer::ByteSink;
 use std::io;
 use std::io::{Error, ErrorKind, Read, Write};
 
-// Interrupted so many times, and then gives or takes a byte at a time.
+// It is interrupted this many times, and then gives or takes one byte at a time.
 #[derive(Drop)]
 struct Interrupted {
     times: u32,

@@ -12,9 +12,9 @@ use std::io::{Error, ErrorKind};
 pub struct Pieces {
     /// The bytes still to be read.
     pub log: &'static [u8],
-    /// The most bytes of a read; 0 counts as 1.
+    /// How many bytes a read gives at most; 0 counts as 1.
     pub most: usize,
-    /// How many more bytes are read before a read fails.
+    /// How many more bytes are given before a read fails.
     pub until: usize,
 }
 
@@ -71,7 +71,7 @@ impl TrialSink {
         &self.bytes[..self.count]
     }
 
-    /// Returns how many of its bytes had come when it was last flushed.
+    /// Returns how many of its bytes it had when it was last flushed.
     pub fn flushed(&self) -> usize
         ensures { result ≡ self.now.flushed }
     {

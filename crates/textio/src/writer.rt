@@ -35,7 +35,7 @@ pub trait ByteSink {
         ensures err { IfErr result fails_with };
 }
 
-// Bytes written until all are, or until that fails; how many.
+// Writes bytes until all are written, or a write fails. Returns how many were.
 fn hand_on<W: ByteSink>(to: &mut W, bytes: &[u8]) -> (usize, io::Result<()>)
     ensures bound { result.0 ≤ length bytes.now }
     ensures bytes { Appends (W.contents to.old) (W.contents to.new) (take result.0 bytes.now) }
@@ -52,7 +52,7 @@ fn hand_on<W: ByteSink>(to: &mut W, bytes: &[u8]) -> (usize, io::Result<()>)
     (done, Ok(()))
 }
 
-/// Writes all the bytes; if that fails, the sink has got a prefix of them.
+/// Writes all the bytes. If a write fails, the sink has got a prefix of them.
 pub fn put<W: ByteSink>(to: &mut W, bytes: &[u8]) -> io::Result<()>
     ensures { WritesText W.fails_with (W.contents to.old) (W.contents to.new) result bytes.now }
 {
@@ -88,7 +88,7 @@ impl<W: ByteSink> BufferedWriter<W> {
         }
     }
 
-    // What waits is written; what a failure leaves goes on waiting.
+    // Writes the buffered bytes. If a write fails, those that are left stay in the buffer.
     fn drain(&mut self) -> io::Result<()>
         ensures keeps { Keeps (held_by W.contents self.old) (held_by W.contents self.new) }
         ensures empty { OnOk result (self.new.end ≡ 0) }

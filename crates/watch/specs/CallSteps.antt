@@ -1,11 +1,10 @@
--- The steps of a board's calls, at whatever place, and of a log of the second kind (RULES, History of a board), of
--- which
--- only a call can leave another record or let seconds pass.
+-- The steps of a board's calls, at any place, and of a history, of which only a call can leave another record or let
+-- seconds pass (RULES, History of a board).
 --   seconds_of_call c    the seconds that a call lets pass
---   call_step d c        the step of the call c, lent the device d;    call_steps d cs   the steps of the calls cs
+--   call_step d c        the step of the call c from the device d on;    call_steps d cs   the steps of the calls cs
 --   still_step d         a step that leaves d, and lets no second pass
 --   seconds_of_entry e   the seconds that what a line says lets pass
---   said_seconds l       those of the line l, without its LF, if it says anything
+--   said_seconds l       the seconds that what the line l says lets pass; l is without its LF
 --   entry_step d e       the step of what a line says;    entry_steps d es   the steps of what lines say
 -- Assumes nothing.
 use Rattle.std.specs.Prelude.{ℕ, List, [], ◌∷◌, Option, Some, None}

@@ -1,15 +1,15 @@
--- A log that is watched for its lamps has one form of line more than a log that is played back, and every other line is
--- what it is there: `M`, a space, a lamp's number from 1, a space, 0 or 1 is the mark call. No projector has more than
--- eight lamps, so a number is one digit.
+-- A floor log that is watched for its lamps has one form of line more than one that is replayed; every other line is
+-- what it is there. `M`, a space, a lamp's number from 1, a space, 0 or 1 is the mark call. No projector has more than
+-- eight lamps, so the number is one digit.
 --   is_mark_line l    l has that form
---   mark_said l       the place of the lamp that it names, from 0, and the mark, if it is one
+--   mark_said l       the index of the lamp that it names, from 0, and the mark; or none
 --   WatchedLogEvent        an event of such a log
---   floor_event l     that of the line l
---   watched_said e    the same of an event as the code has it
---   done_by d e       the device after it
---   watched_answer d e    the number that its call gives; None of a line of no form
---   seconds_by e      the seconds that it lets pass
---   floor_step d e    these two, as a step of the log;    floor_steps d es   the steps of the events es, from d on
+--   floor_event l     the event of the line l
+--   watched_said e    the event e of the code, as a WatchedLogEvent
+--   done_by d e       the device after the event e
+--   watched_answer d e    the number of its call; None for a line of no form
+--   seconds_by e      the seconds that the event e lets pass
+--   floor_step d e    both, as a step of the log;    floor_steps d es   the steps of the events es, from d on
 -- Assumes nothing.
 use Rattle.std.specs.Prelude.{ℕ, ◌-◌, Bool, ◌&&◌, List, [], ◌∷◌, length, if◌then◌else◌, ◌==◌, Option, Some, None}
 use Prim.Native.Char.{code}

@@ -1,11 +1,13 @@
 -- The state of a `Watch`, and what a step of a log does to it.
---   state_of w              the state
+--   state_of w              the state of the watch w
 --   IsWatched s e after t   the step e leaves `after` of the state s; t says whether it ended stretches
---   IsLeft s after          no step was made: all is as it was, but perhaps the places of the record
---   IsMade s e after r      the step e was made so, or, where r has a reason why its line does not belong, none was
---   misfit_made r           that reason, if there is one;    misfit_seen r   of what the code's function returns
---   LineLeaves s r l ..     what the line l of a log of the second kind leaves of the state s and of where its reader
---                           stands, r: it belongs and is made, or it does not, and why
+--   IsLeft s after          no step was made: nothing has changed but perhaps the places of the record
+--   IsMade s e after r      the step e was made, as IsWatched has it, if r is no error; else none was made, as IsLeft
+--                           has it
+--   misfit_made r           why the line does not belong, if r says so;    misfit_seen r   the same of what the code's
+--                           function returns
+--   LineLeaves s r l ..     the result r of the line l of a history, for a watch in the state s: the line belongs and
+--                           its step was made, or it does not belong, and why
 -- Assumes nothing.
 use Rattle.std.specs.Prelude.{◌≡◌, ℕ, Bool, ◌&&◌, Result, Ok, Err, Option, Some, None}
 use Rattle.textio.specs.Lines.{LogLine}
@@ -44,7 +46,7 @@ abbrev pub misfit_seen : Result Bool Why → Option Misfit
 misfit_seen (Ok ended) = None
 misfit_seen (Err why) = Some (why_seen why)
 
--- a line belongs, and what it says was made
+-- the line belongs, and what it says was made
 pub record IsLineMade (s : Watching) (r : Recorder) (l : LogLine) (after : Watching) (later : Recorder) (ended : Bool)
     : Type 0 where
   pub entry : LogEntry
@@ -52,7 +54,7 @@ pub record IsLineMade (s : Watching) (r : Recorder) (l : LogLine) (after : Watch
   pub watched : IsWatched s (entry_step s.device entry) after ended
   pub log : later ≡ log_made r s.device entry l.text
 
--- it does not
+-- the line does not belong
 pub record IsLineStray (s : Watching) (r : Recorder) (l : LogLine) (after : Watching) (why : Misfit) : Type 0 where
   pub told : line_told r s.device l ≡ Err why
   pub left : IsLeft s after

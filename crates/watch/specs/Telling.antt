@@ -1,14 +1,14 @@
--- What is told of a whole log, step by step (RULES, Floor log).
---   floor_events log      the events of a log of the first kind;    log_steps d log   its steps, from the device d on
---   LitStretch               the lamps whose marks are set burnt from a second on and before another, and burn no
+-- What is reported of a whole log, step by step (RULES, Floor log).
+--   floor_events log      the events of a floor log;    log_steps d log   its steps, from the device d on
+--   LitStretch               the lamps whose marks are set in this device burnt from one second up to another, and no
 --                            longer
---   told_on s e           what is told with the step e: a stretch that is empty is not
---   told_at_end s         what is told where the log ends in the state s: it ends the stretches that are under way
---   lit_stretches s es         what is told with the steps es, from the state s on, and at their end
---   after_log s es        the state that they leave
---   burnt_after s es      the seconds that each lamp burnt, when the log has ended
---   floor_unplayed d log  what of a log of the first kind is not played, from the device d on
---   IsUncounted log       a log of the first kind lets more seconds pass than 64 bits count
+--   told_on s e           the stretch that is reported with the step e, if it ends one that is not empty
+--   told_at_end s         the stretch that is reported if the log ends in the state s: the one that is under way
+--   lit_stretches s es         the stretches that are reported with the steps es, from the state s on, and at their end
+--   after_log s es        the state after the steps es, from the state s on
+--   burnt_after s es      the seconds that each lamp burnt when the log ends after the steps es
+--   floor_unplayed d log  what of a floor log is not played, from the device d on
+--   IsUncounted log       a floor log lets more seconds pass than 64 bits count
 -- Assumes nothing.
 use Rattle.std.specs.Prelude.{ℕ, ◌^◌, ◌≤◌, Bool, ◌&&◌, if◌then◌else◌, List, [], ◌∷◌, ◌++◌, map, sum_by}
 use Rattle.record.specs.declared.types.Device.{Device}

@@ -1,18 +1,19 @@
 -- A log watched for its lamps: what is kept between two of its steps, and what a step does. All lamps whose marks are
 -- set burn at once, from warm-up on and until power is switched off, and marks change only while power is off (RULES,
--- Lamps); so one second is kept for all of them, and of a step no more is watched than what it leaves.
+-- Lamps). So one second is kept for all of them, and nothing of a step is used but what it leaves.
 --   Step                  a step of a log: the device after it, and the seconds that it let pass
---   Watching              the device; the seconds gone since the log began; the second at which the lamps began to burn
---                         last; the seconds that each lamp burnt in stretches that have ended
---   watching_from d       before a log that begins with the device d
---   is_burning_in d       the lamps burn, those whose marks are set
---   gained_by d n burnt   these burnt n seconds more
+--   Watching              the device; the seconds since the log began; the second at which the lamps last began to
+--                         burn; the seconds that each lamp burnt in stretches that have ended
+--   watching_from d       the state before a log that begins with the device d
+--   is_burning_in d       the lamps whose marks are set burn in the device d
+--   gained_by d n burnt   the seconds burnt, with n more for each of these lamps
 --   watched_on s e        the state after the step e
---   is_dark_with s d         with a step that leaves d the lamps burn no longer: it ends stretches, those of the lamps
---                         whose marks are set, from `from` to `time` of the state after it
---   is_long s             these are not empty
---   burnt_by s            the seconds that each lamp burnt, should the log end here
---   is_sound s            no lamp burnt longer than there was time, and the stretch under way began before now
+--   is_dark_with s d         a step that leaves d ends the stretches under way in s: those of the lamps whose marks are
+--                         set, from `from` to `time` of the state after it
+--   is_long s             the stretches under way in s are not empty
+--   burnt_by s            the seconds that each lamp burnt, if the log ends in the state s
+--   is_sound s            no lamp burnt longer than the log lasted, and the stretch under way did not begin in the
+--                         future
 -- Assumes nothing.
 use Rattle.std.specs.List.{list_all}
 use Rattle.std.specs.Prelude.{ℕ, ◌+◌, ◌-◌, Bool, not, ◌&&◌, List, replicate, if◌then◌else◌, nat_le, nat_lt}
@@ -39,7 +40,7 @@ is_burning_in d = is_lit d.own.power
 abbrev pub gained_by : Device → ℕ → List ℕ → List ℕ
 gained_by d n burnt = changed_where (λ (b : ℕ). b + n) (marks_in d.settings d.own) burnt
 
--- what a step leaves that let n seconds pass and left the device d
+-- the state after a step that let n seconds pass and left the device d
 abbrev pub watched_by : Watching → Device → ℕ → Watching
 watched_by s d n =
     let t = s.time + n in

@@ -1,6 +1,6 @@
-//! A log watched for its lamps: which burnt when (RULES, Floor log, History of a board). The lines of one of the first
-//! kind are those that `floorlog` plays, and `M`, which sets or clears a lamp's mark; those of one of the second kind
-//! are `recorded`'s.
+//! A log watched for its lamps: which of them burnt when (RULES, Floor log, History of a board). The lines of a floor
+//! log are those that `floorlog` plays, and `M`, which sets or clears a lamp's mark. The lines of a history are those
+//! of `recorded`.
 #![tactic(auto)]
 
 mod marking;
@@ -23,8 +23,8 @@ use recorded::chain::{self, Why};
 use text::flag;
 use words::lamp::LAMPS_MOST;
 
-/// A log as it is watched: its record, tested where the log began; the seconds gone since the log began; the second at
-/// which the lamps began to burn last; and the seconds that each lamp burnt in stretches that have ended.
+/// A log as it is watched: its record, tested where the log began; the seconds since the log began; the second at which
+/// the lamps last began to burn; and the seconds that each lamp burnt in stretches that have ended.
 #[derive(Drop)]
 pub struct Watch {
     tested: Tested,
@@ -41,7 +41,7 @@ fn is_burning_in(device: &Device) -> bool
     device.own.power().is_burning()
 }
 
-// Each lamp whose mark is set burnt n seconds more.
+// Adds n seconds to each lamp whose mark is set.
 fn burn(burnt: &mut [u64; LAMPS_MOST], device: &Device, n: u64)
     requires { (k : ℕ) → slice_index_or burnt.old k 0 + n < 2 ^ 64 }
     ensures { burnt.new ≡ gained_by device.now n burnt.old }
@@ -54,8 +54,9 @@ fn burn(burnt: &mut [u64; LAMPS_MOST], device: &Device, n: u64)
     }
 }
 
-// Moves the light on to that time, at which the device was left as it is: where the lamps begin to burn, they burn from
-// then on; where they end, those whose marks are set burnt from `from` to then, and it tells whether that is any time.
+// Updates the stretch under way at `time`, when a step has left the device as it is. If the lamps begin to burn, a
+// stretch begins. If they end, each lamp whose mark is set gains the seconds from `from` to `time`; returns whether
+// these are any.
 fn follow(
     from: &mut u64,
     burnt: &mut [u64; LAMPS_MOST],
@@ -83,7 +84,7 @@ fn follow(
     }
 }
 
-// The seconds that what a line says lets pass.
+// Returns the seconds that what a line says lets pass.
 fn seconds_of(entry: &Entry<'_>) -> u32
     ensures { result ≡ seconds_of_entry (entry_seen entry.now) }
 {
@@ -93,12 +94,12 @@ fn seconds_of(entry: &Entry<'_>) -> u32
     }
 }
 
-/// What a line of a log of the first kind came to.
+/// The result of a line of a floor log.
 #[derive(Clone, Copy)]
 pub struct Played {
     /// Whether it ended stretches.
     pub ended: bool,
-    /// The number that its call gave, 0 where it was served; none of a line of no form.
+    /// The number of its call, 0 if it was served; `None` if the line has no form.
     pub answer: Option<u32>,
 }
 
@@ -112,7 +113,7 @@ impl Watch {
     ghost use Rattle.watch.specs.Watching.{watching_from, is_burning_in, is_long, burnt_by};
     ghost use Rattle.watch.specs.States.{state_of, IsWatched, IsMade, misfit_made, misfit_seen, LineLeaves};
 
-    /// Before a log that begins with a device, which need not be legal.
+    /// Returns a watch before a log that begins with a device, which need not be legal.
     pub fn new(device: Device) -> Watch
         ensures { state_of result ≡ watching_from device }
     {
@@ -124,9 +125,9 @@ impl Watch {
         }
     }
 
-    /// A line of a log of the first kind. Returns what its call gave, and whether the line ended stretches: those of
-    /// the lamps whose marks are set, from `from` to `time`. None where 64 bits cannot count the seconds that are then
-    /// gone: nothing is done.
+    /// Plays a line of a floor log. Returns the number of its call, and whether it ended stretches: those of the lamps
+    /// whose marks are set, from `from` to `time`. Returns `None` and changes nothing if 64 bits cannot count the
+    /// seconds that would then have passed.
     pub fn play(&mut self, line: &KeptLine) -> Option<Played>
         ensures watched { IfSome result (λ p. IsWatched (state_of self.old)
             (floor_step self.old.tested.device (floor_event (kept_text line.now))) (state_of self.new) p.ended) }
@@ -153,10 +154,11 @@ impl Watch {
         Some(Played { ended, answer })
     }
 
-    /// A line of a log of the second kind, without its LF, and what it says, as [`chain::entry`] gave it there. It is
-    /// made again, counted and added to the sum. Returns whether it ended stretches, as [`Watch::play`] does. None
-    /// where 64 bits cannot count the seconds that are then gone: nothing is done. Errors: those of [`chain::make`]:
-    /// the line does not belong, and no more than the places of the record is changed.
+    /// Makes the call of a line of a history again, counts the line, and adds it to the sum. `line` is without its LF,
+    /// and `entry` is what [`chain::entry`] read of it there. Returns whether it ended stretches, as [`Watch::play`]
+    /// does. Returns `None` and changes nothing if 64 bits cannot count the seconds that would then have passed.
+    /// Errors: those of [`chain::make`]: the line does not belong, and nothing but the places of the record has
+    /// changed.
     pub fn make(
         &mut self,
         log: &mut Recorder,
@@ -190,11 +192,11 @@ impl Watch {
         )))
     }
 
-    /// The next line of a log of the second kind, where its reader stands; the bytes that it says were received lie in
-    /// the room. It is read by [`chain::entry`] and made again by [`Watch::make`]. Returns whether it ended stretches.
-    /// None where 64 bits cannot count the seconds that are then gone: nothing is done. Errors: why the line does not
-    /// belong: `Unended`, for one that no LF ended, then those of [`chain::entry`], then those of [`chain::make`]; no
-    /// more than the places of the record is changed.
+    /// Reads the next line of a history with [`chain::entry`], and makes its call again with [`Watch::make`]. The bytes
+    /// that the line says were received are put in the room. Returns whether it ended stretches. Returns `None` and
+    /// changes nothing if 64 bits cannot count the seconds that would then have passed. Errors, in this order:
+    /// `Unended` for a line that no LF ended, those of [`chain::entry`], those of [`chain::make`]: the line does not
+    /// belong, and nothing but the places of the record has changed.
     pub fn make_line(
         &mut self,
         log: &mut Recorder,
@@ -216,35 +218,35 @@ impl Watch {
         }
     }
 
-    /// The record as the lines left it.
+    /// Returns the record after the lines watched so far.
     pub fn device(&self) -> &Device
         ensures { result.now ≡ self.now.tested.device }
     {
         &self.tested.device
     }
 
-    /// The seconds gone since the log began.
+    /// Returns the seconds since the log began.
     pub fn time(&self) -> u64
         ensures { result ≡ self.now.time }
     {
         self.time
     }
 
-    /// The second at which the lamps began to burn last.
+    /// Returns the second at which the lamps last began to burn.
     pub fn from(&self) -> u64
         ensures { result ≡ self.now.from }
     {
         self.from
     }
 
-    /// Whether stretches are under way, which the end of the log would end.
+    /// Returns whether stretches are under way, which the end of the log would end.
     pub fn is_underway(&self) -> bool
         ensures { result ≡ (is_burning_in self.now.tested.device && is_long (state_of self.now)) }
     {
         is_burning_in(&self.tested.device) && self.from < self.time
     }
 
-    /// The seconds that each lamp burnt, should the log end here.
+    /// Returns the seconds that each lamp burnt, if the log ends here.
     pub fn burnt(&self) -> [u64; LAMPS_MOST]
         ensures { result ≡ burnt_by (state_of self.now) }
     {

@@ -1,4 +1,4 @@
-// One line of a log that is watched for its lamps: its event, and what that does to the device, where it lies.
+// One line of a log that is watched for its lamps: its event, and what it does to the device.
 ghost use Rattle.std.specs.Prelude.{◌≡◌, Some};
 ghost use Rattle.text.specs.Words.{◌from◌to◌};
 ghost use Rattle.floorlog.specs.KeptText.{kept_text};
@@ -13,12 +13,12 @@ use record::refusal::Refusal;
 use text::numbered;
 use text::numbered::Numbered;
 
-/// An event of a log that is watched.
+/// An event of a floor log that is watched.
 #[derive(Clone, Copy)]
 pub enum WatchedEvent<'a> {
-    /// One that is played back too.
+    /// An event that `floorlog` plays too.
     Logged(Event<'a>),
-    /// The lamp of this place, from 0, gets this mark.
+    /// The lamp at this index, from 0, gets this mark.
     Marked(u8, bool),
 }
 
@@ -34,7 +34,7 @@ fn is_mark(b: u8) -> bool
     b'0' <= b && b <= b'1'
 }
 
-/// The event of a line. It is a mark call where it has `M`, a space, a lamp's number from 1, a space, 0 or 1.
+/// Returns the event of a line. It is a mark call if the line is `M`, a space, a lamp's number from 1, a space, 0 or 1.
 #[tactic(auto, unfolding(crate::specs::Marking::mark_said, crate::specs::Marking::floor_event))]
 pub fn read(line: &KeptLine) -> WatchedEvent<'_>
     ensures { watched_said result ≡ floor_event (kept_text line.now) }
@@ -48,7 +48,7 @@ pub fn read(line: &KeptLine) -> WatchedEvent<'_>
     }
 }
 
-/// The seconds that an event lets pass.
+/// Returns the seconds that an event lets pass.
 pub fn seconds_of(event: &WatchedEvent<'_>) -> u32
     ensures { result ≡ seconds_by (watched_said event.now) }
 {
@@ -58,7 +58,7 @@ pub fn seconds_of(event: &WatchedEvent<'_>) -> u32
     }
 }
 
-// A lamp's mark is set, or not; the number that the call gives.
+// Sets or clears a lamp's mark. Returns the number of the call.
 fn set_mark(t: &mut Tested, lamp: u8, mark: bool) -> u32
     ensures device { t.new.device ≡ done_by t.old.device (marked lamp mark) }
     ensures number { Some result ≡ watched_answer t.old.device (marked lamp mark) }
@@ -73,7 +73,7 @@ fn set_mark(t: &mut Tested, lamp: u8, mark: bool) -> u32
     Refusal::NotLegal.number()
 }
 
-/// An event on any record. Returns the number that its call gives, 0 where it was served; none of a line of no form.
+/// Makes an event's call on any record. Returns the call's number, 0 if it was served; `None` if the line has no form.
 #[tactic(auto, unfolding(crate::specs::Marking::done_by))]
 pub fn call(tested: &mut Tested, event: &WatchedEvent<'_>) -> Option<u32>
     ensures device { tested.new.device ≡ done_by tested.old.device (watched_said event.now) }

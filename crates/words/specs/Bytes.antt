@@ -1,9 +1,9 @@
 -- Single bytes of a line (PJLink 1.04, 2.1; RULES, Commands).
 --   s at i           the byte of s at the place i
---   is_alnum b       an ASCII letter or digit
---   upper_of b       the upper case of a letter; any other byte as it is
+--   is_alnum b       b is an ASCII letter or digit
+--   upper_of b       the upper case of the letter b; any other byte as it is
 --   is_cr_free s          no byte of s is CR, which ends a line
---   command_most     no command line is longer, without its CR: seven bytes of head and a parameter of 128
+--   command_most     how many bytes a command line has at most, without its CR: seven of head and a parameter of 128
 -- Assumes nothing.
 use Rattle.std.specs.List.{list_all}
 use Rattle.std.specs.Prelude.{ℕ, ◌-◌, Bool, not, ◌||◌, List, if◌then◌else◌, slice_index_or}

@@ -1,6 +1,6 @@
 -- The class of a projector, of a body and of a line: 1 or 2 (RULES, Commands and Class 2; PJLink 1.04, 4.14).
---   class_as_number k   1 or 2
---   class_code k     its character, with class_text and class_read alike
+--   class_as_number k   the class as a number, 1 or 2
+--   class_code k     its character; class_text k writes it, and class_read reads it
 -- Assumes nothing.
 use Rattle.std.specs.Prelude.{ℕ, ◌+◌, List, [], ◌∷◌, Option}
 use Prim.Native.Char.{code}

@@ -1,19 +1,20 @@
 -- Values on a line, read from the front of bytes: a value, and the bytes after it (RULES, Commands and Controller).
---   f >>= g            g of what f gives, where it gives something
+--   f >>= g            g of what f gives, if it gives something
 --   first_named code xs b  the first of xs whose code is the byte b
---   letter f           a value of one byte
---   strip_prefix t s   what follows the bytes t, where s begins with them
---   first_spelled text xs  the first of xs by whose text the bytes begin
---   preceded_by c read  the byte c, and then a value
---   pair_of mk f g     two values, one after the other, as one
+--   letter f           the value that the first byte names by f, and the bytes after it
+--   strip_prefix t s   what follows the bytes t, if s begins with them
+--   first_spelled text xs  the first of xs with whose text the bytes begin
+--   preceded_by c read  the byte c, and then the value that `read` reads
+--   pair_of mk f g     two values, one after the other, as the one that mk makes of them
 --   values_in n f      n values, one after the other
 --   whole_value read s  the value that all of s says
 --   Ends s             where a word may end: no byte follows, or a space
---   Plain legal text x t    t says the legal x as our own side says it, and in no other way
---   Codec E legal text writes read     a legal value's own text says it, and no other value is said; what says a
---                      value is read as it, where E holds of what follows; what is read says the value
---   WholeCodec legal text writes read  the same of all of a parameter
---   taken_value r      what a reader of the code returned, apart from where the rest lies
+--   Plain legal text x t    the bytes t say the legal value x as our own side writes it, and in no other way
+--   Codec E legal text writes read     the law of a value: its own text says it if it is legal, and no value that is
+--                      not legal is said; what says a value is read as that value, if E holds of what follows; and
+--                      what is read says the value that was read
+--   WholeCodec legal text writes read  the same law, where the value is all of a parameter
+--   taken_value r      what a reader of the code returned, without the place in memory of the bytes after it
 -- Assumes nothing.
 use Rattle.std.specs.Prelude.{ℕ, zero, suc, ◌≡◌, Bool, true, List, [], ◌∷◌, ◌++◌, if◌then◌else◌}
 use Rattle.std.specs.Prelude.{Option, Some, None, ◌==◌}

@@ -1,5 +1,5 @@
 -- What is written by a combination of values is read back, and nothing else is read: one law for each combination. They
--- stand in specs/ since the laws of a trait's values (Laws) rest on them, and are named from there.
+-- are in specs/ since the laws of a trait's values (Laws) rest on them, and are named from there.
 -- Assumes nothing.
 use Rattle.std.proofs.Common.{ℕ, zero, suc, ◌≡◌, ◌≤◌, ◌⊎◌, inl, inr, Bool, true, false, List, [], ◌∷◌, ◌++◌}
 use Rattle.std.proofs.Common.{refl, sym, ap, ◌∙◌, subst, arith, length, map}

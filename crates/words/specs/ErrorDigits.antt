@@ -1,8 +1,8 @@
--- The six digits of the errors (RULES, Commands; PJLink 1.04, 4.7).
---   is_error_digit d     0 no error or not known, 1 a warning, 2 an error
---   is_errors ds         six of them
---   errors_text ds       their characters
---   errors_read s        the six at the front of s;    status_read s   the same as a status
+-- The six digits of the error status (RULES, Commands; PJLink 1.04, 4.7).
+--   is_error_digit d     d is an error digit: 0 no error or not known, 1 a warning, 2 an error
+--   is_errors ds         ds are six error digits
+--   errors_text ds       the characters of the digits ds
+--   errors_read s        the six digits at the front of s;    status_read s   the same, as an error status
 -- Assumes nothing.
 use Rattle.std.specs.List.{list_all}
 use Rattle.std.specs.Prelude.{ℕ, ◌-◌, Bool, ◌&&◌, List, map, length, Option, Some, None, if◌then◌else◌, nat_le, ◌==◌}

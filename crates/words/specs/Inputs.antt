@@ -1,13 +1,13 @@
--- Inputs as two characters, read and written (RULES, The legal record; PJLink 1.04, 4.3; RULES, Class 2). Which type is
--- which stands in Sources, and these definitions are proved to follow it (proofs/SourcesFollowed).
---   is_input_text k a b   the two characters name an input of Class k: of Class 1 a type 1 to 5 and a number 1 to 9, so
+-- Inputs as two characters, read and written (RULES, The legal record; PJLink 1.04, 4.3; RULES, Class 2). The table of
+-- the types is in Sources, and these definitions are proved to follow it (proofs/SourcesFollowed).
+--   is_input_text k a b   the characters a b name an input of Class k: of Class 1 a type 1 to 5 and a number 1 to 9, so
 --                         11 and 59 do, and 10, 20 and 61 do not; of Class 2 also the type 6 and a number A to Z
---   input_named a b       the input that they name
---   read_input a b        the input of either class that they name, or none: which are listed the set-up decides
---   is_input i            an input that two characters can name
---   input_text i          its two characters
+--   input_named a b       the input that the characters a b name
+--   read_input a b        the input of either class that a b name, or none; which inputs are listed, the set-up decides
+--   is_input i            i is an input that two characters can name
+--   input_text i          the two characters of i
 --   input_read s          the input at the front of s
---   input_of w            the input that all of a word names
+--   input_of w            the input that all of the word w names
 -- Assumes nothing.
 use Rattle.std.specs.Prelude.{ℕ, ◌+◌, ◌%◌, Bool, ◌&&◌, List, [], ◌∷◌, if◌then◌else◌, Option, Some, None, nat_le, ◌==◌}
 use Prim.Native.Char.{code}

@@ -1,10 +1,10 @@
--- Lists: their things joined by single spaces (RULES, Commands: "lamps joined by spaces", "inputs .. joined by
+-- Lists: their values joined by single spaces (RULES, Commands: "lamps joined by spaces", "inputs .. joined by
 -- spaces").
---   list_text text xs     as our own side says them
---   JoinedBy W xs s       s is one or more things, joined, each in one of the forms that W has for it
---   list_read read n s       the things that all of s says, one to n of them
---   is_list legal n xs    one to n things, each legal
---   WritesList W n xs s   s is such a list of at most n things
+--   list_text text xs     the values xs joined, each in the text that our own side writes
+--   JoinedBy W xs s       s is one or more values, joined, each in one of the forms that W has for it
+--   list_read read n s       the values that all of s says, one to n of them
+--   is_list legal n xs    xs are one to n values, each legal
+--   WritesList W n xs s   s is a list, as JoinedBy has it, of at most n values
 -- Assumes nothing.
 use Rattle.std.specs.Prelude.{ℕ, zero, suc, ◌≡◌, ◌≤◌, Bool, ◌&&◌, List, [], ◌∷◌, ◌++◌, length}
 use Rattle.std.specs.Prelude.{Option, Some, None, if◌then◌else◌, nat_le}

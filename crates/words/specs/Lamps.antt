@@ -1,7 +1,7 @@
 -- A lamp: its hours, a space, 1 if it is lit, else 0 (RULES, Commands; PJLink 1.04, 4.8). It has more than one writing
 -- (RULES, Controller): other makers pad the hours with zeros, to five digits at most.
---   is_lamp_hours l      hours that five digits can write
---   lamp_text l          as our own side says a lamp
+--   is_lamp_hours l      the hours of l are some that five digits can write
+--   lamp_text l          the bytes that our own side writes for the lamp l
 --   WritesLampHours l t  the bytes t are a writing of the lamp l: its hours in one to five digits, a space, 1 if lit,
 --                        else 0
 --   lamp_read s          the lamp at the front of s

@@ -1,5 +1,5 @@
--- The law of each value on a line: its own text says it, what says it is read back, and what is read said it. A trait's
--- law is named from specs/, so these stand here, and no reader has to believe them.
+-- The law of each value on a line: its own text says it, what says it is read back, and what is read said it. The name
+-- of a trait's law has to be in specs/, so these laws are here; no reader has to believe them.
 -- Assumes nothing.
 use Rattle.std.proofs.Common.{ℕ, ◌+◌, ◌≡◌, Bool, true, false, List, [], ◌∷◌, ◌++◌, length, take, drop}
 use Rattle.std.proofs.Common.{refl, sym, ap, ◌∙◌, subst, arith, append_assoc}
@@ -149,7 +149,7 @@ input_sound (a ∷ b ∷ s) i rest e =
 pub input_codec : Codec Ends is_input input_text (Plain is_input input_text) input_read
 input_codec = record { own = λ i h. (h, refl); told = λ i t w. w.0; back = input_back; sound = input_sound }
 
--- digits end where a word does
+-- digits end where a word ends
 figures_back : (t rest : List ℕ) → list_all is_digit t ≡ true → Ends rest → figures (t ++ rest) ≡ length t
 figures_back [] [] e h = refl
 figures_back [] (b ∷ s) e h = ap (λ c. figures (c ∷ s)) h

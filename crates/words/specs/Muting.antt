@@ -1,5 +1,5 @@
 -- The mutes of video and audio (RULES, Commands; PJLink 1.04, 4.6).
---   mutes_text m     11 video only, 21 audio only, 31 both, 30 neither
+--   mutes_text m     the bytes of the mutes m: 11 video only, 21 audio only, 31 both, 30 neither
 --   mutes_read s     the mutes at the front of s
 -- Assumes nothing.
 use Rattle.std.specs.Prelude.{ℕ, Bool, true, false, List, [], ◌∷◌, Option, codes}

@@ -1,7 +1,7 @@
 -- A number in decimal at the front of bytes, one to five digits, zeros in front allowed (RULES, Controller).
 --   hours_most       the greatest number of five digits
---   is_numeral n     five digits can write it
---   figures s        how many digits stand at the front of s
+--   is_numeral n     five digits can write the number n
+--   figures s        how many digits are at the front of s
 --   number_read s    the number at the front of s
 -- Assumes nothing.
 use Rattle.std.specs.Prelude.{ℕ, Bool, List, Option, Some, take, drop, nat_le}

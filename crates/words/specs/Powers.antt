@@ -1,8 +1,8 @@
--- Values of one byte: the power, and what is on or off (RULES, Commands; PJLink 1.04, 4.2; RULES, Class 2).
---   power_code p      0 off, 1 on, 2 cooling, 3 warm-up: the characters, whatever hex PJLink's text prints for the last
+-- Values of one byte: the power status, and what is on or off (RULES, Commands; PJLink 1.04, 4.2; RULES, Class 2).
+--   power_code p      its character: 0 off, 1 on, 2 cooling, 3 warm-up, whatever hex PJLink's text prints for the last
 --                     two
---   power_text p      that character, and power_read what reads it
---   switch_code on    1 on, 0 off, with switch_text and switch_read alike
+--   power_text p      the text of that character; power_read reads it
+--   switch_code on    the character of a switch: 1 on, 0 off; switch_text on writes it, and switch_read reads it
 -- Assumes nothing.
 use Rattle.std.specs.Prelude.{ℕ, Bool, true, false, List, [], ◌∷◌, Option}
 use Prim.Native.Char.{code}

@@ -1,7 +1,7 @@
--- The four refusals: ERR and a digit (PJLink 1.04, 2.4; RULES, Commands).
---   error_reply_digit r   1 undefined command, 2 out of parameter, 3 unavailable time, 4 failure
---   error_reply_text r     ERR and that digit
---   error_reply_read s     the refusal at the front of s
+-- The four error replies: ERR and a digit (PJLink 1.04, 2.4; RULES, Commands).
+--   error_reply_digit r   the digit of r: 1 undefined command, 2 out of parameter, 3 unavailable time, 4 failure
+--   error_reply_text r     ERR and the digit of r
+--   error_reply_read s     the error reply at the front of s
 -- Assumes nothing.
 use Rattle.std.specs.Prelude.{ℕ, List, [], ◌∷◌, Option}
 use Prim.Native.Char.{code}

@@ -1,14 +1,14 @@
 -- The table of the types of an input (RULES, The legal record; PJLink 1.04, 4.3; RULES, Class 2: type 6 and numbers
 -- with letters are of Class 2), and what two characters stand for by it. What reads and what writes characters has
--- definitions of its own (Inputs), which are proved to follow this table (proofs/SourcesFollowed), and so has the C
--- face for its codes (`source_number` of codes/specs/Commands; `face_follows` of codes/proofs/CommandsCoded).
---   type_of s               the type of a source, 1 to 6
+-- definitions of its own (Inputs), which are proved to follow this table (proofs/SourcesFollowed); so are the codes of
+-- the C face (`source_number` of codes/specs/Commands; `face_follows` of codes/proofs/CommandsCoded).
+--   type_of s               the type of the source s, 1 to 6
 --   is_same_input i j          i and j have the same type and the same number
---   character n             the character of a number below ten
---   is_number_character b   a character that numbers an input: 1 to 9, A to Z
---   number_for b            the number that it stands for: 1 to 9, and 10 to 35 for A to Z
+--   character n             the character of the number n, which is below ten
+--   is_number_character b   the character b numbers an input: 1 to 9, A to Z
+--   number_for b            the number for which the character b stands: 1 to 9, and 10 to 35 for A to Z
 --   number_character n      the character of the number n
---   input_for a b           the input for which the characters a b stand, a type's and a number's; or none
+--   input_for a b           the input for which the characters a b, of a type and a number, stand; or none
 -- Assumes nothing.
 use Rattle.std.specs.Prelude.{ℕ, ◌+◌, ◌-◌, ◌%◌, Bool, ◌&&◌, ◌||◌, List, [], ◌∷◌, if◌then◌else◌}
 use Rattle.std.specs.Prelude.{Option, Some, None, ◌==◌, nat_le}
@@ -41,7 +41,7 @@ is_number_character b = b from "1" to "9" || b from "A" to "Z"
 unfoldable pub number_for : ℕ → ℕ
 number_for b = if nat_le b (code "9") then b - code "0" else 10 + (b - code "A")
 
--- a number past 35 has none: it gets one of the letters
+-- a number past 35 has no character: this gives it one of the letters
 unfoldable pub number_character : ℕ → ℕ
 number_character n = if nat_le n 9 then character n else code "A" + (n - 10) % 26
 

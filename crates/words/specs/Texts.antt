@@ -1,12 +1,12 @@
 -- Texts of the set-up and of replies (RULES, The legal record and Controller; PJLink 1.04, 4.10 to 4.13 and 5.1).
 --   is_error_reply s      s is exactly ERR1, ERR2, ERR3 or ERR4
---   is_text n s       0 to n bytes, each 0x20 to 0xFF, and no refusal: a reader couldn't tell it from one
---   is_name s         the rule of the name: such a text of at most 64 bytes, in UTF-8 (RULES, Texts), which is by
---                     the table of specs/Utf8
---   is_info s         the rule of maker, model, other information, serial number and version (RULES, Class 2)
---   is_input_name s   the rule of an input's name (RULES, Class 2)
---   is_password s     0 to 32 ASCII letters and digits
--- PJLink 1.04, 4.11 to 4.13, narrow INF1, INF2 and INFO to 0x20 to 0x7E; the rule of RULES, Texts, is for all of them.
+--   is_text n s       s is 0 to n bytes, each 0x20 to 0xFF, and no error reply, from which a reader could not tell it
+--   is_name s         s follows the rule of the name: a text of at most 64 bytes, in UTF-8 (RULES, Texts), by the table
+--                     of specs/Utf8
+--   is_info s         s follows the rule of maker, model, other information, serial number and version (RULES, Class 2)
+--   is_input_name s   s follows the rule of an input's name (RULES, Class 2)
+--   is_password s     s is 0 to 32 ASCII letters and digits
+-- PJLink 1.04, 4.11 to 4.13, narrows INF1, INF2 and INFO to 0x20 to 0x7E; the rule of RULES, Texts, is for all of them.
 -- Assumes nothing.
 use Rattle.std.specs.List.{list_all}
 use Rattle.std.specs.Prelude.{ℕ, Bool, not, ◌&&◌, List, length, nat_le, ◌==◌}

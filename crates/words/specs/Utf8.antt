@@ -3,8 +3,8 @@
 -- proved (theorems.rt), so that it is enough to believe either.
 --   utf8_rows        the table, a range for each byte of a character
 --   IsRow row c      the character c is of the row: one byte in each of its ranges
---   IsCharacter c    .. of one of the rows, the section's UTF8-char
---   IsOctets s       the section's UTF8-octets: s is nothing but characters
+--   IsCharacter c    the character c is of one of the rows: the section's UTF8-char
+--   IsOctets s       s is a sequence of characters: the section's UTF8-octets
 -- Assumes nothing.
 use Rattle.std.specs.Prelude.{ℕ, ◌≤◌, ⊤, List, [], ◌∷◌, ◌++◌, Any}
 

@@ -1,5 +1,5 @@
--- UTF-8 worked out: the examples of RFC 3629, section 7, and the borders of its tables (RULES, Texts).
---   rfc_points, rfc_octets   the section's scalar values, and its bytes of them
+-- Worked UTF-8: the examples of RFC 3629, section 7, and the borders of its tables (RULES, Texts).
+--   rfc_points, rfc_octets   the section's scalar values, and the bytes that it gives for them
 --   well_formed              bytes that are UTF-8
 --   ill_formed               bytes that are not
 -- Assumes nothing.

@@ -3,7 +3,7 @@ ghost use Rattle.std.specs.Prelude.{◌≡◌};
 ghost use Rattle.words.specs.Bytes.{is_alnum, upper_of, is_cr_free};
 ghost use Rattle.words.specs.Texts.{is_text_byte};
 
-/// Whether the byte is an ASCII letter or digit. Each test is made, so that a scan takes sixteen bytes at once.
+/// Returns whether the byte is an ASCII letter or digit. Each test is made, so that a scan takes sixteen bytes at once.
 pub fn is_alnum(byte: u8) -> bool
     ensures { result ≡ is_alnum byte }
 {
@@ -12,7 +12,7 @@ pub fn is_alnum(byte: u8) -> bool
         | ((b'a' <= byte) & (byte <= b'z'))
 }
 
-/// Whether the byte may be in a text (RULES, Texts): any byte but those below the space.
+/// Returns whether the byte may be in a text (RULES, Texts): any byte but those below the space.
 pub fn is_text_byte(byte: u8) -> bool
     ensures { result ≡ is_text_byte byte }
 {
@@ -32,7 +32,8 @@ pub fn upper(byte: u8) -> u8
     byte - (b'a' - b'A')
 }
 
-/// Whether no byte of `bytes` is CR. The loop does not leave early, so that the compiler takes sixteen bytes at once.
+/// Returns whether no byte of `bytes` is CR. The loop does not leave early, so that the compiler takes sixteen bytes at
+/// once.
 #[tactic(auto, unfolding(crate::specs::Bytes::is_cr_free))]
 pub fn is_cr_free(bytes: &[u8]) -> bool
     ensures { result ≡ is_cr_free bytes.now }

@@ -1,4 +1,5 @@
-// Values on a line: each is put at the line's end, and taken from the front of bytes (RULES, Commands and Controller).
+// Values on a line: each is written at the line's end, and read from the front of bytes (RULES, Commands and
+// Controller).
 ghost use Rattle.std.specs.Prelude.{◌≡◌, ℕ, ◌+◌, ◌≤◌, Bool, List, ◌++◌, length, Option};
 ghost use Rattle.arrayvec.specs.ArrayVec.{array_vec_len};
 ghost use Rattle.words.specs.Codec.{Codec, Ends, letter, taken_value, whole_value};
@@ -22,15 +23,15 @@ pub trait Wire: Copy {
     /// The bytes that say a value, ours and others'.
     ghost writes: { Self → List ℕ → Type 0 };
 
-    /// The value at the front of bytes, and the bytes after it.
+    /// The value that is read at the front of bytes, and the bytes after it.
     ghost read: { List ℕ → Option (Self × List ℕ) };
 
-    /// Writes the value to the end of the line.
+    /// Writes the value at the end of the line.
     fn put(self, out: &mut LineBytes)
         requires { array_vec_len out.old + length (text self) ≤ LINE_MOST }
         ensures { out.new.items ≡ out.old.items ++ text self };
 
-    /// Reads the value at the front of `bytes`, and returns it with the bytes after it.
+    /// Reads the value at the front of `bytes`. Returns it with the bytes after it, or `None`.
     fn take(bytes: &[u8]) -> Option<(Self, &[u8])>
         ensures { taken_value result ≡ read bytes.now };
 
@@ -38,7 +39,7 @@ pub trait Wire: Copy {
     ghost codec: { Codec Ends legal text writes read };
 }
 
-/// Returns the value that all of `bytes` says.
+/// Returns the value that all of `bytes` says, or `None`.
 pub fn parse<T: Wire>(bytes: &[u8]) -> Option<T>
     ensures { result ≡ whole_value T.read bytes.now }
 {
@@ -48,7 +49,8 @@ pub fn parse<T: Wire>(bytes: &[u8]) -> Option<T>
     }
 }
 
-/// Returns the value that the first byte names, and the bytes after that byte.
+/// Returns the value that the first byte names, and the bytes after that byte. `None` if there is no byte, or it names
+/// no value.
 pub fn letter<T, F: Fn(u8) -> Option<T>>(bytes: &[u8], named: F) -> Option<(T, &[u8])>
     requires { F.IsAlwaysCallable named }
     ensures { (f : ℕ → Option T) → ((b : ℕ) (r : Option T) → F.post named b r → r ≡ f b)
@@ -58,7 +60,7 @@ pub fn letter<T, F: Fn(u8) -> Option<T>>(bytes: &[u8], named: F) -> Option<(T, &
     Some((named(b)?, rest))
 }
 
-/// Writes bytes as they are to the end of the line.
+/// Writes bytes as they are at the end of the line.
 pub fn put_all(bytes: &[u8], out: &mut LineBytes)
     requires { array_vec_len out.old + length bytes.now ≤ LINE_MOST }
     ensures { out.new.items ≡ out.old.items ++ bytes.now }

@@ -1,4 +1,4 @@
-// The four refusals: ERR and a digit (PJLink 1.04, 2.4; RULES, Commands).
+// The four error replies: ERR and a digit (PJLink 1.04, 2.4; RULES, Commands).
 ghost use Rattle.std.specs.Prelude.{◌≡◌, true};
 ghost use Rattle.words.specs.Codec.{Plain};
 ghost use Rattle.words.specs.Refusing.{error_reply_digit, refusal_named, error_reply_text, error_reply_read};

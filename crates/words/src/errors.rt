@@ -1,4 +1,4 @@
-// The six digits of the errors (RULES, Commands; PJLink 1.04, 4.7).
+// The six digits of the error status (RULES, Commands; PJLink 1.04, 4.7).
 ghost use Rattle.std.specs.Prelude.{◌≡◌};
 ghost use Rattle.words.specs.Codec.{Plain};
 ghost use Rattle.words.specs.ErrorDigits.{error_named, is_errors, errors_text, status_read};

@@ -8,7 +8,7 @@ ghost use Rattle.words.specs.Laws.{input_codec};
 
 use crate::codec::{self, LineBytes, Wire};
 
-/// The most inputs: as many as the standard allows (RULES, Inputs).
+/// How many inputs a projector has at most: as many as PJLink allows (RULES, Inputs).
 pub const INPUTS_MOST: usize = 32;
 
 /// The type of an input, 1 to 6 in this order; 6 is of Class 2 only (RULES, Inputs).
@@ -38,15 +38,16 @@ pub struct Input {
     pub number: u8,
 }
 
-// Each test is made, as in `is_input_text`, so that a scan of pairs takes eight at once.
+// Returns whether a character numbers an input. Each test is made, as in `is_input_text`, so that a scan of pairs takes
+// eight at once.
 fn is_number_character(b: u8) -> bool
     ensures { result ≡ is_number_character b }
 {
     ((b'1' <= b) & (b <= b'9')) | ((b'A' <= b) & (b <= b'Z'))
 }
 
-/// Whether two characters name an input of class `class`: 11 and 59 do; 10 and 20 do not; 61 and 1A do in Class 2 only.
-/// Every `class` other than 1 is read as Class 2.
+/// Returns whether two characters name an input of class `class`: 11 and 59 do; 10 and 20 do not; 61 and 1A do in Class
+/// 2 only. Every `class` other than 1 is read as Class 2.
 pub fn is_input_text(class: u8, source_byte: u8, number_byte: u8) -> bool
     ensures { result ≡ is_input_text class source_byte number_byte }
 {
@@ -95,7 +96,7 @@ pub fn read_input(source_byte: u8, number_byte: u8) -> Option<Input>
     Some(Input { source, number })
 }
 
-/// Returns the input that a word of two characters names, or `None`.
+/// Returns the input that two bytes name, or `None`.
 #[tactic(auto, unfolding(crate::specs::Inputs::input_of))]
 pub fn input_of(bytes: &[u8]) -> Option<Input>
     ensures { result ≡ input_of bytes.now }
@@ -103,14 +104,14 @@ pub fn input_of(bytes: &[u8]) -> Option<Input>
     codec::parse(bytes)
 }
 
-/// Whether two characters can name the input.
+/// Returns whether two characters can name the input.
 pub fn is_input(input: Input) -> bool
     ensures { result ≡ is_input input }
 {
     1 <= input.number && input.number <= 35
 }
 
-/// Returns the character of a source: its type, 1 to 6.
+/// Returns the digit of a source: its type, 1 to 6, as a character.
 pub fn source_digit(source: Source) -> u8
     ensures { result ≡ source_digit source }
 {

@@ -4,15 +4,15 @@ ghost use Rattle.words.specs.Laws.{lamp_codec};
 
 use crate::codec::{LineBytes, Wire};
 
-/// The most lamps of a projector (RULES, Lamps).
+/// How many lamps a projector has at most (RULES, Lamps).
 pub const LAMPS_MOST: usize = 8;
 
 /// What a projector answers for one lamp.
 #[derive(Clone, Copy, Default)]
 pub struct LampHours {
-    /// Whole hours for which the lamp has burnt, 0 to 99999.
+    /// Whole hours for which the lamp has been lit, 0 to 99999.
     pub hours: u32,
-    /// Whether the lamp burns.
+    /// Whether the lamp is lit.
     pub lit: bool,
 }
 

@@ -1,4 +1,4 @@
-// Lists: their things joined by single spaces (RULES, Commands: "joined by spaces").
+// Lists: their values joined by single spaces (RULES, Commands: "joined by spaces").
 ghost use Rattle.std.specs.Prelude.{◌≡◌, ◌+◌, ◌≤◌, ◌++◌, length};
 ghost use Rattle.std.specs.Option.{option_map};
 ghost use Rattle.arrayvec.specs.ArrayVec.{array_vec_len};
@@ -7,7 +7,7 @@ ghost use Rattle.words.specs.Joined.{list_text, list_read};
 use crate::codec::{LINE_MOST, LineBytes, Wire};
 use arrayvec::ArrayVec;
 
-/// Writes the values of `items` to the end of the line, with a space between any two.
+/// Writes the values of `items` at the end of the line, with a space between any two.
 pub fn put_list<T: Wire>(items: &[T], out: &mut LineBytes)
     requires { array_vec_len out.old + length (list_text T.text items.now) ≤ LINE_MOST }
     ensures { out.new.items ≡ out.old.items ++ list_text T.text items.now }
@@ -22,7 +22,7 @@ pub fn put_list<T: Wire>(items: &[T], out: &mut LineBytes)
     }
 }
 
-/// Returns the values that all of `bytes` says, one to `N` of them.
+/// Returns the values that all of `bytes` says, one to `N` of them, or `None`.
 pub fn parse_list<T: Wire + Default, const N: usize>(bytes: &[u8]) -> Option<ArrayVec<T, N>>
     ensures { option_map (λ v. v.items) result ≡ list_read T.read N bytes.now }
 {

@@ -9,9 +9,9 @@ use crate::codec::{self, LineBytes, Wire};
 /// What is muted.
 #[derive(Clone, Copy)]
 pub struct Mutes {
-    /// Whether the picture is dark.
+    /// Whether the picture is muted.
     pub video: bool,
-    /// Whether the sound is off.
+    /// Whether the sound is muted.
     pub audio: bool,
 }
 

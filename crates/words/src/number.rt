@@ -6,7 +6,7 @@ ghost use Rattle.words.specs.Laws.{number_codec};
 
 use crate::codec::{LineBytes, Wire};
 
-// How many digits stand at the front.
+// Returns how many digits are at the front.
 fn figures(s: &[u8]) -> usize
     ensures count { result ≡ figures s.now }
     ensures within { result ≤ length s.now }

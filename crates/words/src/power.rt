@@ -1,4 +1,4 @@
-// Values of one byte: the power, and what is on or off (RULES, Commands).
+// Values of one byte: the power status, and what is on or off (RULES, Commands).
 ghost use Rattle.std.specs.Prelude.{◌≡◌, true};
 ghost use Rattle.words.specs.Codec.{Plain};
 ghost use Rattle.words.specs.Powers.{power_code, power_named, power_text, power_read};
@@ -12,11 +12,11 @@ use crate::codec::{self, LineBytes, Wire};
 pub enum PowerStatus {
     /// The lamps are off.
     Off,
-    /// The lamps burn.
+    /// The lamps are lit.
     On,
     /// The lamps are off and cooling.
     Cooling,
-    /// The lamps burn and warm up.
+    /// The lamps are lit and warm up.
     WarmUp,
 }
 

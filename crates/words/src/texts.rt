@@ -9,16 +9,16 @@ ghost use Rattle.words.specs.Texts.{is_password};
 
 use crate::byte;
 
-/// The most bytes of the projector's name.
+/// How many bytes the projector's name has at most.
 pub const NAME_MOST: usize = 64;
 
-/// The most bytes of maker, model, other information, serial number and version.
+/// How many bytes maker, model, other information, serial number and version have at most.
 pub const INFO_MOST: usize = 32;
 
-/// The most bytes of an input's name (RULES, Class 2).
+/// How many bytes an input's name has at most (RULES, Class 2).
 pub const INPUT_NAME_MOST: usize = 128;
 
-/// The most characters of a password.
+/// How many characters a password has at most.
 pub const PASSWORD_MOST: usize = 32;
 
 fn is_refusal_digit(b: u8) -> bool
@@ -27,7 +27,7 @@ fn is_refusal_digit(b: u8) -> bool
     b'1' <= b && b <= b'4'
 }
 
-/// Whether s is exactly ERR1, ERR2, ERR3 or ERR4.
+/// Returns whether `bytes` is exactly ERR1, ERR2, ERR3 or ERR4.
 #[tactic(auto, unfolding(crate::specs::Texts::is_error_reply))]
 pub fn is_error_reply(bytes: &[u8]) -> bool
     ensures { result ≡ is_error_reply bytes.now }
@@ -35,7 +35,7 @@ pub fn is_error_reply(bytes: &[u8]) -> bool
     matches!(bytes, [b'E', b'R', b'R', digit] if is_refusal_digit(*digit))
 }
 
-// Each byte is 0x20 to 0xFF. No turn leaves early, so that sixteen bytes go at once.
+// Returns whether each byte is 0x20 to 0xFF. No turn leaves early, so that sixteen bytes go at once.
 fn are_text_bytes(s: &[u8]) -> bool
     ensures { result ≡ list_all is_text_byte s.now }
 {
@@ -46,7 +46,7 @@ fn are_text_bytes(s: &[u8]) -> bool
     ok
 }
 
-/// Whether `bytes` is a text: 0 to `most` bytes, each 0x20 to 0xFF, and no refusal.
+/// Returns whether `bytes` is a text: 0 to `most` bytes, each 0x20 to 0xFF, and no error reply.
 #[tactic(auto, unfolding(crate::specs::Texts::is_text))]
 pub fn is_text(bytes: &[u8], most: usize) -> bool
     ensures { result ≡ is_text most bytes.now }
@@ -54,35 +54,35 @@ pub fn is_text(bytes: &[u8], most: usize) -> bool
     bytes.len() <= most && are_text_bytes(bytes) && !is_error_reply(bytes)
 }
 
-/// Whether s is well-formed UTF-8, by the table of RFC 3629 (`theorems::bytes_and_numbers_agree`).
+/// Returns whether `bytes` is well-formed UTF-8, by the table of RFC 3629 (`theorems::bytes_and_numbers_agree`).
 pub fn is_utf8(bytes: &[u8]) -> bool
     ensures { result ≡ is_utf8 bytes.now }
 {
     str::from_utf8(bytes).is_ok()
 }
 
-/// Whether `bytes` can be the projector's name, for set-up, legality and reader alike (RULES, Texts).
+/// Returns whether `bytes` can be the projector's name, for set-up, legality and reader alike (RULES, Texts).
 pub fn is_name(bytes: &[u8]) -> bool
     ensures { result ≡ is_name bytes.now }
 {
     is_text(bytes, NAME_MOST) && is_utf8(bytes)
 }
 
-/// Whether `bytes` can be maker, model, other information, serial number or version.
+/// Returns whether `bytes` can be maker, model, other information, serial number or version.
 pub fn is_info(bytes: &[u8]) -> bool
     ensures { result ≡ is_info bytes.now }
 {
     is_text(bytes, INFO_MOST)
 }
 
-/// Whether `bytes` can be an input's name (RULES, Class 2).
+/// Returns whether `bytes` can be an input's name (RULES, Class 2).
 pub fn is_input_name(bytes: &[u8]) -> bool
     ensures { result ≡ is_input_name bytes.now }
 {
     is_text(bytes, INPUT_NAME_MOST)
 }
 
-// No turn leaves early, so that sixteen bytes go at once.
+// Returns whether each byte is a letter or digit. No turn leaves early, so that sixteen bytes go at once.
 fn are_alnum(s: &[u8]) -> bool
     ensures { result ≡ list_all is_alnum s.now }
 {
@@ -93,7 +93,7 @@ fn are_alnum(s: &[u8]) -> bool
     ok
 }
 
-/// Whether `bytes` is 0 to 32 ASCII letters and digits.
+/// Returns whether `bytes` is 0 to 32 ASCII letters and digits.
 #[tactic(auto, unfolding(crate::specs::Texts::is_password))]
 pub fn is_password(bytes: &[u8]) -> bool
     ensures { result ≡ is_password bytes.now }

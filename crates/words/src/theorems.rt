@@ -1,5 +1,5 @@
-// What is proved beside the contracts of the functions. Nothing is done here: that these functions have their contracts
-// is that the theorems stand.
+// What is proved beside the contracts of the functions. The functions here do nothing: their contracts are the
+// theorems.
 ghost use Rattle.std.specs.Prelude.{[], ◌∷◌, ◌≡◌, ◌↔◌, true, ℕ, List, Some, IsTrue, IsUtf8, encode_utf8_all};
 ghost use Rattle.std.specs.Prelude.{false, None, map, codes, not, All};
 ghost use Rattle.std.specs.Char.{IsScalar};
@@ -30,8 +30,8 @@ pub fn the_table_of_types_is_followed()
     ensures only { (a b : ℕ) (i : Input) → input_for a b ≡ Some i → input_text i ≡ a ∷ b ∷ [] }
 {}
 
-/// Computed inputs (RULES, Inputs): two characters that name one of Class 1, or of Class 2, and such as name none; and
-/// the type and the number that two characters name.
+/// Worked inputs (RULES, Inputs): two characters that name an input of Class 1, or of Class 2, or none; and the type
+/// and the number that two characters name.
 #[tactic(auto, using(crate::proofs::Examples::worked_inputs))]
 pub fn inputs_are_worked_out()
     ensures class_1 { map (λ (s : List ℕ). is_input_text 1 (s at 0) (s at 1))
@@ -47,7 +47,7 @@ pub fn inputs_are_worked_out()
         ∷ Some (record { source = Digital; number = 11 }) ∷ [] }
 {}
 
-/// Computed UTF-8 (RULES, Texts): the examples of RFC 3629, section 7, bytes at the borders of its table, bytes beyond
+/// Worked UTF-8 (RULES, Texts): the examples of RFC 3629, section 7, bytes at the borders of its table, bytes beyond
 /// them, and numbers that are no character.
 #[tactic(auto, using(crate::proofs::Utf8Examples::worked_utf8))]
 pub fn utf8_is_worked_out()

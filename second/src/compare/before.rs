@@ -1,9 +1,9 @@
 //! Every case from before Class 2 landed is there still and gives the same bytes.
 //!
-//! The second program as it stood before that landing, over its own cases of one seed, digested what each call was lent
-//! and gave, call by call: the digest before, the record, the call, the answer. Made by the rules of then, the cases
-//! here have to give these digests again, in the layout of then. By the rules of now each of the calls gives the same
-//! as by those of then, but for the few that RULES, Class 2, amends, and these change as it says.
+//! The reference program as it stood before that landing, over its own cases of one seed, digested what each call was
+//! lent and gave, call by call: the digest before, the record, the call, the answer. Made by the rules of then, the
+//! cases here have to give these digests again, in the layout of then. By the rules of now each of the calls gives the
+//! same as by those of then, but for the few that RULES, Class 2, amends, and these change as it says.
 
 use super::{ENOUGH, Run, tally};
 use crate::face::wire::{Wire, put_act};
@@ -55,7 +55,7 @@ impl<B: Side> Run<'_, B> {
     }
 }
 
-/// In the archive's place, the second program, by whatever rules it is asked; it keeps the digests.
+/// In the archive's place, the reference program, by whatever rules it is asked; it keeps the digests.
 #[derive(Default)]
 struct Digesting(BTreeMap<&'static str, (usize, [u8; 16])>);
 
@@ -178,7 +178,7 @@ fn the_cases_are_the_same() {
     assert_eq!(digests.collect::<Vec<_>>(), expected.collect::<Vec<(_, _, [u8; 32])>>());
 }
 
-/// In the archive's place, the second program by the rules of now, on which those of then are tried as well.
+/// In the archive's place, the reference program by the rules of now, on which those of then are tried as well.
 #[derive(Default)]
 struct ByBoth {
     same: usize,

@@ -49,7 +49,7 @@ fn every_pattern(random: &mut Random) -> Vec<Case> {
     all
 }
 
-/// Each lamp's mark, and that of lamps that there are not, set and cleared: in every power and under the fault mark,
+/// Each lamp's mark, and that of lamps that there are not, set and cleared: in every power and under the fault flag,
 /// with one mark set, some, all, and on records that are not legal.
 fn every_lamp(random: &mut Random) -> Vec<Case> {
     let mut all = Vec::new();

@@ -5,7 +5,7 @@ use super::{Case, forms, lines, setups};
 use crate::face::{Act, Device, PLACES, Side};
 use crate::reference::side::Second;
 
-/// The acts follow the second program's own states, so that lines and seconds fit what is going on.
+/// The acts follow the reference program's own states, so that lines and seconds fit what is going on.
 pub fn history(random: &mut Random) -> Case {
     let mut acts = vec![Act::SetUp(setups::legal(random))];
     let mut device = after(&Device::BLANK, &acts[0]);

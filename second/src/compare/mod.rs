@@ -354,7 +354,7 @@ impl<'a, B: Side> Run<'a, B> {
         self.panels()
     }
 
-    /// A stream, handed to the board in random cuts, to the second program whole.
+    /// A stream, handed to the board in random cuts, to the reference program whole.
     fn stream(&mut self) -> Compared {
         let random = &mut self.random;
         let device = records::legal(random);

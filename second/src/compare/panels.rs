@@ -1,6 +1,6 @@
-//! Panels (RULES, Panel) at work: several projectors at once, the second program's own at the other end of each line,
-//! and lines that nobody asked for among theirs. `panel_records` has the panels, `every_panel` what leaves nothing to
-//! chance.
+//! Panels (RULES, Panel) at work: several projectors at once, the reference program's own at the other end of each
+//! line, and lines that nobody asked for among theirs. `panel_records` has the panels, `every_panel` what leaves
+//! nothing to chance.
 
 use super::random::Random;
 use super::{histories, panel_records, records, replies};

@@ -79,7 +79,7 @@ pub fn connect_as(random: &mut Random, device: &mut Device, place: usize, phases
     }
 }
 
-/// The start of a line, or anything, up to the limit; or the mark.
+/// The start of a line, or anything, up to the limit; or the overlong flag.
 fn collect(random: &mut Random, device: &mut Device, place: usize) {
     let most = if device.connections[place].phase == 1 { 167 } else { 135 };
     let mut bytes = match random.below(8) {

@@ -24,14 +24,14 @@ pub enum Act {
         bytes: Vec<u8>,
         lent: Vec<u8>,
     },
-    /// Not one call: a stream, handed on until all is taken. The board is handed it in these cuts, the second program
-    /// whole: RULES, Connection, says that the reply bytes and the end state are the same.
+    /// Not one call: a stream, handed on until all is taken. The board is handed it in these cuts, the reference
+    /// program whole: RULES, Connection, says that the reply bytes and the end state are the same.
     HandOn {
         place: usize,
         bytes: Vec<u8>,
         cuts: Vec<usize>,
     },
-    /// Not one call: parts of streams, each at its place, in turn. The board is handed them as they come, the second
+    /// Not one call: parts of streams, each at its place, in turn. The board is handed them as they come, the reference
     /// program each line whole, when its CR comes, and last what is left of each: RULES, Places, says that "one place's
     /// bytes never touch another's connection".
     Interleave {
@@ -105,8 +105,8 @@ pub enum Act {
         line: Vec<u8>,
         lent: Vec<u8>,
     },
-    /// Not one call: a host that records what it does, from the record of this stored form on, or from the one that it is
-    /// lent, and then plays its log again.
+    /// Not one call: a host that records what it does, from the record of this stored form on, or from the one that it
+    /// is lent, and then plays its log again.
     Keep {
         form: Option<Vec<u8>>,
         parts: Vec<Part>,
@@ -172,8 +172,8 @@ pub enum Answer {
 }
 
 impl Act {
-    /// Whether the call has a form that changes the record where it lies, or reads it there: each call of a projector or
-    /// of a panel, and what is made of these.
+    /// Whether the call has a form that changes the record where it lies, or reads it there: each call of a projector
+    /// or of a panel, and what is made of these.
     pub fn has_in_place(&self) -> bool {
         match self {
             Act::SetUp(_) | Act::SetUp2(_) | Act::Load { .. } => true,

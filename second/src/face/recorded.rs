@@ -128,7 +128,7 @@ impl<S: Side + ?Sized> Host<'_, S> {
 
     fn call(&mut self, act: &Act) -> Answer {
         let answer = self.side.call(&self.kept.device, act);
-        // the mistakes are those of the second program alone
+        // the mistakes are those of the reference program alone
         let said = if self.side.cuts() { unmistaken(|| said_of(act, &answer)) } else { said_of(act, &answer) };
         if let Some(device) = answer.device() {
             self.kept.device = *device;

@@ -1,4 +1,4 @@
-//! Random logs. The lines follow the second program's own state, so that what arrives fits what is going on.
+//! Random logs. The lines follow the reference program's own state, so that what arrives fits what is going on.
 
 use super::{damage, recorded};
 use crate::compare::lines;

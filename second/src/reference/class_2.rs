@@ -47,7 +47,7 @@ impl Body2 {
         }
     }
 
-    /// "INPT, FREZ, SVOL and MVOL, set or query, are ERR4 under the fault mark, and ERR3 unless the power is on."
+    /// "INPT, FREZ, SVOL and MVOL, set or query, are ERR4 under the fault flag, and ERR3 unless the power is on."
     fn waits_for_power(self) -> bool {
         matches!(self, Body2::Inpt | Body2::Frez | Body2::Svol | Body2::Mvol)
     }

@@ -40,7 +40,7 @@ impl Projector {
         self.age_by_one();
     }
 
-    /// "Warm-up or on: every lamp gains one"; by RULES, Lamps, "each enabled lamp". "The fault mark changes none of
+    /// "Warm-up or on: every lamp gains one"; by RULES, Lamps, "each enabled lamp". "The fault flag changes none of
     /// this."
     fn burns(&self) -> bool {
         match self.power {

@@ -83,7 +83,7 @@ impl Projector {
             return error(b"ERR2");
         }
 
-        // 3. "POWR, INPT, AVMT, set or query, with the fault mark: ERR4."
+        // 3. "POWR, INPT, AVMT, set or query, with the fault flag: ERR4."
         // 4. "POWR set in warm-up or cooling; INPT and AVMT, set or query, unless on: ERR3."
         let moving = matches!(self.power, Power::WarmUp(_) | Power::Cooling(_));
         let not_now = if body == Body::Powr { set.is_some() && moving } else { self.power != Power::On };

@@ -90,7 +90,8 @@ fn each_part_is_legal() {
     }
 }
 
-/// "share one device, one set-up and one clock; each has its own random number, collected bytes, mark, age and phase."
+/// "share one device, one set-up and one clock; each has its own random number, collected bytes, overlong flag, age and
+/// phase."
 #[test]
 fn one_device_and_four_connections() {
     let mut device = fresh(b"Schnitt8");

@@ -84,7 +84,7 @@ pub enum Power {
     WarmUp(u32),
 }
 
-/// RULES, The legal record: "A closed connection has age 0, random number 0, no collected bytes and no overlong mark."
+/// RULES, The legal record: "A closed connection has age 0, random number 0, no collected bytes and no overlong flag."
 #[derive(Clone, PartialEq, Eq, Debug)]
 pub enum Connection {
     Closed,

@@ -1,5 +1,5 @@
 //! RULES, Places: four controllers on one projector. "Panel, tablet and two spares connect at once and share one
-//! device, one set-up and one clock; each has its own random number, collected bytes, mark, age and phase."
+//! device, one set-up and one clock; each has its own random number, collected bytes, overlong flag, age and phase."
 
 use super::calls::{IS_CLOSED, NO_PLACE, NOT_LEGAL, OUT_OF_RANGE, PROJECTOR_ROOM, ROOM_SHORT};
 use super::rules::{Mistake, made};

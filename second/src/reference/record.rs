@@ -200,8 +200,8 @@ fn read_connections(connections: &[face::Connection; PLACES]) -> Option<[Connect
 }
 
 /// "age is 0 to 29 while awaiting or failed, else 0; the random number is 0 while closed; collected bytes hold no CR,
-/// are at most 167 while awaiting and 135 while open, none otherwise or under the mark; the mark stands only while
-/// awaiting or open".
+/// are at most 167 while awaiting and 135 while open, none otherwise or under the overlong flag; the flag is set only
+/// while awaiting or open".
 fn read_connection(connection: &face::Connection) -> Option<Connection> {
     let face::Connection { phase, age, random, ref line } = *connection;
     let nothing_held = || read_line(line, 0).filter(|line| *line == Line::empty());

@@ -1,4 +1,4 @@
-//! The second program as one of the two that are compared.
+//! The reference program as one of the two that are compared.
 
 use super::{calls, days, in_place, marks, panel, recorded, service, swap};
 use crate::face::{Act, Answer, Device, PanelAct, PanelCall, Side};

@@ -43,7 +43,7 @@ fn receive(line: &[u8]) -> Act {
 }
 
 /// Each body of either class, some that are none, with parameters that some body has and some that none has: under each
-/// class and none, to projectors of each class, in every power, with the fault mark and without.
+/// class and none, to projectors of each class, in every power, with the fault flag and without.
 fn every_body() -> Vec<Case> {
     let others = [b"IRES", b"RRES", b"FILT", b"RLMP", b"RFIL", b"ABCD"];
     let bodies: Vec<&[u8; 4]> =
@@ -121,8 +121,8 @@ fn every_input() -> Vec<Case> {
     all
 }
 
-/// Each level of speaker and microphone, a step up and down; from one end to the other and back, and on at the ends; what
-/// else there is leaves levels and freeze as they are.
+/// Each level of speaker and microphone, a step up and down; from one end to the other and back, and on at the ends;
+/// what else there is leaves levels and freeze as they are.
 fn every_level() -> Vec<Case> {
     let mut all = Vec::new();
     for (speaker, microphone) in (0..=20).flat_map(|level| [(level, 20 - level), (level, 7)]) {

@@ -56,7 +56,7 @@ fn power_on(random: &mut Random, device: &Device, place: usize) -> Act {
     Act::Receive { place, bytes: [&digest[..], b"%1POWR 1\r"].concat(), lent: random.memory(136) }
 }
 
-/// A stream, handed to the board in random cuts, to the second program whole.
+/// A stream, handed to the board in random cuts, to the reference program whole.
 pub fn stream(random: &mut Random) -> (Device, Act) {
     let device = records::legal(random);
     let place = random.below(PLACES);

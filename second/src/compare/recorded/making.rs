@@ -46,7 +46,7 @@ pub fn begun(device: &Device, form: Option<&[u8]>) -> (Device, Log) {
     unmistaken(|| (swap::load(&form).device, Log::begun(&form)))
 }
 
-/// What the second program keeps.
+/// What the reference program keeps.
 pub fn kept(device: &Device, form: Option<&[u8]>, parts: Vec<Part>) -> Kept {
     let act = Act::Keep { form: form.map(<[u8]>::to_vec), parts };
     match unmistaken(|| Second.answer(device, &act)) {
