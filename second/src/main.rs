@@ -31,9 +31,12 @@ second burnts log SEED NUMBER, second burnts form SEED NUMBER
                         that log, and the form that it comes with
 second page LOG [FORM] [WORD..]
                         read a page that `burnt --page` prints from standard input; it has to show what the log says; the
-                        words are `--began=TIME`, `--long=HOURS` and `--life=HOURS`, as `burnt` has them
+                        words are `--began=TIME`, `--long=HOURS` and `--life=HOURS`, as `burnt` has them, and `--log=FILE`
+                        once for each file of the log that the page names; without it that is standard input
 second values LOG [FORM] [WORD..]
-                        print what `burnt --csv` prints
+                        print what `burnt --csv` prints; with `--cut` of a log after which a file cannot be read
+second tables SEED COUNT PROGRAM..
+                        the same for so many random logs, and some fixed ones; the program's words have `--csv` in them
 second pages SEED COUNT PROGRAM..
                         the same for so many random logs, and some fixed ones; the program's words have `--page` in them
 second pages log SEED NUMBER, second pages form SEED NUMBER
@@ -69,11 +72,15 @@ fn main() -> ExitCode {
         }
         ["page", log, ref words @ ..] => {
             let form = words.iter().find(|word| !word.starts_with("--"));
-            with_form(form, |form| page(log, form, asked(words)))
+            let files = pages::Files { form: form.map(|name| name.to_string()), logs: all_of(words, "--log=") };
+            with_form(form, |form| page(log, form, asked(words), files))
         }
         ["values", log, ref words @ ..] => {
             let form = words.iter().find(|word| !word.starts_with("--"));
-            with_form(form, |form| values(log, form, asked(words)))
+            with_form(form, |form| values(log, form, asked(words), words.contains(&"--cut")))
+        }
+        ["tables", seed, count, _, ..] => {
+            with_seed(seed, |seed| with_count(count, |count| tables(seed, count, &words[3..])))
         }
         ["pages", part @ ("log" | "form"), seed, number] => part_of(pages::nth, part, seed, number),
         ["pages", seed, count, _, ..] => {
@@ -191,6 +198,11 @@ fn burnts(played: Played, seed: u64, count: usize, words: &[&str]) -> ExitCode {
     }
 }
 
+/// What these words give it.
+fn all_of(words: &[&str], name: &str) -> Vec<String> {
+    words.iter().filter_map(|word| word.strip_prefix(name)).map(String::from).collect()
+}
+
 /// What a program's words ask for beside `--page`.
 fn asked(words: &[&str]) -> pages::Asked {
     let value = |name| words.iter().find_map(|word| word.strip_prefix(name));
@@ -202,16 +214,32 @@ fn asked(words: &[&str]) -> pages::Asked {
     }
 }
 
-fn page(log: &str, form: Option<&[u8]>, asked: pages::Asked) -> io::Result<()> {
+fn page(log: &str, form: Option<&[u8]>, asked: pages::Asked, files: pages::Files) -> io::Result<()> {
     let log = fs::read(log)?;
     let mut page = Vec::new();
     io::stdin().lock().read_to_end(&mut page)?;
-    pages::fault(&pages::expected(form, &log, asked), &page).map_err(io::Error::other)
+    pages::fault(&pages::expected(form, &log, asked, files), &page).map_err(io::Error::other)
 }
 
-fn values(log: &str, form: Option<&[u8]>, asked: pages::Asked) -> io::Result<()> {
+fn values(log: &str, form: Option<&[u8]>, asked: pages::Asked, is_cut: bool) -> io::Result<()> {
     let told = burnt::told(form, &fs::read(log)?).map_err(|number| io::Error::other(number.to_string()))?;
-    io::stdout().write_all(pages::values(&told, asked).as_bytes())
+    let values = if is_cut { pages::values_cut } else { pages::values };
+    io::stdout().write_all(values(&told, asked).as_bytes())
+}
+
+fn tables(seed: u64, count: usize, words: &[&str]) -> ExitCode {
+    println!("seed {seed}");
+    match pages::compare_values(&program(words), seed, count, asked(words)) {
+        Ok(met) => {
+            println!("{met}, seed {seed}");
+            verdict(met.missed().is_empty())
+        }
+        Err(difference) => {
+            let number = difference.number;
+            println!("{difference}`second pages log {seed} {number}` prints it whole, `.. form ..` its form");
+            ExitCode::FAILURE
+        }
+    }
 }
 
 fn pages(seed: u64, count: usize, words: &[&str]) -> ExitCode {

@@ -125,6 +125,8 @@ pub fn burnt_on(form: Option<&[u8]>, log: &[u8]) -> Vec<u8> {
 pub struct Told {
     /// Each with its lamp's place, in the order in which they are told.
     pub stretches: Vec<(usize, Stretch)>,
+    /// So many of them had ended before the log did.
+    pub ended: usize,
     pub lamps: Vec<Sum>,
     /// The seconds of the log.
     pub seconds: u128,
@@ -151,7 +153,8 @@ pub fn told(form: Option<&[u8]>, log: &[u8]) -> Result<Told, u32> {
     };
     let set_up = (RIGHT.device)(form)?.set_up;
     let names = [set_up.name, set_up.maker, set_up.model];
-    Ok(Told { stretches, lamps: watch.sums().collect(), seconds: watch.second, names, stray, unplayed })
+    let ended = stretches.len() - watch.last().len();
+    Ok(Told { stretches, ended, lamps: watch.sums().collect(), seconds: watch.second, names, stray, unplayed })
 }
 
 /// How `burnt` ends, and what it says.

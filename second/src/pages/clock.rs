@@ -51,9 +51,24 @@ fn date_of(days: i64) -> (i64, u32, u32) {
 impl Moment {
     /// "its weekday and its date", of a day counted from 1.
     pub fn day(&self, day: usize) -> String {
-        let days = self.days + day as i64 - 1;
-        let (year, month, of_month) = date_of(days);
-        format!("{} {year:04}-{month:02}-{of_month:02}", NAMES[(days + 3).rem_euclid(7) as usize])
+        let (year, month, of_month) = date_of(self.days_to(day));
+        format!("{} {year:04}-{month:02}-{of_month:02}", NAMES[self.weekday(day)])
+    }
+
+    /// Of a day counted from 1: so many days of its week are before it, which begins on a Monday.
+    pub fn weekday(&self, day: usize) -> usize {
+        (self.days_to(day) + 3).rem_euclid(7) as usize
+    }
+
+    /// So many days of its month are before it, and so many days has that month.
+    pub fn of_month(&self, day: usize) -> (usize, usize) {
+        let (year, month, of_month) = date_of(self.days_to(day));
+        let next = if month == 12 { days_of(year + 1, 1, 1) } else { days_of(year, month + 1, 1) };
+        (of_month as usize - 1, (next - days_of(year, month, 1)) as usize)
+    }
+
+    fn days_to(&self, day: usize) -> i64 {
+        self.days + day as i64 - 1
     }
 
     /// "`2026-11-23 06:00:20`", of a second of the log.
@@ -81,6 +96,9 @@ mod tests {
         assert_eq!((began.second, began.time().as_str()), (21_600, "6:00:00"));
         let leap = moment("2028-02-28T23:59:59").unwrap();
         assert_eq!((leap.day(2).as_str(), leap.day(3).as_str()), ("Tue 2028-02-29", "Wed 2028-03-01"));
+        assert_eq!([1, 7, 8].map(|day| began.weekday(day)), [0, 6, 0]);
+        assert_eq!([1, 8, 9].map(|day| began.of_month(day)), [(22, 30), (29, 30), (0, 31)]);
+        assert_eq!([1, 2, 3].map(|day| leap.of_month(day)), [(27, 29), (28, 29), (0, 31)]);
         for text in ["2027-02-29T00:00", "2026-11-23T24:00", "2026-11-23", "2026-13-01T00:00", "2026-11-23T06"] {
             assert_eq!(moment(text), None, "{text}");
         }

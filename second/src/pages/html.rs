@@ -65,6 +65,16 @@ impl<'a> Element<'a> {
     }
 }
 
+impl<'a> Element<'a> {
+    /// The same, or the empty text before its closing tag, where nothing stands in it.
+    pub fn text_or_none(&self) -> Result<Part<'a>, String> {
+        match (&self.inside[..], &self.closing) {
+            ([], Some(closing)) => Ok(Part { text: "", at: closing.start }),
+            _ => self.text(),
+        }
+    }
+}
+
 /// These have no closing tag.
 const VOID: [&str; 13] =
     ["area", "base", "br", "col", "embed", "hr", "img", "input", "link", "meta", "source", "track", "wbr"];

@@ -1,10 +1,11 @@
 //! The deliberate mistakes: each makes of a page that shows what it has to show one that someone might really print. It
 //! gives none where this page would stay as right as it is.
 
-use super::drawn::{self, DAY, Drawn, Row, short, timed, title};
+use super::drawn::{self, DAY, Drawn, Row, Scale, Span, short, timed, title};
 use super::html::Part;
-use super::read::{Band, Bar, Hour, Page, Picture, Shown};
-use crate::burnt::Sum;
+use super::read::{Band, Bar, Head, Line, Page, Picture, Shown};
+use super::shows::row_word;
+use crate::burnt::{Stretch, Sum};
 use crate::compare::random::Random;
 use std::ops::Range;
 
@@ -30,14 +31,14 @@ pub const MISTAKES: &[(&str, Wrong)] = &[
     }),
     ("a bar lies on another lamp's band", |sheet, random| {
         let (bar, drawn) = any(sheet.bars(), random)?;
-        let bands = &sheet.picture_of(drawn.day).bands;
+        let bands = &sheet.picture_of(drawn.span).bands;
         let other = (0..bands.len()).filter(|place| place + 1 != drawn.lamp).collect();
         let other = &bands[any(other, random)?];
         Some(sheet.with([(bar.rect.y.range(), other.lane.y.text.to_string())]))
     }),
-    ("a bar lies on another day's band", |sheet, random| {
+    ("a bar lies on another row's band", |sheet, random| {
         let (bar, drawn) = any(sheet.bars(), random)?;
-        let others = sheet.days().into_iter().filter(|day| *day != drawn.day).collect();
+        let others = sheet.spans().into_iter().filter(|span| *span != drawn.span).collect();
         let other = &sheet.picture_of(any(others, random)?).bands[drawn.lamp - 1].lane;
         let moved = [
             &sheet.text[bar.rect.range.start..bar.rect.y.at],
@@ -48,7 +49,7 @@ pub const MISTAKES: &[(&str, Wrong)] = &[
     }),
     ("a bar lies under its band", |sheet, random| {
         let (bar, drawn) = any(sheet.bars(), random)?;
-        let (range, lane) = (bar.rect.range.clone(), &sheet.picture_of(drawn.day).bands[drawn.lamp - 1].lane.range);
+        let (range, lane) = (bar.rect.range.clone(), &sheet.picture_of(drawn.span).bands[drawn.lamp - 1].lane.range);
         let moved = sheet.text[range.clone()].to_string();
         Some(sheet.with([(range, String::new()), (lane.start..lane.start, moved)]))
     }),
@@ -62,14 +63,14 @@ pub const MISTAKES: &[(&str, Wrong)] = &[
     }),
     ("a bar has the colour of its band", |sheet, random| {
         let (bar, drawn) = any(sheet.bars(), random)?;
-        let band = &sheet.picture_of(drawn.day).bands[drawn.lamp - 1];
+        let band = &sheet.picture_of(drawn.span).bands[drawn.lamp - 1];
         Some(sheet.with([(bar.rect.colour.range(), band.lane.colour.text.to_string())]))
     }),
     ("bars have a colour that there is not", |sheet, _| {
         let colours: Vec<_> = sheet.bars().iter().map(|(bar, _)| bar.rect.colour.range()).collect();
         (!colours.is_empty()).then(|| sheet.with(colours.into_iter().map(|range| (range, "z".to_string()))))
     }),
-    // "a picture is 86,400 wide, a unit a second"
+    // "a unit a second"
     ("x is in minutes", |sheet, random| sheet.at_x(random, |bar| bar.from / 60)),
     ("x is in units of 90 seconds, from 90 on", |sheet, random| sheet.at_x(random, |bar| 90 + bar.from / 90)),
     ("x is a minute's first second", |sheet, random| sheet.at_x(random, |bar| bar.from / 60 * 60)),
@@ -83,29 +84,84 @@ pub const MISTAKES: &[(&str, Wrong)] = &[
     ("x is counted from the log's beginning", |sheet, random| sheet.at_x(random, |bar| bar.stretch.from as u64)),
     ("a bar is one second too long", |sheet, random| sheet.in_width(random, |bar| bar.seconds() + 1)),
     ("a bar is one second too short", |sheet, random| sheet.in_width(random, |bar| bar.seconds() - 1)),
-    ("a bar is as wide as the day is until its end", |sheet, random| sheet.in_width(random, |bar| bar.to)),
+    ("a bar is as wide as the row is until its end", |sheet, random| sheet.in_width(random, |bar| bar.to)),
     ("a bar's width is in minutes", |sheet, random| sheet.in_width(random, |bar| bar.seconds() / 60)),
     ("a bar's width is in units of 90 seconds", |sheet, random| sheet.in_width(random, |bar| bar.seconds() / 90)),
     ("a bar is whole minutes wide", |sheet, random| sheet.in_width(random, |bar| bar.seconds().next_multiple_of(60))),
     ("a bar is wide enough to be seen", |sheet, random| sheet.in_width(random, |bar| bar.seconds().max(90))),
-    ("a bar is not cut at midnight", |sheet, random| {
+    ("a bar is not cut at its row's end", |sheet, random| {
         sheet.in_width(random, |bar| (bar.stretch.to - bar.stretch.from) as u64)
+    }),
+    ("a bar of a longer row is cut at midnight", |sheet, random| {
+        sheet.in_width(random, |bar| bar.to.min((bar.from + 1).next_multiple_of(86_400)) - bar.from)
+    }),
+    ("a bar of a longer row has a part for each day", |sheet, random| {
+        let middle = |bar: &drawn::Bar| (bar.from + 1).next_multiple_of(86_400);
+        let bars = sheet.bars().into_iter().filter(|(_, drawn)| middle(drawn) < drawn.to);
+        let (bar, drawn) = any(bars.collect(), random)?;
+        let (range, x, width) = (bar.rect.range.clone(), bar.rect.x.range(), bar.rect.width.range());
+        let (cut, second) = (middle(drawn), bar.rect.range.clone());
+        let numbers = [(x, cut.to_string()), (width.clone(), (drawn.to - cut).to_string())];
+        let later = with(sheet.text, second, numbers);
+        Some(sheet.with([(width, (cut - drawn.from).to_string()), (range.end..range.end, later)]))
+    }),
+    ("x of a longer row is counted from midnight", |sheet, random| sheet.at_x(random, |bar| bar.from % 86_400)),
+    ("the first row's bars begin where a whole row's would", |sheet, random| {
+        let lead = |bar: &drawn::Bar| sheet.drawn.spans[bar.span].band().0;
+        sheet.at_x(random, |bar| bar.from - lead(bar))
     }),
     ("a picture is an hour wide", |sheet, random| {
         let picture = any(sheet.page.pictures().collect(), random)?;
         Some(sheet.with([(picture.seen[2].range(), "3600".to_string())]))
+    }),
+    ("a picture is as wide as at another scale", |sheet, random| {
+        let picture = any(sheet.page.pictures().collect(), random)?;
+        let others = [Scale::Day, Scale::Week, Scale::Month].into_iter().filter(|scale| *scale != sheet.drawn.scale);
+        Some(sheet.with([(picture.seen[2].range(), any(others.collect(), random)?.wide().to_string())]))
+    }),
+    ("a month of 31 days is as wide as one of 30", |sheet, random| {
+        let months = sheet.page.pictures().filter(|_| sheet.drawn.scale == Scale::Month);
+        Some(sheet.with([(any(months.collect(), random)?.seen[2].range(), "2592000".to_string())]))
+    }),
+    // "its band begins there; the place before it is empty"
+    ("the first row's band begins at its picture's edge", |sheet, random| {
+        let bands = sheet.bands().into_iter().filter(|band| band.lane.x.text != "0");
+        Some(sheet.with([(any(bands.collect(), random)?.lane.x.range(), "0".to_string())]))
+    }),
+    ("a band is as wide as its picture", |sheet, random| {
+        let wide = sheet.drawn.scale.wide().to_string();
+        let bands = sheet.bands().into_iter().filter(|band| band.lane.width.text != wide);
+        Some(sheet.with([(any(bands.collect(), random)?.lane.width.range(), wide)]))
+    }),
+    ("a band ends with the log", |sheet, _| {
+        let (place, span) = sheet.spans().into_iter().map(|place| (place, &sheet.drawn.spans[place])).last()?;
+        let days = sheet.drawn.days.checked_sub(span.first - 1).filter(|days| *days < span.last + 1 - span.first)?;
+        let band = sheet.picture_of(place).bands.first()?;
+        Some(sheet.with([(band.lane.width.range(), (days as u64 * 86_400).to_string())]))
+    }),
+    // "lines at 6, 12 and 18 h; at each midnight; at the days 8, 15, 22 and 29"
+    ("a line is an hour late", |sheet, random| {
+        let bands = sheet.bands().into_iter().filter(|band| band.lines.len() > 1);
+        let band = any(bands.collect(), random)?;
+        let (path, first) = (band.drawn.first()?, *band.lines.first()?);
+        let late = path.text.replacen(&first.to_string(), &(first + 3600).to_string(), 1);
+        (late != path.text).then(|| sheet.with([(path.range(), late)]))
+    }),
+    ("there are no lines on a band", |sheet, random| {
+        let bands = sheet.bands().into_iter().filter(|band| band.lines.len() > 1);
+        Some(sheet.with([(any(bands.collect(), random)?.drawn.first()?.range(), "M0 0".to_string())]))
     }),
     ("a picture is not stretched to the hours above it", |sheet, random| {
         let picture = any(sheet.page.pictures().collect(), random)?;
         Some(sheet.with([(picture.stretched.range(), "xMidYMid".to_string())]))
     }),
     // "The bar's title tells the whole stretch"
-    ("a title tells what lies in the day", |sheet, random| {
+    ("a title tells what lies in the row", |sheet, random| {
         sheet.in_title(random, |bar| title(bar.lamp, bar.from.into(), bar.to.into()))
     }),
-    ("a title tells what lies in the day, in the log's seconds", |sheet, random| {
-        let day = |bar: &drawn::Bar| bar.day as u128 * DAY;
-        sheet.in_title(random, |bar| title(bar.lamp, day(bar) + u128::from(bar.from), day(bar) + u128::from(bar.to)))
+    ("a title tells what lies in the row, in the log's seconds", |sheet, random| {
+        let row = |bar: &drawn::Bar| (sheet.drawn.spans[bar.span].first as u128 - 1) * DAY;
+        sheet.in_title(random, |bar| title(bar.lamp, row(bar) + u128::from(bar.from), row(bar) + u128::from(bar.to)))
     }),
     ("a title numbers lamps from 0", |sheet, random| {
         sheet.in_title(random, |bar| title(bar.lamp - 1, bar.stretch.from, bar.stretch.to))
@@ -158,21 +214,25 @@ pub const MISTAKES: &[(&str, Wrong)] = &[
         let words = text.text.replace(&format!("{hours} h"), &format!("{} h", hours + 1));
         Some(sheet.with([(text.range(), words)]))
     }),
-    // "the hours that lamps burnt that day"
-    ("a day's sum is a minute more", |sheet, random| sheet.in_sum(random, |day, drawn| drawn.burnt_in(day) + 60)),
-    ("a day's sum is each lamp's", |sheet, random| {
-        sheet.in_sum(random, |day, drawn| {
-            drawn.days[day - 1].iter().flatten().map(|bar| u128::from(bar.seconds())).sum()
-        })
+    // "the hours that lamps burnt in it"
+    ("a row's sum is a minute more", |sheet, random| sheet.in_sum(random, |span, drawn| drawn.burnt_in(span) + 60)),
+    ("a row's sum is each lamp's", |sheet, random| {
+        sheet.in_sum(random, |span, _| span.lamps.iter().flatten().map(|bar| u128::from(bar.seconds())).sum())
     }),
-    ("a day's sum is that of its whole stretches", |sheet, random| {
-        sheet.in_sum(random, |day, drawn| {
-            let bars = drawn.days[day - 1].iter().find(|bars| !bars.is_empty()).into_iter().flatten();
+    ("a row's sum is that of its whole stretches", |sheet, random| {
+        sheet.in_sum(random, |span, _| {
+            let bars = span.lamps.iter().find(|bars| !bars.is_empty()).into_iter().flatten();
             bars.map(|bar| bar.stretch.to - bar.stretch.from).sum()
         })
     }),
-    ("a day's sum goes on with the day before it", |sheet, random| {
-        sheet.in_sum(random, |day, drawn| (1..=day).map(|day| drawn.burnt_in(day)).sum())
+    ("a row's sum goes on with the row before it", |sheet, random| {
+        sheet.in_sum(random, |span, drawn| {
+            let before = drawn.spans.iter().filter(|other| other.first <= span.first);
+            before.map(|span| drawn.burnt_in(span)).sum()
+        })
+    }),
+    ("a row's sum is that of its first day", |sheet, random| {
+        sheet.in_sum(random, |span, drawn| drawn.burnt_in(&Span { last: span.first, lamps: Vec::new(), ..*span }))
     }),
     // "the longest stretch and the log's end"
     ("the longest burn is not said", |sheet, _| Some(sheet.without(sheet.page.longest.first()?.range.clone()))),
@@ -187,24 +247,56 @@ pub const MISTAKES: &[(&str, Wrong)] = &[
     }),
     ("the log ends a second early", |sheet, _| {
         let seconds = sheet.drawn.seconds.checked_sub(1)?;
-        let words = format!("The log ends at {}, after {}.", sheet.drawn.asked.instant(seconds), timed(seconds));
-        Some(sheet.with([(sheet.page.ends.first()?.text.range(), words)]))
+        let [from, to] = [0, seconds].map(|second| sheet.drawn.asked.instant(second));
+        let words = format!("The log goes from {from} to {to}: {}.", timed(seconds));
+        Some(sheet.with([(sheet.page.spans.first()?.text.range(), words)]))
     }),
-    ("it is not said when the log ends", |sheet, _| Some(sheet.without(sheet.page.ends.first()?.range.clone()))),
+    ("the log begins with its first stretch", |sheet, _| {
+        let (drawn, first) = (sheet.drawn, sheet.drawn.stretches.first().filter(|stretch| stretch.from > 0)?);
+        let [from, to] = [first.from, drawn.seconds].map(|second| drawn.asked.instant(second));
+        let words = format!("The log goes from {from} to {to}: {}.", timed(drawn.seconds));
+        Some(sheet.with([(sheet.page.spans.first()?.text.range(), words)]))
+    }),
+    ("it is not said from when to when the log goes", |sheet, _| {
+        Some(sheet.without(sheet.page.spans.first()?.range.clone()))
+    }),
+    ("from when to when the log goes is said below", |sheet, _| {
+        let (range, end) = (sheet.page.spans.first()?.range.clone(), sheet.page.table.range.end);
+        Some(sheet.with([(range.clone(), String::new()), (end..end, sheet.text[range].to_string())]))
+    }),
     // "It names the projector, its manufacturer and its model"
-    ("another projector is named", |sheet, random| {
-        let [_, said] = *any(sheet.page.about.iter().collect(), random)?;
+    ("another projector is named, or another file", |sheet, random| {
+        let said = any(sheet.page.about.iter().collect(), random)?.said;
         Some(sheet.with([(said.range(), format!("{}x", said.text))]))
     }),
-    ("two texts of the projector stand in the other order", |sheet, _| {
-        let [[_, one], [_, other], ..] = sheet.page.about[..] else { return None };
+    ("two texts of what the page is of stand in the other order", |sheet, random| {
+        let about = &sheet.page.about;
+        let later = random.from_to(1, about.len() - 1);
+        let [one, other] = [about[later - 1].said, about[later].said];
         let change = [(one.range(), other.text.to_string()), (other.range(), one.text.to_string())];
         (one.text != other.text).then(|| sheet.with(change))
     }),
-    ("a text of the projector is written as it is", |sheet, random| {
-        let escaped = sheet.page.about.iter().map(|[_, said]| said).filter(|said| said.text.contains("&lt;"));
+    ("a text of what the page is of is written as it is", |sheet, random| {
+        let escaped = sheet.page.about.iter().map(|about| about.said).filter(|said| said.text.contains("&lt;"));
         let said = any(escaped.collect(), random)?;
         Some(sheet.with([(said.range(), said.text.replace("&lt;", "<"))]))
+    }),
+    ("the form is not named", |sheet, _| {
+        let form = sheet.page.about.iter().find(|about| about.term.text == "form")?;
+        Some(sheet.without(form.range.clone()))
+    }),
+    ("a file of the log is not named", |sheet, random| {
+        let logs = sheet.page.about.iter().filter(|about| about.term.text == "log");
+        Some(sheet.without(any(logs.collect(), random)?.range.clone()))
+    }),
+    ("a file of the log is named twice", |sheet, random| {
+        let logs = sheet.page.about.iter().filter(|about| about.term.text == "log");
+        let range = any(logs.collect(), random)?.range.clone();
+        Some(sheet.with([(range.end..range.end, sheet.text[range].to_string())]))
+    }),
+    ("a file of the log is taken for the form", |sheet, _| {
+        let log = sheet.page.about.iter().find(|about| about.term.text == "log")?;
+        Some(sheet.with([(log.term.range(), "form".to_string())]))
     }),
     // "what is left, and until when"
     ("what is left of a lamp is counted from the start", |sheet, random| {
@@ -223,9 +315,9 @@ pub const MISTAKES: &[(&str, Wrong)] = &[
         sheet.in_left(random, 1, |sum, _| (sum.burnt == 0).then(|| [String::new(), "0 days".to_string()]))
     }),
     ("a bar has no title", |sheet, random| Some(sheet.without(any(sheet.bars(), random)?.0.titled.clone()))),
-    // "a row for each day that has a second of the log", "a band for each lamp, with its number", "the hours 0 to 24"
-    ("a day has no row", |sheet, random| Some(sheet.without(any(sheet.rows(), random)?))),
-    ("a day has two rows", |sheet, random| {
+    // "a row for each day, week or month in which a lamp burnt", "a band for each lamp, with its number"
+    ("days have no row", |sheet, random| Some(sheet.without(any(sheet.rows(), random)?))),
+    ("days have two rows", |sheet, random| {
         let row = any(sheet.rows(), random)?;
         Some(sheet.with([(row.end..row.end, sheet.text[row].to_string())]))
     }),
@@ -239,7 +331,7 @@ pub const MISTAKES: &[(&str, Wrong)] = &[
     }),
     ("the day after the log's last second has a row", |sheet, _| {
         let row = sheet.rows().pop()?;
-        let day = sheet.drawn.day(sheet.drawn.days.len() + 1);
+        let day = sheet.drawn.day(sheet.drawn.days + 1);
         let next = format!("<tr><th scope=\"row\">{day}</th><td>no lamp burnt</td></tr>");
         Some(sheet.with([(row.end..row.end, next)]))
     }),
@@ -255,70 +347,134 @@ pub const MISTAKES: &[(&str, Wrong)] = &[
             other => *other,
         })
     }),
-    ("of a day with a burn it is said that no lamp burnt", |sheet, random| {
+    ("of days with a burn it is said that no lamp burnt", |sheet, random| {
         let pictures = sheet.page.rows.iter().filter(|row| matches!(row.shown, Shown::Picture(..)));
         let row = any(pictures.collect(), random)?;
         let line = format!("<tr><th scope=\"row\">{}</th><td>no lamp burnt</td></tr>", row.name.text);
         Some(sheet.with([(row.range.clone(), line)]))
     }),
     ("of days without a burn it is said that a lamp burnt", |sheet, random| {
-        let words = sheet.page.rows.iter().filter_map(|row| match row.shown {
-            Shown::Words(words) => Some(words),
-            Shown::Picture(..) => None,
-        });
-        Some(sheet.with([(any(words.collect(), random)?.range(), "a lamp burnt".to_string())]))
+        let words = sheet.words(|row| matches!(row, Row::Idle(..)));
+        Some(sheet.with([(any(words, random)?.1.range(), "a lamp burnt".to_string())]))
     }),
-    ("not all bands of a day are seen", |sheet, random| {
+    // "each day in it that has a burn beyond `--long` is still reported by itself"
+    ("a day with a long burn has no line", |sheet, random| {
+        Some(sheet.without(any(sheet.words(|row| matches!(row, Row::Long(_))), random)?.0))
+    }),
+    ("a day with a long burn has two lines", |sheet, random| {
+        let range = any(sheet.words(|row| matches!(row, Row::Long(_))), random)?.0;
+        Some(sheet.with([(range.end..range.end, sheet.text[range].to_string())]))
+    }),
+    ("a long burn is that of another day", |sheet, random| {
+        sheet.in_name(random, |row| match row {
+            Row::Long(day) => Row::Long(day + 1),
+            other => *other,
+        })
+    }),
+    ("a long burn is said of more hours", |sheet, random| {
+        let words = any(sheet.words(|row| matches!(row, Row::Long(_))), random)?.1;
+        let hours = sheet.drawn.asked.long? + 1;
+        Some(sheet.with([(words.range(), format!("a burn of more than {hours} h"))]))
+    }),
+    ("of days with a burn that is not long a long one is said", |sheet, random| {
+        let rows = sheet.page.rows.iter().zip(sheet.drawn.rows());
+        let rows =
+            rows.filter_map(|(shown, row)| if let Row::Days(first, _) = row { Some((shown, first)) } else { None });
+        let long = sheet.drawn.rows();
+        let (shown, day) = any(rows.filter(|(_, day)| !long.contains(&Row::Long(*day))).collect(), random)?;
+        let (name, hours, end) = (sheet.drawn.day(day), sheet.drawn.asked.long.unwrap_or(12), shown.range.end);
+        let line = format!("<tr><th scope=\"row\">{name}</th><td>a burn of more than {hours} h</td></tr>");
+        Some(sheet.with([(end..end, line)]))
+    }),
+    ("not all bands of a row are seen", |sheet, random| {
         let picture = any(sheet.page.pictures().collect(), random)?;
         Some(sheet.with([(picture.seen[3].range(), "8".to_string())]))
     }),
-    ("a day has no name", |sheet, random| {
+    ("a row has no name", |sheet, random| {
         let row = any(sheet.page.rows.iter().collect(), random)?;
         Some(sheet.with([(row.name.range(), String::new())]))
     }),
-    ("who does not see a picture is told of another day", |sheet, random| {
+    ("who does not see a picture is told of other days", |sheet, random| {
         let pictures = sheet.page.pictures().collect::<Vec<_>>();
         let [one, other] = [any(pictures.clone(), random)?.label, any(pictures, random)?.label];
         (one.text != other.text).then(|| sheet.with([(one.range(), other.text.to_string())]))
     }),
     ("days are numbered from 0, or a day early", |sheet, random| {
         sheet.in_name(random, |row| match row {
-            Row::Day(day) => Row::Day(day - 1),
+            Row::Days(first, last) => Row::Days(first - 1, last - 1),
             Row::Idle(first, last) => Row::Idle(first - 1, last - 1),
+            Row::Long(day) => Row::Long(day - 1),
         })
     }),
     ("a day is the next one", |sheet, random| {
         sheet.in_name(random, |row| match row {
-            Row::Day(day) => Row::Day(day + 1),
+            Row::Days(first, last) => Row::Days(first + 1, last + 1),
             Row::Idle(first, last) => Row::Idle(first + 1, last + 1),
+            Row::Long(day) => Row::Long(day + 1),
+        })
+    }),
+    ("a row is named by its first day", |sheet, random| {
+        sheet.in_name(random, |row| match row {
+            Row::Days(first, _) => Row::Days(*first, *first),
+            other => *other,
+        })
+    }),
+    ("the last row's name ends with the log", |sheet, random| {
+        let days = sheet.drawn.days;
+        sheet.in_name(random, |row| match row {
+            Row::Days(first, last) => Row::Days(*first, days.min(*last)),
+            other => *other,
+        })
+    }),
+    ("the first row is as long as each", |sheet, random| {
+        sheet.in_name(random, |row| match row {
+            Row::Days(first, last) => Row::Days(*first, last + sheet.drawn.span(*first).lead),
+            other => *other,
+        })
+    }),
+    ("a row has a day of the next one", |sheet, random| {
+        sheet.in_name(random, |row| match row {
+            Row::Days(first, last) => Row::Days(*first, last + 1),
+            other => *other,
         })
     }),
     // "with `--began` the days are those of the calendar, the hours those of the clock"
     ("the page does not say when the log began, or that it knows no clock", |sheet, _| {
-        Some(sheet.with([(sheet.page.first?.range(), "A row is a day.".to_string())]))
+        Some(sheet.with([(sheet.page.clocks.first()?.text.range(), "A row is a day.".to_string())]))
     }),
-    ("the hours are another kind of hours", |sheet, random| {
-        let (place, hour) = any(sheet.page.hours.iter().enumerate().collect(), random)?;
-        let hours = place * 3;
-        let other = if sheet.drawn.asked.began.is_some() { format!("+{hours} h") } else { format!("{hours:02}:00") };
-        Some(sheet.with([(hour.text.range(), other)]))
+    ("a row is said to be another length", |sheet, _| {
+        let text = sheet.page.clocks.first()?.text;
+        let other = if sheet.drawn.scale == Scale::Day { "week" } else { "day" };
+        let words = format!("A row is a {}", row_word(sheet.drawn));
+        Some(sheet.with([(text.range(), text.text.replace(&words, &format!("A row is a {other}")))]))
+    }),
+    ("the heads are those of another scale, or of another clock", |sheet, random| {
+        let scales = [Scale::Day, Scale::Week, Scale::Month];
+        let heads = scales.into_iter().flat_map(|scale| [true, false].map(|has_clock| scale.heads(has_clock)));
+        let heads = any(heads.collect(), random)?;
+        let change = sheet.page.heads.iter().zip(heads).map(|(head, (_, name))| (head.text.range(), name));
+        let other = sheet.with(change);
+        (other != sheet.text).then_some(other)
+    }),
+    ("a week begins with another day", |sheet, random| {
+        let (place, head) = any(sheet.page.heads.iter().enumerate().collect(), random)?;
+        let names = sheet.drawn.scale.heads(true).into_iter().map(|(_, name)| name).collect::<Vec<_>>();
+        let other = names[(place + 1) % names.len()].clone();
+        (other != head.text.text).then(|| sheet.with([(head.text.range(), other)]))
     }),
     ("a day has a weekday that is not its own", |sheet, random| {
-        let rows = sheet.page.rows.iter().zip(sheet.drawn.rows());
-        let rows = rows.filter_map(|(shown, row)| if let Row::Day(day) = row { Some((shown, day)) } else { None });
-        let (shown, day) = any(rows.collect(), random)?;
+        let (shown, first, last) = any(sheet.named(), random)?;
         let wrong = match sheet.drawn.asked.began {
-            Some(began) => began.day(day + 6)[..3].to_string() + &began.day(day)[3..],
-            None => format!("Mon {}", sheet.drawn.day(day)),
+            Some(began) => began.day(first + 6)[..3].to_string() + &shown.text[3..],
+            None => format!("Mon {}", sheet.drawn.name(&Row::Days(first, last))),
         };
-        Some(sheet.with([(shown.name.range(), wrong)]))
+        Some(sheet.with([(shown.range(), wrong)]))
     }),
     ("a day is named as where a clock is known, or not", |sheet, random| {
-        let rows = sheet.page.rows.iter().zip(sheet.drawn.rows());
-        let rows = rows.filter_map(|(shown, row)| if let Row::Day(day) = row { Some((shown, day)) } else { None });
-        let (shown, day) = any(rows.collect(), random)?;
-        let wrong = if sheet.drawn.asked.began.is_some() { format!("day {day}") } else { "Mon 2026-11-23".to_string() };
-        Some(sheet.with([(shown.name.range(), wrong)]))
+        let (shown, first, _) = any(sheet.named(), random)?;
+        let wrong =
+            if sheet.drawn.asked.began.is_some() { format!("day {first}") } else { "Mon 2026-11-23".to_string() };
+        Some(sheet.with([(shown.range(), wrong)]))
     }),
     ("x is counted from another second than midnight", |sheet, random| {
         let second = sheet.drawn.asked.began.map_or(21_600, |began| u64::from(began.second));
@@ -336,18 +492,24 @@ pub const MISTAKES: &[(&str, Wrong)] = &[
         Some(sheet.with(gone.map(|range| (range, String::new()))))
     }),
     ("a band has no number", |sheet, random| Some(sheet.without(any(sheet.bands(), random)?.lamp.range.clone()))),
-    ("an hour is left out", |sheet, random| Some(sheet.without(any(sheet.hours(), random)?.range.clone()))),
-    ("an hour stands an hour late", |sheet, random| {
-        let hour = any(sheet.hours(), random)?;
-        let share: f64 = hour.share.text.parse().ok()?;
-        Some(sheet.with([(hour.share.range(), (share + 100.0 / 24.0).to_string())]))
+    ("a head is left out", |sheet, random| Some(sheet.without(any(sheet.heads(), random)?.range.clone()))),
+    ("a head stands an hour late", |sheet, random| {
+        let head = any(sheet.heads(), random)?;
+        let share: f64 = head.share.text.parse().ok()?;
+        Some(sheet.with([(head.share.range(), (share + 360_000.0 / sheet.drawn.scale.wide() as f64).to_string())]))
+    }),
+    ("a head stands where it would in a month of 30 days", |sheet, random| {
+        let heads = sheet.heads().into_iter().skip(1).filter(|_| sheet.drawn.scale == Scale::Month);
+        let head = any(heads.collect(), random)?;
+        let share: f64 = head.share.text.parse().ok()?;
+        Some(sheet.with([(head.share.range(), (share * 31.0 / 30.0).to_string())]))
     }),
     // "Below stands a table: each lamp's seconds at the start, burnt, and now"
     ("a lamp has no row in the table", |sheet, random| {
-        Some(sheet.without(any(sheet.page.table.totals.iter().collect(), random)?.range.clone()))
+        Some(sheet.without(any(sheet.page.table.lines.iter().collect(), random)?.range.clone()))
     }),
     ("a lamp has two rows in the table", |sheet, random| {
-        let range = any(sheet.page.table.totals.iter().collect(), random)?.range.clone();
+        let range = any(sheet.page.table.lines.iter().collect(), random)?.range.clone();
         Some(sheet.with([(range.end..range.end, sheet.text[range].to_string())]))
     }),
     ("a table's lamp is numbered from 0", |sheet, random| sheet.in_total(random, 0, |lamp, _| format!("lamp {lamp}"))),
@@ -377,6 +539,76 @@ pub const MISTAKES: &[(&str, Wrong)] = &[
         let place = random.from_to(1, 2);
         let [one, other] = [sheet.page.table.heads[place], sheet.page.table.heads[place + 1]];
         Some(sheet.with([(one.range(), other.text.to_string()), (other.range(), one.text.to_string())]))
+    }),
+    // "a table of the stretches: one row each, a stretch over midnight once"
+    ("there is no table of the stretches", |sheet, _| {
+        Some(sheet.without(sheet.page.stretches.as_ref()?.range.clone()))
+    }),
+    ("a stretch has no row in the table", |sheet, random| {
+        Some(sheet.without(any(sheet.listed(), random)?.0.range.clone()))
+    }),
+    ("the last stretch has no row in the table", |sheet, _| Some(sheet.without(sheet.listed().pop()?.0.range.clone()))),
+    ("a stretch has two rows in the table", |sheet, random| {
+        let range = any(sheet.listed(), random)?.0.range.clone();
+        Some(sheet.with([(range.end..range.end, sheet.text[range].to_string())]))
+    }),
+    ("two stretches stand in the other order", |sheet, random| {
+        let lines = sheet.listed();
+        let later = random.from_to(1, lines.len().checked_sub(1).filter(|last| *last > 0)?);
+        let [first, second] = [lines[later - 1].0.range.clone(), lines[later].0.range.clone()];
+        let [one, other] = [first.clone(), second.clone()].map(|range| sheet.text[range].to_string());
+        (one != other).then(|| sheet.with([(first, other), (second, one)]))
+    }),
+    ("a stretch over midnight has two rows", |sheet, random| {
+        let midnight = sheet.drawn.asked.began.map_or(0, |began| u128::from(began.second));
+        let middle = |stretch: &Stretch| ((midnight + stretch.to - 1) / DAY * DAY).checked_sub(midnight);
+        let over = sheet.listed().into_iter().filter_map(|(line, (place, stretch))| {
+            Some((line, place, stretch, middle(&stretch).filter(|middle| stretch.from < *middle)?))
+        });
+        let (line, place, Stretch { from, to }, middle) = any(over.collect(), random)?;
+        let part = |from, to| {
+            let cells = sheet.drawn.listed(&(place, Stretch { from, to }));
+            let changes = line.cells.iter().zip(cells).map(|(cell, words)| (cell.range(), words));
+            with(sheet.text, line.range.clone(), changes)
+        };
+        Some(sheet.with([(line.range.clone(), part(from, middle) + &part(middle, to))]))
+    }),
+    ("a stretch is another lamp's in the table", |sheet, random| {
+        sheet.in_listed(random, 0, |place, _| format!("lamp {}", place + 2))
+    }),
+    ("lamps are numbered from 0 in the table of the stretches", |sheet, random| {
+        sheet.in_listed(random, 0, |place, _| format!("lamp {place}"))
+    }),
+    ("a stretch begins a second late in the table", |sheet, random| {
+        sheet.in_listed(random, 1, |_, stretch| sheet.drawn.asked.instant(stretch.from + 1))
+    }),
+    ("a stretch ends with its last second in the table", |sheet, random| {
+        sheet.in_listed(random, 2, |_, stretch| sheet.drawn.asked.instant(stretch.to - 1))
+    }),
+    ("the table has seconds of the log where a clock is known, or not", |sheet, random| {
+        sheet.in_listed(random, 1, |_, stretch| format!("{} s", stretch.from))
+    }),
+    ("a stretch has a second more in the table", |sheet, random| {
+        sheet.in_listed(random, 3, |_, stretch| timed(stretch.to - stretch.from + 1))
+    }),
+    ("a stretch has no note in the table", |sheet, random| sheet.in_listed(random, 4, |_, _| String::new())),
+    ("a stretch has a note in the table that it has not", |sheet, random| {
+        sheet.in_listed(random, 4, |_, _| "over midnight".to_string())
+    }),
+    ("two heads of the table of the stretches are exchanged", |sheet, _| {
+        let [_, from, to, ..] = sheet.page.stretches.as_ref()?.heads[..] else { return None };
+        Some(sheet.with([(from.range(), to.text.to_string()), (to.range(), from.text.to_string())]))
+    }),
+    ("it is not said that no lamp burnt", |sheet, _| Some(sheet.without(sheet.page.nones.first()?.range.clone()))),
+    ("it is said that no lamp burnt where one did", |sheet, _| {
+        let end = sheet.page.stretches.as_ref()?.range.end;
+        Some(sheet.with([(end..end, "<p>No lamp burnt.</p>".to_string())]))
+    }),
+    ("a table of no stretches stands there", |sheet, _| {
+        let none = sheet.page.nones.first()?.range.clone();
+        let heads = ["lamp", "from", "to", "burnt", "note"].map(|head| format!("<th scope=\"col\">{head}</th>"));
+        let table = format!("<table><thead><tr>{}</tr></thead><tbody></tbody></table>", heads.concat());
+        Some(sheet.with([(none, table)]))
     }),
     // "on the page a paragraph with these words"
     ("it is not said that a line does not belong", |sheet, _| {
@@ -488,15 +720,54 @@ impl<'a> Sheet<'a> {
         self.page.bands().collect()
     }
 
-    /// The days that have a picture, from 0.
-    fn days(&self) -> Vec<usize> {
-        let rows = self.drawn.rows().into_iter();
-        rows.filter_map(|row| if let Row::Day(day) = row { Some(day - 1) } else { None }).collect()
+    /// The places of the rows that have a picture.
+    fn spans(&self) -> Vec<usize> {
+        let spans = self.drawn.spans.iter().enumerate();
+        spans.filter(|(_, span)| span.lamps.iter().any(|bars| !bars.is_empty())).map(|(place, _)| place).collect()
     }
 
-    fn picture_of(&self, day: usize) -> &'a Picture<'a> {
-        let place = self.days().into_iter().position(|drawn| drawn == day);
-        self.page.pictures().nth(place.expect("a bar lies in a picture")).expect("each day has its picture")
+    fn picture_of(&self, span: usize) -> &'a Picture<'a> {
+        let place = self.spans().into_iter().position(|drawn| drawn == span);
+        self.page.pictures().nth(place.expect("a bar lies in a picture")).expect("each row has its picture")
+    }
+
+    /// The rows of words that are of such a kind, and the words.
+    fn words(&self, is_such: impl Fn(&Row) -> bool) -> Vec<(Range<usize>, Part<'a>)> {
+        let rows = self.page.rows.iter().zip(self.drawn.rows()).filter(|(_, row)| is_such(row));
+        let words = rows.filter_map(|(shown, _)| match &shown.shown {
+            Shown::Words(words) => Some((shown.range.clone(), *words)),
+            Shown::Picture(..) => None,
+        });
+        words.collect()
+    }
+
+    /// The names of the rows that have a picture, with their first and last day.
+    fn named(&self) -> Vec<(Part<'a>, usize, usize)> {
+        let rows = self.page.rows.iter().zip(self.drawn.rows());
+        let named = rows.filter_map(|(shown, row)| match row {
+            Row::Days(first, last) => Some((shown.name, first, last)),
+            _ => None,
+        });
+        named.collect()
+    }
+
+    /// The rows of the table of the stretches, each with its lamp's place and its stretch.
+    fn listed(&self) -> Vec<(&'a Line<'a>, (usize, Stretch))> {
+        let lines = self.page.stretches.iter().flat_map(|table| &table.lines);
+        lines.zip(self.drawn.told.iter().copied()).collect()
+    }
+
+    /// A cell of that table.
+    fn in_listed(
+        &self,
+        random: &mut Random,
+        column: usize,
+        wrong: impl Fn(usize, Stretch) -> String,
+    ) -> Option<String> {
+        let cells =
+            self.listed().into_iter().map(|(line, (place, stretch))| (line.cells[column], wrong(place, stretch)));
+        let (cell, wrong) = any(cells.filter(|(cell, wrong)| cell.text != wrong).collect(), random)?;
+        Some(self.with([(cell.range(), wrong)]))
     }
 
     /// One of the rows that mistake names otherwise.
@@ -508,7 +779,7 @@ impl<'a> Sheet<'a> {
 
     /// Each with what has to be drawn there.
     fn bars(&self) -> Vec<(&'a Bar<'a>, &'a drawn::Bar)> {
-        let drawn = self.drawn.days.iter().flatten().flatten();
+        let drawn = self.drawn.spans.iter().flat_map(|span| &span.lamps).flatten();
         self.bands().into_iter().flat_map(|band| &band.bars).zip(drawn).collect()
     }
 
@@ -516,8 +787,8 @@ impl<'a> Sheet<'a> {
         self.page.rows.iter().map(|row| row.range.clone()).collect()
     }
 
-    fn hours(&self) -> Vec<&'a Hour<'a>> {
-        self.page.hours.iter().collect()
+    fn heads(&self) -> Vec<&'a Head<'a>> {
+        self.page.heads.iter().collect()
     }
 
     /// One of the bars whose x that mistake says otherwise.
@@ -545,11 +816,13 @@ impl<'a> Sheet<'a> {
         Some(self.with([(place(bar).range(), wrong(drawn))]))
     }
 
-    /// A day's sum.
-    fn in_sum(&self, random: &mut Random, wrong: impl Fn(usize, &Drawn) -> u128) -> Option<String> {
+    /// A row's sum.
+    fn in_sum(&self, random: &mut Random, wrong: impl Fn(&Span, &Drawn) -> u128) -> Option<String> {
         let rows = self.page.rows.iter().zip(self.drawn.rows());
         let sums = rows.filter_map(|(shown, row)| match (&shown.shown, row) {
-            (Shown::Picture(_, sum), Row::Day(day)) => Some((*sum, short(wrong(day, self.drawn)))),
+            (Shown::Picture(_, sum), Row::Days(first, _)) => {
+                Some((*sum, short(wrong(self.drawn.span(first), self.drawn))))
+            }
             _ => None,
         });
         let (sum, wrong) = any(sums.filter(|(sum, wrong)| sum.text != wrong).collect(), random)?;
@@ -563,7 +836,7 @@ impl<'a> Sheet<'a> {
         which: usize,
         wrong: impl Fn(&Sum, &Drawn) -> Option<[String; 2]>,
     ) -> Option<String> {
-        let totals = self.page.table.totals.iter().zip(&self.drawn.sums);
+        let totals = self.page.table.lines.iter().zip(&self.drawn.sums);
         let cells = totals
             .filter_map(|(total, sum)| Some((*total.cells.get(4 + which)?, wrong(sum, self.drawn)?[which].clone())));
         let (cell, wrong) = any(cells.filter(|(cell, wrong)| cell.text != wrong).collect(), random)?;
@@ -572,7 +845,7 @@ impl<'a> Sheet<'a> {
 
     /// A lamp's number in that column of the table.
     fn in_total(&self, random: &mut Random, column: usize, wrong: impl Fn(usize, &Sum) -> String) -> Option<String> {
-        let totals = self.page.table.totals.iter().zip(&self.drawn.sums).enumerate();
+        let totals = self.page.table.lines.iter().zip(&self.drawn.sums).enumerate();
         let totals = totals.map(|(place, (total, sum))| (total.cells[column], wrong(place, sum)));
         let (cell, wrong) = any(totals.filter(|(cell, wrong)| cell.text != wrong).collect(), random)?;
         Some(self.with([(cell.range(), wrong)]))

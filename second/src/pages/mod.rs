@@ -11,6 +11,7 @@ mod mistakes;
 mod read;
 mod report;
 mod shows;
+mod values;
 
 pub use clock::{Moment, moment};
 pub use making::nth;
@@ -23,19 +24,20 @@ use crate::compare::random::Random;
 use crate::compare::shrink;
 use crate::logs::workers::on_all;
 use crate::logs::{Program, TRIES};
-pub use drawn::{Asked, values};
+pub use drawn::{Asked, Files};
 use drawn::{Drawn, drawn};
 use making::FIXED;
 use mistakes::{MISTAKES, Sheet};
+pub use values::{compare as compare_values, values, values_cut};
 
 /// Longer pages are given few mistakes each, but always the last one.
-const LONG: usize = 1 << 20;
+const LONG: usize = 1 << 16;
 
 /// What has to be shown of a log, or the number of a form that does not load.
 type Expected = Result<Drawn, u32>;
 
-pub fn expected(form: Option<&[u8]>, log: &[u8], asked: Asked) -> Expected {
-    told(form, log).map(|told| drawn(told, asked))
+pub fn expected(form: Option<&[u8]>, log: &[u8], asked: Asked, files: Files) -> Expected {
+    told(form, log).map(|told| drawn(told, asked, files))
 }
 
 /// What is shown otherwise than it has to be.
@@ -75,11 +77,11 @@ fn given(drawn: &Expected, printed: &[u8], random: &mut Random) -> Result<Vec<us
 /// else, cut down.
 pub fn compare(program: &Program, seed: u64, count: usize, asked: Asked) -> Result<Met, Box<Difference>> {
     let started = Started::new(program, Played::Burnt);
-    let fault_of =
-        |case: &Case, number| fault(&expected(case.form(), &case.fed.log, asked), &started.printed(case, number)).err();
+    let expected_of = |case: &Case, number| expected(case.form(), &case.fed.log, asked, started.files(case, number));
+    let fault_of = |case: &Case, number| fault(&expected_of(case, number), &started.printed(case, number)).err();
     let met = on_all(FIXED + count, Met::default, |number, met| {
         let case = nth(seed, number);
-        let expected = expected(case.form(), &case.fed.log, asked);
+        let expected = expected_of(&case, number);
         let printed = started.printed(&case, number);
         if let Err(words) = fault(&expected, &printed) {
             return Err(Box::new(Difference { number, case, words }));

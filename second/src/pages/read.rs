@@ -1,10 +1,9 @@
-//! A page read back: its hours, rows, bands, bars and table, each with the bytes that say it.
+//! A page read back: its heads, rows, bands, bars and tables, each with the bytes that say it.
 //!
 //! What belongs to what is taken as somebody sees it who looks at the page, by where it stands: a bar lies on the band that
 //! it is drawn over, a band is the lamp's that is written beside it: the names beside a picture are 18 high each, and a
 //! picture is as high as it says, however wide it becomes.
 
-use super::drawn::WIDE;
 use super::html::{self, Element, Node, Part};
 use std::ops::Range;
 
@@ -13,17 +12,23 @@ const NAME: u64 = 18;
 
 #[derive(Debug)]
 pub struct Page<'a> {
-    /// The first paragraph.
-    pub first: Option<Part<'a>>,
-    pub hours: Vec<Hour<'a>>,
+    /// When the log began, or that no clock is known, and what a row is.
+    pub clocks: Vec<Paragraph<'a>>,
+    /// Along the top of the pictures.
+    pub heads: Vec<Head<'a>>,
+    /// The table of the rows, and its rows.
+    pub days: Range<usize>,
     pub rows: Vec<Row<'a>>,
     pub table: Table<'a>,
-    /// What it is of: terms, and what is said of them.
-    pub about: Vec<[Part<'a>; 2]>,
-    /// What a stripe says; the longest stretch; when the log ends.
+    /// The table of the stretches; where there is none, the paragraphs that say so.
+    pub stretches: Option<Table<'a>>,
+    pub nones: Vec<Paragraph<'a>>,
+    /// What it is of.
+    pub about: Vec<About<'a>>,
+    /// What a stripe says; the longest stretch; from when to when the log goes.
     pub legends: Vec<Paragraph<'a>>,
     pub longest: Vec<Paragraph<'a>>,
-    pub ends: Vec<Paragraph<'a>>,
+    pub spans: Vec<Paragraph<'a>>,
     /// Paragraphs that begin with `! `.
     pub strays: Vec<Paragraph<'a>>,
     /// Those that say neither this, nor what the page is, nor until when its log goes.
@@ -40,9 +45,17 @@ pub struct Paragraph<'a> {
     pub text: Part<'a>,
 }
 
-/// An hour above the pictures.
+/// A term, and what is said of it.
 #[derive(Debug)]
-pub struct Hour<'a> {
+pub struct About<'a> {
+    pub range: Range<usize>,
+    pub term: Part<'a>,
+    pub said: Part<'a>,
+}
+
+/// An hour or a day above the pictures.
+#[derive(Debug)]
+pub struct Head<'a> {
     pub range: Range<usize>,
     pub text: Part<'a>,
     /// Where it stands, as a share of their width.
@@ -56,7 +69,7 @@ pub struct Label<'a> {
     pub text: Part<'a>,
 }
 
-/// Of a day, or of days in which no lamp burnt.
+/// Of one day or more, of days in which no lamp burnt, or of a day with a long burn.
 #[derive(Debug)]
 pub struct Row<'a> {
     pub range: Range<usize>,
@@ -67,7 +80,7 @@ pub struct Row<'a> {
 #[derive(Debug)]
 pub enum Shown<'a> {
     Words(Part<'a>),
-    /// And what of the day lamps burnt.
+    /// And what of its days lamps burnt.
     Picture(Picture<'a>, Part<'a>),
 }
 
@@ -86,6 +99,9 @@ pub struct Picture<'a> {
 pub struct Band<'a> {
     pub lamp: Label<'a>,
     pub lane: Rect<'a>,
+    /// At which seconds of it a line is drawn, and what draws them.
+    pub lines: Vec<u64>,
+    pub drawn: Vec<Part<'a>>,
     /// From left to right.
     pub bars: Vec<Bar<'a>>,
 }
@@ -118,13 +134,15 @@ pub struct Table<'a> {
     pub range: Range<usize>,
     /// The heads of its columns.
     pub heads: Vec<Part<'a>>,
-    pub totals: Vec<Total<'a>>,
+    pub lines: Vec<Line<'a>>,
 }
 
+/// Of a lamp: its seconds at the start, burnt, and now; maybe what is left, and until when. Of a stretch: from when, to
+/// when, how long, and its note.
 #[derive(Debug)]
-pub struct Total<'a> {
+pub struct Line<'a> {
     pub range: Range<usize>,
-    /// The lamp; its seconds at the start, burnt, and now; maybe what is left, and until when.
+    /// The lamp is the first.
     pub cells: Vec<Part<'a>>,
 }
 
@@ -136,42 +154,66 @@ pub fn read(text: &str) -> Result<Page<'_>, String> {
         None => "",
     };
     let closings = all.iter().filter_map(|element| element.closing.clone()).collect();
-    let mut paragraphs = all.iter().filter(|element| element.name == "p");
-    let first = paragraphs.next().and_then(|element| element.text().ok());
+    let paragraphs = all.iter().filter(|element| element.name == "p");
     let paragraphs = paragraphs.map(|element| Ok(Paragraph { range: element.range.clone(), text: element.text()? }));
     let paragraphs = paragraphs.filter(|said: &Result<_, String>| {
         !said.as_ref().is_ok_and(|said: &Paragraph| said.text.text.starts_with("The log goes until second "))
     });
     let mut others = paragraphs.collect::<Result<Vec<_>, _>>()?;
-    let mut taken = |start: &str| {
-        let (taken, left) = std::mem::take(&mut others).into_iter().partition(|said| said.text.text.starts_with(start));
+    let mut taken = |starts: &[&str]| {
+        let is_such = |said: &Paragraph| starts.iter().any(|start| said.text.text.starts_with(start));
+        let (taken, left) = std::mem::take(&mut others).into_iter().partition(is_such);
         others = left;
         taken
     };
-    let (strays, legends) = (taken("! "), taken("A bar with a stripe "));
-    let (longest, ends) = (taken("The longest burn "), taken("The log ends at "));
+    let clocks = taken(&["The log began on ", "This page knows no clock"]);
+    let (strays, legends) = (taken(&["! "]), taken(&["A bar with a stripe "]));
+    let (longest, spans, nones) = (taken(&["The longest burn "]), taken(&["The log goes from "]), taken(&["No lamp "]));
     let about = all.iter().filter(|element| ["dt", "dd"].contains(&element.name)).collect::<Vec<_>>();
     let about = about.chunks(2).map(|pair| match pair {
-        [term, said] if term.name == "dt" && said.name == "dd" => Ok([term.text()?, said.text()?]),
+        [term, said] if term.name == "dt" && said.name == "dd" => {
+            Ok(About { range: term.range.start..said.range.end, term: term.text()?, said: said.text()? })
+        }
         _ => Err("a term has nothing said of it".to_string()),
     });
     let about = about.collect::<Result<_, _>>()?;
     let tables: Vec<_> = all.iter().filter(|element| element.name == "table").collect();
-    let [days, lamps] = tables[..] else { return Err("it has not just two tables".to_string()) };
-    let (heads, rows) = parts(days)?;
-    let heads = cells(heads)?;
-    let [_, _, hours, burnt] = heads[..] else { return Err(at(days, "its head has not four cells")) };
+    let (days, lamps, stretches) = match tables[..] {
+        [days, lamps] => (days, lamps, None),
+        [days, lamps, stretches] => (days, lamps, Some(table(stretches)?)),
+        _ => return Err("it has not two or three tables".to_string()),
+    };
+    let (head, rows) = parts(days)?;
+    let head = cells(head)?;
+    let [_, _, heads, burnt] = head[..] else { return Err(at(days, "its head has not four cells")) };
     if burnt.text()?.text != "burnt" {
         return Err(at(burnt, "it does not head what lamps burnt"));
     }
-    let hours = hours.all().into_iter().filter(|element| element.name == "span").map(hour).collect::<Result<_, _>>()?;
+    let heads = heads.all().into_iter().filter(|element| element.name == "span");
+    let heads = heads.map(head_in).collect::<Result<_, _>>()?;
     let rows = rows.into_iter().map(row).collect::<Result<_, _>>()?;
     let drawings = |element: &Element| element.all().iter().filter(|inside| inside.name == "svg").count();
     if drawings(&html) != drawings(days) {
         return Err("a drawing stands outside the table of the days".to_string());
     }
-    let table = table(lamps)?;
-    Ok(Page { first, about, legends, longest, ends, hours, rows, table, strays, others, styles, closings })
+    let (days, table) = (days.range.clone(), table(lamps)?);
+    Ok(Page {
+        clocks,
+        heads,
+        days,
+        rows,
+        table,
+        stretches,
+        nones,
+        about,
+        legends,
+        longest,
+        spans,
+        strays,
+        others,
+        styles,
+        closings,
+    })
 }
 
 /// The row of a table's head, and the rows below it. Each row of a table is in one of the two.
@@ -193,12 +235,12 @@ fn cells<'e, 'a>(row: &'e Element<'a>) -> Result<Vec<&'e Element<'a>>, String> {
     }
 }
 
-fn hour<'a>(element: &Element<'a>) -> Result<Hour<'a>, String> {
+fn head_in<'a>(element: &Element<'a>) -> Result<Head<'a>, String> {
     let style = needed(element, "style")?;
     let share = style.text.strip_prefix("left:").and_then(|share| share.strip_suffix('%'));
     let share = share.ok_or_else(|| at(element, "it does not say where it stands"))?;
     let share = Part { text: share, at: style.at + "left:".len() };
-    Ok(Hour { range: element.range.clone(), text: element.text()?, share })
+    Ok(Head { range: element.range.clone(), text: element.text()?, share })
 }
 
 fn row<'a>(row: &Element<'a>) -> Result<Row<'a>, String> {
@@ -241,10 +283,10 @@ const ELSEWHERE: [&str; 5] = ["transform", "style", "display", "visibility", "op
 fn picture<'a>(names: Vec<Label<'a>>, drawing: &Element<'a>) -> Result<Picture<'a>, String> {
     let seen = seen(drawing)?;
     let high = number(seen[3])?;
-    if drawing.name != "svg" || number(seen[2])? != WIDE || number(needed(drawing, "height")?)? != high {
-        return Err(at(drawing, "it is no picture of a day, as high as it says"));
+    if drawing.name != "svg" || number(needed(drawing, "height")?)? != high {
+        return Err(at(drawing, "it is no picture, as high as it says"));
     }
-    let (mut lanes, mut bars) = (Vec::new(), Vec::new());
+    let (mut lanes, mut bars, mut paths) = (Vec::new(), Vec::new(), Vec::new());
     for element in drawing.all() {
         if let Some((name, _)) = element.attributes().find(|(name, _)| ELSEWHERE.contains(name)) {
             return Err(at(element, &format!("by its {name} it is drawn elsewhere than it says, or not at all")));
@@ -261,10 +303,11 @@ fn picture<'a>(names: Vec<Label<'a>>, drawing: &Element<'a>) -> Result<Picture<'
                     |bar: &&mut Bar| bar.rect.edges.start < stripe.edges.start && stripe.edges.end < bar.rect.edges.end;
                 match bars.last_mut().filter(is_on) {
                     Some(bar) => bar.stripes.push(stripe),
-                    None => lanes.push(lane(element)?),
+                    None => lanes.push(stripe),
                 }
             }
-            ("svg" | "g" | "title" | "path" | "line", _) => (),
+            ("path", _) => paths.push(needed(element, "d")?),
+            ("svg" | "g" | "title", _) => (),
             _ => return Err(at(element, "it is none of what a page is drawn of")),
         }
     }
@@ -279,7 +322,15 @@ fn picture<'a>(names: Vec<Label<'a>>, drawing: &Element<'a>) -> Result<Picture<'
         let middle = NAME * place as u64 + NAME / 2;
         let beside = lanes.iter().position(|lane| lane.edges.contains(&middle));
         let lane = lanes.remove(beside.ok_or(format!("byte {}: a lamp without a band", lamp.range.start))?);
-        bands.push(Band { lamp, lane, bars: Vec::new() });
+        bands.push(Band { lamp, lane, lines: Vec::new(), drawn: Vec::new(), bars: Vec::new() });
+    }
+    for path in paths {
+        for (x, edges) in lines(path)? {
+            let on = bands.iter_mut().find(|band| band.lane.edges == edges);
+            on.ok_or(format!("byte {}: a line lies on no band", path.at))?.lines.push(x);
+        }
+        let on = bands.iter_mut().filter(|band| !band.lines.is_empty() && band.drawn.is_empty());
+        on.for_each(|band| band.drawn.push(path));
     }
     for bar in bars {
         // what comes later is drawn over what came before
@@ -348,23 +399,42 @@ fn rect<'a>(element: &Element<'a>) -> Result<Rect<'a>, String> {
     Ok(Rect { range: element.range.clone(), x: x?, y, width: width?, edges, colour, is_class })
 }
 
-/// A whole day, on which bars lie: all that is drawn without a title.
-fn lane<'a>(element: &Element<'a>) -> Result<Rect<'a>, String> {
-    let rect = rect(element)?;
-    let is_day = number(rect.x)? == 0 && number(rect.width)? == WIDE;
-    if is_day { Ok(rect) } else { Err(at(element, "it is no band, and no bar with a title")) }
+/// The upright lines of a path: where, and their upper and lower edge. It says `M` and a point, then `v` and a height and
+/// `m` and a step, in turn.
+fn lines(path: Part) -> Result<Vec<(u64, Range<u64>)>, String> {
+    let wrong = || format!("byte {}: {:?} draws no lines", path.at, path.text);
+    let steps = path.text.replace('M', " M ").replace('m', " m ").replace('v', " v ").replace('-', " -");
+    let mut steps = steps.split_whitespace();
+    let (mut x, mut y, mut drawn) = (0i64, 0i64, Vec::new());
+    while let Some(step) = steps.next() {
+        let mut next = || steps.next().and_then(|text| text.parse::<i64>().ok()).ok_or_else(wrong);
+        match step {
+            "M" => (x, y) = (next()?, next()?),
+            "m" => (x, y) = (x + next()?, y + next()?),
+            "v" => {
+                let height = next()?;
+                if height <= 0 || x < 0 || y < 0 {
+                    return Err(wrong());
+                }
+                drawn.push((x as u64, y as u64..(y + height) as u64));
+                y += height;
+            }
+            _ => return Err(wrong()),
+        }
+    }
+    Ok(drawn)
 }
 
-/// "Below stands a table".
+/// "Below stands a table": of the lamps, or of the stretches.
 fn table<'a>(table: &Element<'a>) -> Result<Table<'a>, String> {
     let (heads, rows) = parts(table)?;
-    let total = |row: &Element<'a>| Ok(Total { range: row.range.clone(), cells: texts(row)? });
-    let totals = rows.into_iter().map(total).collect::<Result<_, String>>()?;
-    Ok(Table { range: table.range.clone(), heads: texts(heads)?, totals })
+    let line = |row: &Element<'a>| Ok(Line { range: row.range.clone(), cells: texts(row)? });
+    let lines = rows.into_iter().map(line).collect::<Result<_, String>>()?;
+    Ok(Table { range: table.range.clone(), heads: texts(heads)?, lines })
 }
 
 fn texts<'a>(row: &Element<'a>) -> Result<Vec<Part<'a>>, String> {
-    cells(row)?.into_iter().map(Element::text).collect()
+    cells(row)?.into_iter().map(Element::text_or_none).collect()
 }
 
 /// Digits, without a zero before them.

@@ -1,8 +1,8 @@
 //! Whether a page shows what it has to show.
 
-use super::drawn::{self, Drawn, Row, short, timed};
+use super::drawn::{self, Drawn, Row, Span, short, timed};
 use super::html::Part;
-use super::read::{Bar, Page, Paragraph, Shown, number};
+use super::read::{Band, Bar, Page, Paragraph, Picture, Shown, Table, number};
 
 const HEADS: [&str; 4] = ["lamp", "at the start", "burnt", "now"];
 
@@ -12,33 +12,28 @@ fn heads(drawn: &Drawn) -> Vec<String> {
     HEADS.map(String::from).into_iter().chain(left.into_iter().flatten()).collect()
 }
 
-/// Along the top stands every third hour.
-const HOURS: u64 = 24;
+const LISTED: [&str; 5] = ["lamp", "from", "to", "burnt", "note"];
 
 pub fn shows(page: &Page, drawn: &Drawn) -> Result<(), String> {
-    hours(page, drawn)?;
+    heads_above(page, drawn)?;
     clock(page, drawn)?;
     about(page, drawn)?;
     said("what a stripe says", &page.legends, drawn.legend())?;
     said("the longest burn", &page.longest, drawn.longest())?;
-    said("the log's end", &page.ends, Some(drawn.end()))?;
+    said("from when to when the log goes", &page.spans, Some(drawn.log_span()))?;
+    above("from when to when the log goes", &page.spans, page)?;
     let rows = drawn.rows();
-    alike("rows of days", page.rows.len(), rows.len())?;
+    alike("rows", page.rows.len(), rows.len())?;
     for (shown, row) in page.rows.iter().zip(&rows) {
         says(shown.name, &drawn.name(row))?;
         match (&shown.shown, row) {
             (Shown::Words(words), Row::Idle(..)) => says(*words, "no lamp burnt")?,
-            (Shown::Picture(picture, burnt), Row::Day(day)) => {
-                says(*burnt, &short(drawn.burnt_in(*day)))?;
-                says(picture.label, &format!("when each lamp burnt on {}", drawn.day(*day)))?;
-                let lamps = &drawn.days[day - 1];
-                alike(&format!("bands in day {day}"), picture.bands.len(), lamps.len())?;
-                for (place, (band, bars)) in picture.bands.iter().zip(lamps).enumerate() {
-                    says(band.lamp.text, &format!("lamp {}", place + 1))?;
-                    let on = format!("bars on lamp {}'s band in day {day}", place + 1);
-                    alike(&on, band.bars.len(), bars.len())?;
-                    band.bars.iter().zip(bars).try_for_each(|(bar, drawn)| is_drawn(bar, drawn))?;
-                }
+            (Shown::Words(words), Row::Long(_)) => says(*words, &drawn.long_words())?,
+            (Shown::Picture(picture, burnt), Row::Days(first, _)) => {
+                let span = drawn.span(*first);
+                says(*burnt, &short(drawn.burnt_in(span)))?;
+                says(picture.label, &format!("when each lamp burnt on {}", drawn.name(row)))?;
+                is_picture(picture, drawn, span)?;
             }
             _ => return Err(format!("byte {}: {} is not shown as it has to be", shown.range.start, drawn.name(row))),
         }
@@ -46,39 +41,50 @@ pub fn shows(page: &Page, drawn: &Drawn) -> Result<(), String> {
     colours(page)?;
     stray(page, drawn)?;
     unplayed(page, drawn)?;
-    totals(page, drawn)
+    totals(page, drawn)?;
+    stretches(page, drawn)
 }
 
-/// The projector, as its settings have it.
-fn about(page: &Page, drawn: &Drawn) -> Result<(), String> {
-    let about = drawn.about();
-    alike("things that it is of", page.about.len(), about.len())?;
-    page.about.iter().flatten().zip(about.iter().flatten()).try_for_each(|(shown, words)| says(*shown, words))
-}
-
-/// One paragraph, or none.
-fn said(of: &str, shown: &[Paragraph], words: Option<String>) -> Result<(), String> {
-    alike(&format!("paragraphs of {of}"), shown.len(), words.iter().len())?;
-    shown.iter().zip(&words).try_for_each(|(shown, words)| says(shown.text, words))
-}
-
-/// "the hours 0 to 24 along the top", each at its share of a day's width.
-fn hours(page: &Page, drawn: &Drawn) -> Result<(), String> {
-    let mut next = 0;
-    for hour in &page.hours {
-        says(hour.text, &hour_name(drawn, next))?;
-        let share: f64 = hour.share.text.parse().map_err(|_| format!("byte {}: no share", hour.share.at))?;
-        if share * 24.0 != next as f64 * 100.0 {
-            return Err(format!("byte {}: the hour {next} stands at {share} %", hour.share.at));
-        }
-        next += 3;
+fn is_picture(picture: &Picture, drawn: &Drawn, span: &Span) -> Result<(), String> {
+    is_number(picture.seen[2], drawn.scale.wide())?;
+    alike("bands in a row", picture.bands.len(), span.lamps.len())?;
+    for (place, (band, bars)) in picture.bands.iter().zip(&span.lamps).enumerate() {
+        says(band.lamp.text, &format!("lamp {}", place + 1))?;
+        is_band(band, drawn, span)?;
+        alike(&format!("bars on lamp {}'s band from day {} on", place + 1, span.first), band.bars.len(), bars.len())?;
+        band.bars.iter().zip(bars).try_for_each(|(bar, drawn)| is_drawn(bar, drawn))?;
     }
-    if next == HOURS + 3 { Ok(()) } else { Err(format!("the hours end before {next}")) }
+    Ok(())
 }
 
-/// Of the clock, or since the log began.
-pub fn hour_name(drawn: &Drawn, hour: u64) -> String {
-    if drawn.asked.began.is_some() { format!("{hour:02}:00") } else { format!("+{hour} h") }
+/// It goes over the row's days; a line on its edge may be drawn or not.
+fn is_band(band: &Band, drawn: &Drawn, span: &Span) -> Result<(), String> {
+    let (from, to) = span.band();
+    is_number(band.lane.x, from)?;
+    is_number(band.lane.width, to - from)?;
+    let lines = drawn.scale.lines();
+    match band.lines.iter().find(|line| !lines.contains(line) || **line < from || **line > to) {
+        Some(line) => return Err(format!("byte {}: a line at the second {line}", band.lane.range.start)),
+        None => (),
+    }
+    match lines.iter().find(|line| from < **line && **line < to && !band.lines.contains(line)) {
+        Some(line) => Err(format!("byte {}: no line at the second {line}", band.lane.range.start)),
+        None => Ok(()),
+    }
+}
+
+/// Along the top of the pictures, each at its share of their width; a share has four digits behind its point at least.
+fn heads_above(page: &Page, drawn: &Drawn) -> Result<(), String> {
+    let heads = drawn.scale.heads(drawn.asked.began.is_some());
+    alike("heads above the pictures", page.heads.len(), heads.len())?;
+    for (head, (second, name)) in page.heads.iter().zip(&heads) {
+        says(head.text, name)?;
+        let share: f64 = head.share.text.parse().map_err(|_| format!("byte {}: no share", head.share.at))?;
+        if (share - *second as f64 * 100.0 / drawn.scale.wide() as f64).abs() > 0.01 {
+            return Err(format!("byte {}: {name} is at {share} %", head.share.at));
+        }
+    }
+    Ok(())
 }
 
 /// It says when the log began, or that it knows no clock.
@@ -87,12 +93,48 @@ fn clock(page: &Page, drawn: &Drawn) -> Result<(), String> {
         Some(began) => format!("The log began on {} at {}, and", began.day(1), began.time()),
         None => "This page knows no clock:".to_string(),
     };
-    let first = page.first.ok_or("it says nothing first")?;
-    if first.text.starts_with(&words) {
-        Ok(())
-    } else {
-        Err(format!("byte {}: it does not begin with {words:?}", first.at))
+    let [said] = &page.clocks[..] else { return Err("it does not say once what clock it knows".to_string()) };
+    if !said.text.text.starts_with(&words) {
+        return Err(format!("byte {}: it does not begin with {words:?}", said.text.at));
     }
+    let row = format!("A row is a {}", row_word(drawn));
+    if !said.text.text.contains(&row) {
+        return Err(format!("byte {}: it does not say {row:?}", said.text.at));
+    }
+    above("what clock it knows", &page.clocks, page)
+}
+
+/// What a row is.
+pub fn row_word(drawn: &Drawn) -> &'static str {
+    match drawn.scale {
+        drawn::Scale::Day => "day",
+        drawn::Scale::Week => "week",
+        drawn::Scale::Month => "month",
+    }
+}
+
+/// They stand above the rows.
+fn above(of: &str, shown: &[Paragraph], page: &Page) -> Result<(), String> {
+    match shown.iter().find(|said| said.range.end > page.days.start) {
+        Some(said) => Err(format!("byte {}: {of} is not said above the rows", said.range.start)),
+        None => Ok(()),
+    }
+}
+
+/// The projector, as its settings have it, the form and the log's files.
+fn about(page: &Page, drawn: &Drawn) -> Result<(), String> {
+    let about = drawn.about();
+    alike("things that it is of", page.about.len(), about.len())?;
+    page.about.iter().zip(&about).try_for_each(|(shown, [term, text])| {
+        says(shown.term, term)?;
+        says(shown.said, text)
+    })
+}
+
+/// One paragraph, or none.
+fn said(of: &str, shown: &[Paragraph], words: Option<String>) -> Result<(), String> {
+    alike(&format!("paragraphs of {of}"), shown.len(), words.iter().len())?;
+    shown.iter().zip(&words).try_for_each(|(shown, words)| says(shown.text, words))
 }
 
 fn is_drawn(bar: &Bar, drawn: &drawn::Bar) -> Result<(), String> {
@@ -158,16 +200,34 @@ fn unplayed(page: &Page, drawn: &Drawn) -> Result<(), String> {
 }
 
 fn totals(page: &Page, drawn: &Drawn) -> Result<(), String> {
-    let heads = heads(drawn);
-    alike("heads of the table", page.table.heads.len(), heads.len())?;
-    page.table.heads.iter().zip(&heads).try_for_each(|(head, words)| says(*head, words))?;
-    alike("lamps in the table", page.table.totals.len(), drawn.sums.len())?;
-    for (place, (total, sum)) in page.table.totals.iter().zip(&drawn.sums).enumerate() {
+    let lines = drawn.sums.iter().enumerate().map(|(place, sum)| {
         let times = [sum.start.into(), sum.burnt, sum.now.into()].map(timed);
         let lamp = [format!("lamp {}", place + 1)];
-        let words: Vec<_> = lamp.into_iter().chain(times).chain(drawn.left(sum).into_iter().flatten()).collect();
-        alike("cells of a lamp", total.cells.len(), words.len())?;
-        total.cells.iter().zip(&words).try_for_each(|(cell, words)| says(*cell, words))?;
+        lamp.into_iter().chain(times).chain(drawn.left(sum).into_iter().flatten()).collect()
+    });
+    is_table("the lamps", &page.table, &heads(drawn), &lines.collect::<Vec<_>>())
+}
+
+/// "a table of the stretches", or a line that no lamp burnt.
+fn stretches(page: &Page, drawn: &Drawn) -> Result<(), String> {
+    let none = drawn.told.is_empty().then(|| "No lamp burnt.".to_string());
+    said("that no lamp burnt", &page.nones, none)?;
+    let lines = drawn.told.iter().map(|told| drawn.listed(told).to_vec());
+    match (&page.stretches, drawn.told.is_empty()) {
+        (None, true) => Ok(()),
+        (Some(table), false) => is_table("the stretches", table, &LISTED.map(String::from), &lines.collect::<Vec<_>>()),
+        (Some(_), true) => Err("it has a table of no stretches".to_string()),
+        (None, false) => Err("it has no table of the stretches".to_string()),
+    }
+}
+
+fn is_table(of: &str, table: &Table, heads: &[String], lines: &[Vec<String>]) -> Result<(), String> {
+    alike(&format!("heads of the table of {of}"), table.heads.len(), heads.len())?;
+    table.heads.iter().zip(heads).try_for_each(|(head, words)| says(*head, words))?;
+    alike(&format!("rows in the table of {of}"), table.lines.len(), lines.len())?;
+    for (shown, words) in table.lines.iter().zip(lines) {
+        alike("cells of a row", shown.cells.len(), words.len())?;
+        shown.cells.iter().zip(words).try_for_each(|(cell, words)| says(*cell, words))?;
     }
     Ok(())
 }

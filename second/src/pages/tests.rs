@@ -1,55 +1,36 @@
 //! Pages drawn by hand, as RULES has them, and not as the program writes them.
 
-use super::drawn::{Row, short, timed};
+use super::drawn::{Row, Span, short, timed};
 use super::*;
 
 /// What has to be seen, in words of its own.
 fn page(drawn: &Drawn) -> String {
     let first = match &drawn.asked.began {
-        Some(began) => format!("The log began on {} at {}, and on", began.day(1), began.time()),
-        None => "This page knows no clock: none".to_string(),
+        Some(began) => format!("The log began on {} at {}, and on.", began.day(1), began.time()),
+        None => "This page knows no clock: none.".to_string(),
     };
-    let mut page = format!("<!doctype html><html><style>\n.m{{fill:#123456}}\n</style><body><p>{first}</p><dl>");
+    let row = shows::row_word(drawn);
+    let mut page = "<!doctype html><html><style>\n.m{fill:#123456}\n</style><body><dl>".to_string();
     for [term, said] in drawn.about() {
         page += &format!("<dt>{term}</dt><dd>{said}</dd>");
     }
-    page += "</dl>";
-    for said in drawn.legend().into_iter().chain(drawn.longest()).chain([drawn.end()]) {
+    page += &format!("</dl><p>{}</p><p>{first} A row is a {row}.</p>", drawn.log_span());
+    for said in drawn.legend().into_iter().chain(drawn.longest()) {
         page += &format!("<p>{said}</p>");
     }
     page += "<table><thead><tr><th>day</th><th>lamp</th><th>";
-    for hour in (0..=24u32).step_by(3) {
-        let name = shows::hour_name(drawn, hour.into());
-        page += &format!("<span style='left:{}%'>{name}</span>", f64::from(hour) * 100.0 / 24.0);
+    for (second, name) in drawn.scale.heads(drawn.asked.began.is_some()) {
+        let share = second as f64 * 100.0 / drawn.scale.wide() as f64;
+        page += &format!("<span style='left:{share:.3}%'>{name}</span>");
     }
     page += "</th><th>burnt</th></tr></thead><tbody>";
     for row in drawn.rows() {
-        let Row::Day(day) = row else {
-            page += &format!("<tr><th>{}</th><td>no lamp burnt</td></tr>", drawn.name(&row));
-            continue;
+        let name = drawn.name(&row);
+        page += &match row {
+            Row::Idle(..) => format!("<tr><th>{name}</th><td>no lamp burnt</td></tr>"),
+            Row::Long(_) => format!("<tr><th>{name}</th><td>{}</td></tr>", drawn.long_words()),
+            Row::Days(first, _) => picture(drawn, &name, drawn.span(first)),
         };
-        let lamps = &drawn.days[day - 1];
-        page += &format!("<tr><th>{}</th><td>", drawn.day(day));
-        for lamp in 1..=lamps.len() {
-            page += &format!("<b>lamp {lamp}</b>");
-        }
-        let height = 1 + 18 * lamps.len();
-        page += &format!("</td><td><svg viewBox=\"0 0 86400 {height}\" height={height} preserveAspectRatio=\"none\"");
-        page += &format!(" aria-label='when each lamp burnt on {}'>", drawn.day(day));
-        for (lamp, bars) in lamps.iter().enumerate() {
-            let lane = 3 + 18 * lamp;
-            page += &format!("<g><rect height='10' y='{lane}' x='0' width='86400' fill='#eeeeee'/></g>");
-            for bar in bars.iter().rev() {
-                let (x, width, title) = (bar.from, bar.seconds(), bar.title());
-                page += &format!("<rect y='{lane}' height='10' fill='#000000' x='{x}' width='{width}'>");
-                page += &format!("<title>{title}</title></rect>\n");
-                if !bar.note().is_empty() {
-                    let y = lane + 4;
-                    page += &format!("<rect y='{y}' height='2' fill='#ffffff' x='{x}' width='{width}'/>");
-                }
-            }
-        }
-        page += &format!("</svg></td><td>{}</td></tr>", short(drawn.burnt_in(day)));
     }
     page += "</tbody></table><table><thead><tr><td>lamp</td><td>at the start</td><td>burnt</td><td>now</td>";
     if let Some(hours) = drawn.asked.life {
@@ -71,7 +52,43 @@ fn page(drawn: &Drawn) -> String {
     if !drawn.unplayed.is_empty() {
         page += &format!("<p>{}</p>", drawn.unplayed.trim_end().replace('\n', " "));
     }
-    page + "</body></html>"
+    page + &stretches(drawn) + "</body></html>"
+}
+
+fn picture(drawn: &Drawn, name: &str, span: &Span) -> String {
+    let names = (1..=span.lamps.len()).map(|lamp| format!("<b>lamp {lamp}</b>")).collect::<String>();
+    let (wide, height) = (drawn.scale.wide(), 1 + 18 * span.lamps.len());
+    let mut row =
+        format!("<tr><th>{name}</th><td>{names}</td><td><svg viewBox=\"0 0 {wide} {height}\" height={height}");
+    row += &format!(" preserveAspectRatio=\"none\" aria-label='when each lamp burnt on {name}'>");
+    let (from, to) = span.band();
+    for (lamp, bars) in span.lamps.iter().enumerate() {
+        let lane = 3 + 18 * lamp;
+        let band = format!("<rect height='10' y='{lane}' x='{from}' width='{}' fill='#eeeeee'/>", to - from);
+        let lines = drawn.scale.lines().into_iter().filter(|line| from < *line && *line < to);
+        let lines = lines.map(|line| format!("M{line} {lane}v10")).collect::<String>();
+        row += &format!("<g>{band}<path d='{lines}'/></g>");
+        for bar in bars.iter().rev() {
+            let (x, width, title) = (bar.from, bar.seconds(), bar.title());
+            row += &format!("<rect y='{lane}' height='10' fill='#000000' x='{x}' width='{width}'>");
+            row += &format!("<title>{title}</title></rect>\n");
+            if !bar.note().is_empty() {
+                let y = lane + 4;
+                row += &format!("<rect y='{y}' height='2' fill='#ffffff' x='{x}' width='{width}'/>");
+            }
+        }
+    }
+    row + &format!("</svg></td><td>{}</td></tr>", short(drawn.burnt_in(span)))
+}
+
+fn stretches(drawn: &Drawn) -> String {
+    if drawn.told.is_empty() {
+        return "<p>No lamp burnt.</p>".to_string();
+    }
+    let row = |cells: [String; 5]| format!("<tr>{}</tr>", cells.map(|cell| format!("<td>{cell}</td>")).concat());
+    let heads = row(["lamp", "from", "to", "burnt", "note"].map(String::from));
+    let rows = drawn.told.iter().map(|told| row(drawn.listed(told))).collect::<String>();
+    format!("<table><thead>{heads}</thead><tbody>{rows}</tbody></table>")
 }
 
 /// Every kind of page, and the short ones not just once; each shows what it has to, and each mistake in it is seen.
@@ -82,7 +99,13 @@ fn pages_show_the_mistakes() {
         let case = nth(3, number);
         let began = if number % 2 == 0 { moment("2028-02-26T21:05:07") } else { None };
         let [long, life] = [number / 2 % 2, number / 4 % 2].map(|is| (is == 1).then_some(2 + number as u128 % 30));
-        let expected = expected(case.form(), &case.fed.log, Asked { began, long, life });
+        let files = Files {
+            form: case.form().map(|_| format!("a<{number}>&.form")),
+            logs: (0..number / 8 % 4)
+                .map(|file| if file == 2 { "-".to_string() } else { format!("<{file}.log") })
+                .collect(),
+        };
+        let expected = expected(case.form(), &case.fed.log, Asked { began, long, life }, files);
         let printed = match &expected {
             Ok(drawn) => page(drawn),
             Err(_) => String::new(),
@@ -101,7 +124,7 @@ fn pages_show_the_mistakes() {
 /// The page of one log is none of another.
 #[test]
 fn another_log() {
-    let drawn_on = |log: &str| expected(None, log.as_bytes(), Asked::default());
+    let drawn_on = |log: &str| expected(None, log.as_bytes(), Asked::default(), Files::default());
     let log = "O 00000000\nR %1POWR 1\nT 100\n";
     let right = drawn_on(log);
     let printed = page(right.as_ref().unwrap());
@@ -114,9 +137,9 @@ fn another_log() {
 /// A form that does not load has no page.
 #[test]
 fn no_page() {
-    let refused = expected(Some(b"\x04"), b"", Asked::default());
+    let refused = expected(Some(b"\x04"), b"", Asked::default(), Files::default());
     assert_eq!(fault(&refused, b""), Ok(()));
-    let page = page(expected(None, b"", Asked::default()).as_ref().unwrap());
+    let page = page(expected(None, b"", Asked::default(), Files::default()).as_ref().unwrap());
     for printed in [&b"\n"[..], b"! 20\n", page.as_bytes()] {
         assert!(fault(&refused, printed).is_err());
     }
