@@ -239,11 +239,11 @@ pub fn count(random: &mut Random, count: usize, limit: usize) -> usize {
         2 => random.pick(&[
             255,
             256,
-            256 + count,
-            65_536 + count,
-            (1 << 32) + count,
-            (1 << 61) + count,
-            (1 << 63) + count,
+            count.wrapping_add(256),
+            count.wrapping_add(65_536),
+            count.wrapping_add(1 << 32),
+            count.wrapping_add(1 << 61),
+            count.wrapping_add(1 << 63),
         ]),
         _ => random.pick(&[usize::MAX, usize::MAX - 1, usize::MAX - 63, 1 << 31, random_size(count)]),
     }
