@@ -13,7 +13,7 @@
 --   passing_of d g         the result of passing time on d that gave g
 -- Assumes nothing.
 use Rattle.std.specs.Prelude.{ℕ, ◌+◌, Bool, true, not, ◌&&◌, List, [], ◌∷◌, length, if◌then◌else◌, nat_lt, ◌==◌}
-use Rattle.text.specs.Rows.{NumberRow, ◌when◌, by_rows}
+use Rattle.text.specs.Rows.{RefusalRow, ◌when◌, by_rows}
 use Rattle.record.specs.Legal.{is_legal}
 use Rattle.record.specs.Places.{connection_at, is_closed}
 use Rattle.record.specs.Given.{Given}
@@ -30,7 +30,7 @@ is_live c = not (is_closed c)
 abbrev pub is_session : Device → ℕ → ℕ → Bool
 is_session d p r = is_live (connection_at d p) && (connection_at d p).random == r
 
-abbrev pub session_rows : Device → ℕ → ℕ → ℕ → List NumberRow
+abbrev pub session_rows : Device → ℕ → ℕ → ℕ → List (RefusalRow ℕ)
 session_rows d p r room =
     (1 when not (is_legal d)) ∷ (2 when nat_lt room reply_room) ∷ (3 when is_no_place p)
     ∷ (4 when not (is_session d p r)) ∷ []
@@ -39,7 +39,7 @@ abbrev pub session_received : Device → ℕ → ℕ → List ℕ → List ℕ �
 session_received d p r bs m =
     by_rows (session_rows d p r (length m)) (λ n. lent_by (refused_by n d) m) (ours.receive d p bs m)
 
-abbrev pub session_closing_rows : Device → ℕ → ℕ → List NumberRow
+abbrev pub session_closing_rows : Device → ℕ → ℕ → List (RefusalRow ℕ)
 session_closing_rows d p r =
     (1 when not (is_legal d)) ∷ (3 when is_no_place p) ∷ (4 when not (is_session d p r)) ∷ []
 

@@ -19,7 +19,7 @@
 -- Assumes nothing.
 use Rattle.std.specs.Prelude.{ℕ, ◌≤◌, ◌≡◌, Bool, true, false, not, ◌||◌, List, [], ◌∷◌, set, length, drop, nat_lt, ◌==◌}
 use Rattle.text.specs.Flags.{flag_of}
-use Rattle.text.specs.Rows.{NumberRow, ◌when◌, first_of}
+use Rattle.text.specs.Rows.{RefusalRow, ◌when◌, first_of}
 use Rattle.text.specs.Scans.{is_same_by, itself}
 use Rattle.pjlink.specs.Forms.{erra_line, greeting_open, is_reply_form, head_body, reply_parameter}
 use Rattle.pjlink.specs.Commands.{body_of, command_class}
@@ -50,12 +50,12 @@ abbrev is_illegal : Device → Bool
 is_illegal d = not (is_legal d)
 
 -- of a lamp's mark: no such lamp, or the last mark cleared; then any power but off (RULES, Lamps)
-abbrev pub mark_rows : Device → ℕ → Bool → List NumberRow
+abbrev pub mark_rows : Device → ℕ → Bool → List (RefusalRow ℕ)
 mark_rows d k m =
     (1 when is_illegal d) ∷ (3 when (is_no_lamp d k || is_none_left (set d.own.enabled k (flag_of m))))
     ∷ (7 when not (d.own.power == off)) ∷ []
 
-abbrev pub rows_of : Device → Call → List NumberRow
+abbrev pub rows_of : Device → Call → List (RefusalRow ℕ)
 rows_of d (opens random m) = opening_rows d (length m)
 rows_of d (closes p) = closing_rows d p
 rows_of d (receives p bs m) = receiving_rows d p (length m)
@@ -65,10 +65,10 @@ rows_of d (reports errors) = (1 when is_illegal d) ∷ (3 when not (is_error_lis
 rows_of d (enables lamp mark) = mark_rows d lamp mark
 
 -- RULES, Passwords: 8 after every 3
-abbrev pub set_up_rows : Wanted → List NumberRow
+abbrev pub set_up_rows : Wanted → List (RefusalRow ℕ)
 set_up_rows w = (3 when not (is_in_range w)) ∷ (8 when not (is_long_enough (length w.password))) ∷ []
 
-abbrev pub writer_rows : Command → Bool → List ℕ → List ℕ → List NumberRow
+abbrev pub writer_rows : Command → Bool → List ℕ → List ℕ → List (RefusalRow ℕ)
 writer_rows c secured password m =
     (2 when nat_lt (length m) command_room) ∷ (3 when not (is_writable c secured password)) ∷ []
 
@@ -77,13 +77,13 @@ is_erra l = is_same_by itself l erra_line
 
 -- the ERRA line is known before the form is tested, which is that of the command's class (RULES, Class 2); whether the
 -- parameter is allowed is what it says (`IsAllowed`)
-abbrev pub reader_rows : Command → List ℕ → Bool → List NumberRow
+abbrev pub reader_rows : Command → List ℕ → Bool → List (RefusalRow ℕ)
 reader_rows c l allowed =
     (0 when is_erra l) ∷ (10 when not (is_reply_form (command_class c) l))
     ∷ (11 when not (is_body (command_class c) (head_body l) (body_of c))) ∷ (12 when not allowed) ∷ []
 
 -- the two greetings and the ERRA line
-abbrev pub greeting_rows : List ℕ → List NumberRow
+abbrev pub greeting_rows : List ℕ → List (RefusalRow ℕ)
 greeting_rows l =
     (0 when is_same_by itself l greeting_open) ∷ (0 when is_erra l) ∷ (0 when greets l (random_in l)) ∷ (10 when true)
     ∷ []

@@ -1,7 +1,7 @@
 -- More reply memory than a call asks for changes nothing; closing has no reply.
 -- Assumes nothing.
 use Rattle.std.proofs.Common.{ℕ, ◌≤◌, ◌≡◌, refl, not, List, [], ◌∷◌, arith, nat_lt, le-ltb}
-use Rattle.text.specs.Rows.{NumberRow, ◌when◌, by_rows}
+use Rattle.text.specs.Rows.{RefusalRow, ◌when◌, by_rows}
 use Rattle.record.specs.Legal.{is_legal}
 use Rattle.record.specs.Places.{lowest_closed}
 use Rattle.record.specs.declared.types.Device.{Device}
@@ -11,7 +11,7 @@ use Rattle.device.proofs.Cases.{closed_by_lem}
 
 module _ (d : Device) (room : ℕ) (enough : reply_room ≤ room) where
   -- the one row that asks for the memory applies to neither
-  by_rows-cons : {R : Type 0} (refuse : ℕ → R) (rows : List NumberRow) (done : R)
+  by_rows-cons : {R : Type 0} (refuse : ℕ → R) (rows : List (RefusalRow ℕ)) (done : R)
       → by_rows ((1 when not (is_legal d)) ∷ (2 when nat_lt reply_room reply_room) ∷ rows) refuse done
       ≡ by_rows ((1 when not (is_legal d)) ∷ (2 when nat_lt room reply_room) ∷ rows) refuse done
   by_rows-cons refuse rows done = grind (arith, le-ltb)

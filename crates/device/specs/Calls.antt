@@ -9,7 +9,7 @@
 --   closed_by d p         closing at place p: refused, or the closed connection
 -- Assumes nothing.
 use Rattle.std.specs.Prelude.{ℕ, Bool, not, List, [], ◌∷◌, if◌then◌else◌, nat_le, nat_lt, ◌==◌}
-use Rattle.text.specs.Rows.{NumberRow, ◌when◌, by_rows}
+use Rattle.text.specs.Rows.{RefusalRow, ◌when◌, by_rows}
 use Rattle.digest.specs.Hex.{hex_digits}
 use Rattle.pjlink.specs.Forms.{greeting_open, greeting_secured, reply_most}
 use Rattle.record.specs.Limits.{places_count, phase_awaiting, phase_open}
@@ -45,17 +45,17 @@ longest_reply = 136
 abbrev pub is_no_place : ℕ → Bool
 is_no_place p = nat_le places_count p
 
-abbrev pub receiving_rows : Device → ℕ → ℕ → List NumberRow
+abbrev pub receiving_rows : Device → ℕ → ℕ → List (RefusalRow ℕ)
 receiving_rows d p room =
     (1 when not (is_legal d)) ∷ (2 when nat_lt room reply_room) ∷ (3 when is_no_place p)
     ∷ (4 when is_closed (connection_at d p)) ∷ []
 
-abbrev pub opening_rows : Device → ℕ → List NumberRow
+abbrev pub opening_rows : Device → ℕ → List (RefusalRow ℕ)
 opening_rows d room =
     (1 when not (is_legal d)) ∷ (2 when nat_lt room reply_room) ∷ (6 when is_no_place (lowest_closed d.connections))
     ∷ []
 
-abbrev pub closing_rows : Device → ℕ → List NumberRow
+abbrev pub closing_rows : Device → ℕ → List (RefusalRow ℕ)
 closing_rows d p = (1 when not (is_legal d)) ∷ (3 when is_no_place p) ∷ (4 when is_closed (connection_at d p)) ∷ []
 
 abbrev pub accepted_taken : Device → ℕ → Taken → Result Device

@@ -12,7 +12,7 @@
 use Rattle.std.specs.Prelude.{ℕ, not, List, [], ◌∷◌, ◌++◌, if◌then◌else◌, ◌==◌, codes}
 use Rattle.std.specs.Prelude.{Some, None}
 use Rattle.std.specs.declared.option.Option.{Option}
-use Rattle.text.specs.Rows.{NumberRow, ◌when◌, by_rows}
+use Rattle.text.specs.Rows.{RefusalRow, ◌when◌, by_rows}
 use Rattle.numbers.specs.Decimal.{long_digits}
 use Rattle.record.specs.Legal.{is_legal}
 use Rattle.record.specs.Places.{connection_at, is_closed}
@@ -30,7 +30,7 @@ abbrev pub log_place : ℕ
 log_place = 0
 
 -- 5 stands where the table of opening had it; its 2 never applies, as a line is printed where there is room
-abbrev pub log_opening_rows : Device → List NumberRow
+abbrev pub log_opening_rows : Device → List (RefusalRow ℕ)
 log_opening_rows d = (1 when not (is_legal d)) ∷ (5 when not (is_closed (connection_at d log_place))) ∷ []
 
 unfoldable pub opened_in_log : Device → ℕ → Result Device

@@ -19,7 +19,7 @@
 -- Assumes nothing.
 use Rattle.std.specs.Prelude.{ℕ, ◌+◌, Bool, false, not, ◌||◌, List, [], ◌∷◌, ◌++◌, nat_lt, ◌==◌, Option, if◌then◌else◌}
 use Rattle.std.specs.Prelude.{codes}
-use Rattle.text.specs.Rows.{NumberRow, ◌when◌, by_rows}
+use Rattle.text.specs.Rows.{RefusalRow, ◌when◌, by_rows}
 use Rattle.text.specs.Outcomes.{WrittenAs, nothing_written}
 use Rattle.record.specs.Legal.{is_legal}
 use Rattle.record.specs.declared.types.Device.{Device}
@@ -37,7 +37,7 @@ abbrev pub cannot_follow : Recorder → LogEntry → Bool
 cannot_follow r (header f s t) = false
 cannot_follow r e = r.file == 0 || r.lines == number_most
 
-abbrev pub entry_rows : Recorder → LogEntry → ℕ → List NumberRow
+abbrev pub entry_rows : Recorder → LogEntry → ℕ → List (RefusalRow ℕ)
 entry_rows r e room =
     (2 when nat_lt room log_line_room) ∷ (3 when not (is_sayable_entry e)) ∷ (3 when cannot_follow r e) ∷ []
 

@@ -3,14 +3,14 @@
 -- Assumes nothing.
 use Rattle.std.specs.List.{list_all}
 use Rattle.std.proofs.Common.{ℕ, ◌≡◌, refl, true, List, []}
-use Rattle.text.specs.Rows.{NumberRow, first_of, by_rows, is_numbered}
+use Rattle.text.specs.Rows.{RefusalRow, first_of, by_rows, is_numbered}
 use Rattle.text.proofs.ByRows.{by_rows_lem, rows_number}
 use Rattle.codes.specs.declared.command.Coded.{Coded}
 use Rattle.panel.specs.PanelCalls.{PanelAs, panel_kept, adding_rows, commanding_rows, projector_rows, added_to}
 use Rattle.panel.specs.PanelCalls.{command_at, stepped_at, lost_at}
 use Rattle.panel.specs.declared.types.Panel.{Panel}
 
-module _ (p : Panel) (rows : List NumberRow) (done : PanelAs) (served : done.number ≡ 0) where
+module _ (p : Panel) (rows : List (RefusalRow ℕ)) (done : PanelAs) (served : done.number ≡ 0) where
   abbrev what : PanelAs
   what = by_rows rows (panel_kept p) done
 

@@ -12,7 +12,7 @@
 -- Assumes nothing.
 use Rattle.std.specs.Prelude.{ℕ, ◌+◌, not, List, [], ◌∷◌, set, replicate, slice_index_or, nat_le, nat_lt, is_some}
 use Rattle.std.specs.Prelude.{Option, Some, None}
-use Rattle.text.specs.Rows.{NumberRow, ◌when◌, by_rows}
+use Rattle.text.specs.Rows.{RefusalRow, ◌when◌, by_rows}
 use Rattle.words.specs.Texts.{is_password}
 use Rattle.controller.specs.Writing.{command_room}
 use Rattle.codes.specs.Commands.{coded_command}
@@ -47,15 +47,15 @@ with_entry p i e = record { count = p.count; entries = set p.entries i e }
 abbrev pub grown_by : Panel → PanelEntry → Panel
 grown_by p e = record { count = p.count + 1; entries = set p.entries p.count e }
 
-abbrev pub adding_rows : Panel → List ℕ → List NumberRow
+abbrev pub adding_rows : Panel → List ℕ → List (RefusalRow ℕ)
 adding_rows p s = (1 when not (is_panel p)) ∷ (3 when not (is_password s)) ∷ (3 when nat_le panel_most p.count) ∷ []
 
-abbrev pub commanding_rows : Panel → ℕ → Coded → ℕ → List NumberRow
+abbrev pub commanding_rows : Panel → ℕ → Coded → ℕ → List (RefusalRow ℕ)
 commanding_rows p i k room =
     (1 when not (is_panel p)) ∷ (2 when nat_lt room command_room) ∷ (3 when nat_le p.count i)
     ∷ (3 when not (is_some (coded_command k))) ∷ (9 when is_unready (entry_at p i)) ∷ []
 
-abbrev pub projector_rows : Panel → ℕ → List NumberRow
+abbrev pub projector_rows : Panel → ℕ → List (RefusalRow ℕ)
 projector_rows p i = (1 when not (is_panel p)) ∷ (3 when nat_le p.count i) ∷ []
 
 unfoldable pub added_to : Panel → List ℕ → PanelAs

@@ -36,7 +36,7 @@ use Rattle.std.specs.Prelude.{ℕ, ◌*◌, ◌/◌, Bool, not, List, [], ◌∷
 use Rattle.std.specs.Prelude.{if◌then◌else◌, nat_lt, ◌==◌}
 use Rattle.text.specs.Flags.{flag_of}
 use Rattle.text.specs.InTurn.{each_in_turn}
-use Rattle.text.specs.Rows.{NumberRow, ◌when◌, by_rows}
+use Rattle.text.specs.Rows.{RefusalRow, ◌when◌, by_rows}
 use Rattle.text.specs.Outcomes.{WrittenAs, nothing_written}
 use Rattle.record.specs.Limits.{only_in_2}
 use Rattle.record.specs.Wanted.{Wanted, wanted_of}
@@ -198,7 +198,7 @@ said_stored d = settings_marked (stored_of d) (marks_stored d)
 abbrev pub stored_form : Device → List ℕ
 stored_form d = form_of (stored_of d) (marks_stored d)
 
-abbrev pub storing_rows : Device → ℕ → List NumberRow
+abbrev pub storing_rows : Device → ℕ → List (RefusalRow ℕ)
 storing_rows d room = (1 when not (is_legal d)) ∷ (2 when nat_lt room (length (stored_form d))) ∷ []
 
 unfoldable pub stored_by : Device → ℕ → WrittenAs

@@ -20,7 +20,7 @@ use Rattle.std.specs.Prelude.{if◌then◌else◌, ◌==◌}
 use Rattle.std.specs.List.{list_all}
 use Rattle.text.specs.Flags.{is_flag, is_raised, flag_of}
 use Rattle.text.specs.Rooms.{filled_room}
-use Rattle.text.specs.Rows.{NumberRow, ◌when◌, by_rows}
+use Rattle.text.specs.Rows.{RefusalRow, ◌when◌, by_rows}
 use Rattle.record.specs.Limits.{lamps_most}
 use Rattle.record.specs.Wanted.{Wanted}
 use Rattle.record.specs.Rules.{is_marks}
@@ -85,7 +85,7 @@ abbrev pub contents : FormSaid → Given Device
 contents f =
     if is_legal_said f then acceptance_of (started_with f.settings (map is_raised f.marks)) else refusal_with 23 blank
 
-abbrev pub load_rows : List ℕ → List NumberRow
+abbrev pub load_rows : List ℕ → List (RefusalRow ℕ)
 load_rows s =
     (20 when is_other_version s) ∷ (21 when is_cut_short s) ∷ (22 when is_left_over s)
     ∷ (23 when not (is_legal_said (said_in s))) ∷ []

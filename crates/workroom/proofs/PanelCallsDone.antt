@@ -3,7 +3,7 @@
 use Rattle.std.proofs.Common.{arith, ℕ, ◌<◌, ◌≡◌, refl, sym, ap, ◌∙◌, true, List, [], get_or-set_same}
 use Rattle.std.proofs.Common.{get_or-set_other, Option, Some, None, is_some}
 use Rattle.std.proofs.lemmas.Bool.{false≢true}
-use Rattle.text.specs.Rows.{NumberRow, first_of}
+use Rattle.text.specs.Rows.{RefusalRow, first_of}
 use Rattle.pjlink.specs.declared.command.Command.{Command}
 use Rattle.codes.specs.Commands.{coded_command}
 use Rattle.codes.specs.declared.command.Coded.{Coded}
@@ -60,7 +60,7 @@ module _ (p : Panel) (line : List ℕ) (Left : Panel → Type 0) where
   done : {r : PanelAs} → r.number ≡ 0 → r.line ≡ line → Left r.panel → ByCases r
   done z sent left = record { kept = λ some. absurd (some z); line_sent_then = λ y. sent; left_then = λ y. left }
 
-  call_done : (rows : List NumberRow) (r : PanelAs) → r.number ≡ first_of rows → ByCases r
+  call_done : (rows : List (RefusalRow ℕ)) (r : PanelAs) → r.number ≡ first_of rows → ByCases r
       → (is_panel p ≡ true → is_panel r.panel ≡ true) → CallDone p rows line Left r
   call_done rows r number cases legal = record {
     number = number;

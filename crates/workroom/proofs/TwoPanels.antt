@@ -3,7 +3,7 @@
 use Rattle.std.proofs.Common.{ℕ, ◌≡◌, refl, sym, ap, ◌∙◌, Bool, true, false, List, ◌==◌, arith, leb-false}
 use Rattle.std.proofs.Common.{eqb-true, ext_get_or}
 use Rattle.std.proofs.lemmas.Bool.{eqb-false, not-false}
-use Rattle.text.specs.Rows.{NumberRow, first_of}
+use Rattle.text.specs.Rows.{RefusalRow, first_of}
 use Rattle.codes.specs.declared.command.Coded.{Coded}
 use Rattle.panel.specs.AnyPanel.{AnyPanel, ours_panel}
 use Rattle.pjlink.specs.Greetings.{read_greeting}
@@ -78,7 +78,7 @@ module _ (p q r : Panel) (legal : is_panel q ≡ true) (right : is_panel r ≡ t
 
 -- ---- two results of one call
 
-module _ {p : Panel} {rows : List NumberRow} {line : List ℕ} {Left : Panel → Type 0} (r s : PanelAs)
+module _ {p : Panel} {rows : List (RefusalRow ℕ)} {line : List ℕ} {Left : Panel → Type 0} (r s : PanelAs)
     (h : CallDone p rows line Left r) (g : CallDone p rows line Left s) where
   same_result : r.line ≡ s.line → r.panel ≡ s.panel → r ≡ s
   same_result l q = (λ k. record { number = (h.number ∙ sym g.number) k; line = l k; panel = q k })

@@ -12,7 +12,7 @@
 --   IsNone r             what gave r made the panel of no projector
 -- Assumes nothing.
 use Rattle.std.specs.Prelude.{ℕ, ◌+◌, ◌≡◌, true, List, [], ◌++◌, Option, Some, None}
-use Rattle.text.specs.Rows.{NumberRow, first_of}
+use Rattle.text.specs.Rows.{RefusalRow, first_of}
 use Rattle.pjlink.specs.Commands.{command_line}
 use Rattle.pjlink.specs.declared.command.Command.{Command}
 use Rattle.controller.specs.Writing.{led_by}
@@ -40,7 +40,7 @@ abbrev pub line_due : PanelEntry → Option Command → List ℕ
 line_due e (Some c) = led_by (leads_next (talk_of e)) e.random (password_in e) ++ command_line c
 line_due e None = []
 
-pub record CallDone (p : Panel) (rows : List NumberRow) (line : List ℕ) (Left : Panel → Type 0)
+pub record CallDone (p : Panel) (rows : List (RefusalRow ℕ)) (line : List ℕ) (Left : Panel → Type 0)
     (r : PanelAs) : Type 0 where
   -- "the first of them that applies, in the order of the table"
   pub number : r.number ≡ first_of rows
