@@ -6,6 +6,7 @@
 --   outcome_number why r    the number of what a call returns: 0 if it is served, else that of its error, by `why`
 --   call_number why c       the same of a call's result
 --   with_length c           what a call returns that answers how many bytes it wrote
+--   with_record c           what a call returns that answers the record that it leaves
 -- Assumes nothing.
 use Rattle.std.specs.Prelude.{ℕ, List, [], length, Result, Ok, Err}
 
@@ -33,6 +34,13 @@ length_said (Err e) bs = Err e
 
 abbrev pub with_length : {E A D : Type 0} → CallResult E A D → Result ℕ E
 with_length c = length_said c.says c.bytes
+
+abbrev pub record_said : {E A D : Type 0} → Result A E → D → Result D E
+record_said (Ok a) d = Ok d
+record_said (Err e) d = Err e
+
+abbrev pub with_record : {E A D : Type 0} → CallResult E A D → Result D E
+with_record c = record_said c.says c.leaves
 
 pub record WrittenAs : Type 0 where
   pub number : ℕ
