@@ -1,7 +1,6 @@
 -- What an event of a log does, by what it is.
 -- Assumes nothing.
 use Rattle.std.proofs.Common.{ℕ, ◌≡◌, refl, List}
-use Rattle.record.specs.Given.{given_by}
 use Rattle.record.specs.declared.types.Device.{Device}
 use Rattle.clock.specs.Passing.{time_passed}
 use Rattle.device.specs.Calls.{plain_result, reply_room, received_at, closed_by}
@@ -17,7 +16,7 @@ module _ (d : Device) where
   unfolding event_result
   event_result-receives bs = refl
 
-  pub did_passing : (n : ℕ) → event_result d (passes n) ≡ changed_to (given_by d (time_passed d n))
+  pub did_passing : (n : ℕ) → event_result d (passes n) ≡ changed_to (time_passed d n)
   unfolding event_result
   did_passing n = refl
 

@@ -60,7 +60,7 @@ module _ (d : Device) where
   passing_drives : (n : ℕ) → Drives n d (event_result d (passes n)).device
   unfolding event_result
   passing_drives n =
-      passed_by (λ r. Drives n d r.device) d n
+      passed_by (λ r. Drives n d r.leaves) d n
       (λ illegal. ap (λ (t : Bool). set (places_after t n before) log_place (connection_at d log_place)) illegal
       ∙ itself_kept)
       (λ legal. let after = times second n d in

@@ -41,7 +41,7 @@ sample_closed : (p : ℕ) → p < places_count → connection_at sample_device p
 unfolding sample_device
 sample_closed p there =
     let none = blank-closed p there in
-    set_up_by _ (λ r. connection_at r.device p ≡ closed) none none
+    set_up_by _ (λ r. connection_at r.leaves p ≡ closed) (λ s. none) none
     (λ h. connection_at-start_device _ p there)
 
 module _ (p : ℕ) (other : p ≡ log_place → ⊥) where

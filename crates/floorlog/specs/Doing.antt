@@ -13,18 +13,20 @@ use Rattle.std.specs.Prelude.{ℕ, not, List, [], ◌∷◌, ◌++◌, if◌then
 use Rattle.std.specs.Prelude.{Some, None}
 use Rattle.std.specs.declared.option.Option.{Option}
 use Rattle.text.specs.Rows.{RefusalRow, ◌when◌, by_rows}
+use Rattle.text.specs.Outcomes.{CallResult, call_number}
 use Rattle.numbers.specs.Decimal.{long_digits}
 use Rattle.record.specs.Legal.{is_legal}
 use Rattle.record.specs.Places.{connection_at, is_closed}
 use Rattle.record.specs.declared.types.Device.{Device}
-use Rattle.record.specs.Given.{Given, given_by}
+use Rattle.record.specs.Refusals.{refusal_number}
+use Rattle.record.specs.declared.refusal.Refusal.{Refusal}
 use Rattle.clock.specs.Passing.{time_passed}
 use Rattle.device.specs.Calls.{Result, refused_by, plain_result, reply_room, received_at, opened_by, closed_by}
 use Rattle.floorlog.specs.Outcomes.{reply_text, refusal_shown}
 use Rattle.floorlog.specs.Events.{LogEvent, opens, receives, passes, closes, no_such}
 
-abbrev pub changed_to : Given Device → Result Device
-changed_to c = record { number = c.number; taken = 0; reply = []; device = c.device }
+abbrev pub changed_to : CallResult Refusal (Unit {0}) Device → Result Device
+changed_to c = record { number = call_number refusal_number c; taken = 0; reply = []; device = c.leaves }
 
 abbrev pub log_place : ℕ
 log_place = 0
@@ -39,7 +41,7 @@ opened_in_log d r = by_rows (log_opening_rows d) (λ n. refused_by n d) (opened_
 unfoldable pub event_result : Device → LogEvent → Result Device
 event_result d (opens r) = opened_in_log d r
 event_result d (receives bs) = received_at d log_place bs reply_room
-event_result d (passes n) = changed_to (given_by d (time_passed d n))
+event_result d (passes n) = changed_to (time_passed d n)
 event_result d closes = closed_by d log_place
 event_result d no_such = plain_result d
 
