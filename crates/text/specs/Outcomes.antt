@@ -5,6 +5,8 @@
 --   refused_as d e          what a refused one gives: no bytes, and the record as it was
 --   outcome_number why r    the number of what a call returns: 0 if it is served, else that of its error, by `why`
 --   call_number why c       the same of a call's result
+--   answer_number f r       the number that `f` has of the answer that a call returns: 0 if it is refused
+--   number_answered c       the number that a call answers, as bytes taken, or a place: 0 if it is refused
 --   with_length c           what a call returns that answers how many bytes it wrote
 --   with_record c           what a call returns that answers the record that it leaves
 -- Assumes nothing.
@@ -27,6 +29,13 @@ outcome_number why (Err e) = why e
 
 abbrev pub call_number : {E A D : Type 0} → (E → ℕ) → CallResult E A D → ℕ
 call_number why c = outcome_number why c.says
+
+abbrev pub answer_number : {A E : Type 0} → (A → ℕ) → Result A E → ℕ
+answer_number f (Ok a) = f a
+answer_number f (Err e) = 0
+
+abbrev pub number_answered : {E D : Type 0} → CallResult E ℕ D → ℕ
+number_answered c = answer_number (λ n. n) c.says
 
 abbrev pub length_said : {E A : Type 0} → Result A E → List ℕ → Result ℕ E
 length_said (Ok a) bs = Ok (length bs)
