@@ -50,24 +50,3 @@ record_said (Err e) d = Err e
 
 abbrev pub with_record : {E A D : Type 0} → CallResult E A D → Result D E
 with_record c = record_said c.says c.leaves
-
-pub record WrittenAs : Type 0 where
-  pub number : ℕ
-  pub bytes : List ℕ
-
-abbrev pub nothing_written : ℕ → WrittenAs
-nothing_written n = record { number = n; bytes = [] }
-
-pub record WrittenTold : Type 0 where
-  pub number : ℕ
-  pub length : ℕ
-
-abbrev pub told_written : WrittenAs → WrittenTold
-told_written w = record { number = w.number; length = length w.bytes }
-
-abbrev pub length_written : {E : Type 0} → Result ℕ E → ℕ
-length_written (Ok n) = n
-length_written (Err e) = 0
-
-abbrev pub written_told : {E : Type 0} → (E → ℕ) → Result ℕ E → WrittenTold
-written_told why r = record { number = outcome_number why r; length = length_written r }
