@@ -6,6 +6,8 @@
 use Rattle.std.proofs.Common.{ℕ, zero, suc, ◌+◌, ◌-◌, ◌≤◌, ◌<◌, ◌≡◌, refl, sym, ap, ◌∙◌, Bool, true, false, ◌&&◌, List}
 use Rattle.std.proofs.Common.{[], ◌∷◌, arith, length, slice_index_or, set, length-set, ⊎_elim, add-zero, zero-add, take}
 use Rattle.std.proofs.Common.{length-take, ext_get_or, if◌then◌else◌}
+use Rattle.text.specs.Outcomes.{CallResult}
+use Rattle.record.specs.declared.refusal.Refusal.{Refusal}
 use Rattle.record.specs.Views.{marks_seen}
 use Rattle.record.specs.Limits.{lamp_limit, phase_open, is_lit}
 use Rattle.record.specs.Wanted.{Wanted}
@@ -31,7 +33,7 @@ use Rattle.record.proofs.LegalTold.{legal_settings, own_of_legal}
 use Rattle.meaning.specs.Meaning.{lamp_said, lamps_of}
 use Rattle.meaning.proofs.LampsSaid.{length-lamps_said}
 use Rattle.meaning.proofs.LampsTold.{lamps_answered, lamp_told}
-use Rattle.device.specs.Calls.{Result, reply_room, received_at}
+use Rattle.device.specs.Calls.{reply_room, received_at}
 use Rattle.device.proofs.CommandsReceived.{reply_to, command_received}
 use Rattle.controller.specs.Reading.{meaning, read_reply}
 use Rattle.demands.proofs.WrittenAndRead.{is_between, command_reads_back}
@@ -170,9 +172,9 @@ module _ (w : Wanted) (ms : List Bool) (es : List HistoryEvent) {stream : Stream
       between.none_held
       (Query Lamp) refl any_class between.in_phase in
       let lamps = lamps_answered d.settings d.own (omega (arith, count)) ∙ ap lamps_are lamps_same in
-      let seam = over_front result.reply m in
+      let seam = over_front result.bytes m in
       record {
-        bytes = seam ∙ ap (λ (r : Result Device). r.reply) said ∙ ap (reply_to (Query Lamp)) lamps;
+        bytes = seam ∙ ap (λ (c : CallResult Refusal ℕ Device). c.bytes) said ∙ ap (reply_to (Query Lamp)) lamps;
         read = ap (read_reply (Query Lamp)) seam ∙ back.said ∙ ap meaning lamps;
       }
 

@@ -2,9 +2,11 @@
 -- what set-up and opening leave; the rest stands in the files that it names.
 -- Assumes nothing.
 use Rattle.std.proofs.Common.{◌≡◌, ◌++◌, arith, codes, ℕ, refl, List, length}
+use Rattle.text.specs.Outcomes.{call_number, number_answered}
 use Rattle.pjlink.specs.declared.command.Command.TheVariants.{Query}
 use Rattle.pjlink.specs.declared.body.Body.TheVariants.{Name}
 use Rattle.pjlink.specs.Said.{text_is}
+use Rattle.record.specs.Refusals.{refusal_number}
 use Rattle.record.specs.Wanted.{Wanted}
 use Rattle.record.specs.declared.types.Device.{Device}
 use Rattle.record.specs.Given.{Given}
@@ -13,11 +15,11 @@ use Rattle.record.proofs.Calls.{set_up_by}
 use Rattle.record.proofs.OutOfRange.{each_in_range}
 use Rattle.controller.specs.Reading.{meaning}
 use Rattle.controller.proofs.NamesRead.{accepted_name_is_read}
-use Rattle.ours.specs.Board.{ours, lent_by}
+use Rattle.ours.specs.Board.{ours, opened_in}
 use Rattle.record.specs.Record.{start_device}
 use Rattle.record.proofs.Started.{set_up_started}
 use Rattle.device.specs.Calls.{greeting}
-use Rattle.device.proofs.Cases.{opened_placed_by}
+use Rattle.device.proofs.Cases.{opened_by_lem}
 use Rattle.demands.specs.CallsDone.{OpenedAs, Leaves}
 use Rattle.demands.proofs.KeepsRunning.{over_front}
 use Rattle.device.proofs.Short.{receiving_short}
@@ -49,8 +51,9 @@ module _ (d : Device) where
   pub opens : (random : ℕ) (m : List ℕ) → (ours.opening d random m).number ≡ 0
       → OpenedAs ours d random (ours.place_opened d random m) (ours.opening d random m)
   opens random m =
-      opened_placed_by d random (length m)
-      (λ p r. r.number ≡ 0 → OpenedAs ours d random p (lent_by r m)) (λ n z e. absurd (z e))
+      opened_by_lem d random (length m)
+      (λ c. call_number refusal_number c ≡ 0 → OpenedAs ours d random (number_answered c) (opened_in c m))
+      (λ n z e. absurd (z e))
       (λ h k c e. record {
         taken = refl;
         replied = over_front (greeting d.settings random) m;

@@ -5,6 +5,9 @@
 --                 memory as the call leaves it, and the record
 --   reply r       the reply: as many bytes of the memory as the length tells
 --   Board R       the calls, on a record R: it may hold more than the device record, which `shows` gives
+--   given_in why c      the call's result c in a board's numbers: the number, by `why`, and the record
+--   lent_in why taken c m   the same of one that borrows the reply memory m and takes so many bytes
+--   received_in c m, opened_in c m   of receiving, which answers how many bytes it takes, and of opening, which takes none
 --   ours          our calls: beside each, the function whose contract says this very definition
 -- Assumes nothing.
 use Rattle.std.specs.Prelude.{ℕ, Bool, List, Option, length, take}
@@ -19,8 +22,10 @@ use Rattle.record.specs.HostCalls.{fault_set, errors_set, mark_set}
 use Rattle.stored.specs.Form.{stored_by}
 use Rattle.stored.specs.Loading.{loaded_from}
 use Rattle.clock.specs.Passing.{time_passed}
-use Rattle.device.specs.Calls.{Result, opened_by, place_taken, closed_by, received_at}
-use Rattle.text.specs.Outcomes.{WrittenAs}
+use Rattle.device.specs.Calls.{opened_by, closed_by, received_at}
+use Rattle.text.specs.Outcomes.{CallResult, call_number, number_answered, WrittenAs}
+use Rattle.record.specs.Refusals.{refusal_number}
+use Rattle.record.specs.declared.refusal.Refusal.{Refusal}
 use Rattle.controller.specs.Writing.{written_command}
 use Rattle.controller.specs.Reading.{ReadAs, read_reply}
 use Rattle.pjlink.specs.Greetings.{read_greeting}
@@ -66,17 +71,23 @@ pub record Board (R : Type 0) : Type 0 where
   pub read_greeting : List ℕ → Option Greeting
 
 -- the results of the crates below; the reply's length is its own, and it lies over the lent memory
-abbrev pub closed_as : Result Device → Given Device
-closed_as r = record { number = r.number; device = r.device }
+abbrev pub given_in : {E A D : Type 0} → (E → ℕ) → CallResult E A D → Given D
+given_in why c = record { number = call_number why c; device = c.leaves }
 
-abbrev pub lent_by : Result Device → List ℕ → Lent Device
-lent_by r m = record {
-  number = r.number;
-  taken = r.taken;
-  length = length r.reply;
-  memory = over r.reply m;
-  device = r.device;
+abbrev pub lent_in : {E A D : Type 0} → (E → ℕ) → ℕ → CallResult E A D → List ℕ → Lent D
+lent_in why taken c m = record {
+  number = call_number why c;
+  taken = taken;
+  length = length c.bytes;
+  memory = over c.bytes m;
+  device = c.leaves;
 }
+
+abbrev pub received_in : CallResult Refusal ℕ Device → List ℕ → Lent Device
+received_in c m = lent_in refusal_number (number_answered c) c m
+
+abbrev pub opened_in : CallResult Refusal ℕ Device → List ℕ → Lent Device
+opened_in c m = lent_in refusal_number 0 c m
 
 abbrev pub wrote_by : WrittenAs → List ℕ → Wrote
 wrote_by w m = record { number = w.number; length = length w.bytes; memory = over w.bytes m }
@@ -87,12 +98,12 @@ ours = record {
   -- setup::set_up; what it cannot be lent, a class that there is not, is out of range
   set_up = λ w. set_up_given (set_up w);
   -- device::calls::open
-  opening = λ d random m. lent_by (opened_by d random (length m)) m;
-  place_opened = λ d random m. place_taken d (length m);
+  opening = λ d random m. opened_in (opened_by d random (length m)) m;
+  place_opened = λ d random m. number_answered (opened_by d random (length m));
   -- device::calls::close
-  closing = λ d p. closed_as (closed_by d p);
+  closing = λ d p. given_in refusal_number (closed_by d p);
   -- device::calls::receive
-  receive = λ d p bs m. lent_by (received_at d p bs (length m)) m;
+  receive = λ d p bs m. received_in (received_at d p bs (length m)) m;
   -- clock::pass::pass
   pass = λ d n. given_by d (time_passed d n);
   -- record::legality::Legal::set_fault (record/src/host.rt)

@@ -1,0 +1,34 @@
+-- What receiving and opening return in code is, in a board's numbers, what `ours` says of them.
+-- Assumes nothing.
+use Rattle.std.proofs.Common.{ℕ, ◌≡◌, refl, List, length, Result, Ok, Err}
+use Rattle.text.specs.Words.{over}
+use Rattle.text.specs.Outcomes.{CallResult, answer_number, number_answered}
+use Rattle.record.specs.declared.refusal.Refusal.{Refusal}
+use Rattle.record.specs.declared.types.Device.{Device}
+use Rattle.device.specs.Calls.{received_at, opened_by}
+use Rattle.device.specs.Outcomes.{opened_with, received_said, opened_said}
+use Rattle.device.proofs.Cases.{received_by, opened_by_lem}
+use Rattle.ours.specs.Board.{received_in, opened_in}
+use Rattle.ours.specs.Tied.{received_as, opened_as}
+
+module _ (d : Device) (m : List ℕ) where
+  pub received_returned : (p : ℕ) (bs : List ℕ) → let c = received_at d p bs (length m) in
+      received_as (received_said c) c.leaves (over c.bytes m) ≡ received_in c m
+  received_returned p bs =
+      received_by d p bs (length m)
+      (λ c. received_as (received_said c) c.leaves (over c.bytes m) ≡ received_in c m) (λ e some. refl) (λ h s t c. refl)
+
+  module _ (random : ℕ) where
+    pub opened_returned : let c = opened_by d random (length m) in
+        opened_as (opened_said c) c.leaves (over c.bytes m) ≡ opened_in c m
+    opened_returned =
+        opened_by_lem d random (length m)
+        (λ c. opened_as (opened_said c) c.leaves (over c.bytes m) ≡ opened_in c m) (λ e some. refl) (λ h s c. refl)
+
+    pub place_returned : let c = opened_by d random (length m) in
+        answer_number (λ o. o.place) (opened_said c) ≡ number_answered c
+    place_returned =
+        opened_by_lem d random (length m) (λ c. answer_number (λ o. o.place) (opened_said c) ≡ number_answered c)
+        (λ e some. refl) (λ h s c. refl)
+
+pub ruleset returned = (received_returned, opened_returned, place_returned)
