@@ -19,7 +19,7 @@
 -- Assumes nothing.
 use Rattle.std.specs.Prelude.{ℕ, ◌≤◌, ◌≡◌, Bool, true, false, not, ◌||◌, List, [], ◌∷◌, set, length, drop, nat_lt, ◌==◌}
 use Rattle.text.specs.Flags.{flag_of}
-use Rattle.text.specs.Rows.{RefusalRow, ◌when◌, first_of}
+use Rattle.text.specs.Rows.{RefusalRow, ◌when◌, first_of, numbers_of}
 use Rattle.text.specs.Scans.{is_same_by, itself}
 use Rattle.pjlink.specs.Forms.{erra_line, greeting_open, is_reply_form, head_body, reply_parameter}
 use Rattle.pjlink.specs.Commands.{body_of, command_class}
@@ -35,6 +35,7 @@ use Rattle.record.specs.Limits.{off}
 use Rattle.record.specs.HostCalls.{is_no_lamp, is_none_left}
 use Rattle.record.specs.SetUp.{is_in_range}
 use Rattle.record.specs.declared.types.Device.{Device}
+use Rattle.record.specs.Refusals.{refusal_number}
 use Rattle.stored.specs.Form.{storing_rows}
 use Rattle.stored.specs.Loading.{load_rows}
 use Rattle.device.specs.Calls.{receiving_rows, opening_rows, closing_rows}
@@ -133,7 +134,8 @@ pub record KeepsRunning {R : Type 0} (B : Board R) : Type 0 where
   pub reader_number : (c : Command) (l : List ℕ) (allowed : Bool) → IsAllowed c (reply_parameter l) allowed
       → reading_outcome_number (B.read_reply c l).outcome ≡ first_of (reader_rows c l allowed)
   pub greeting_reader_number : (l : List ℕ) → greeting_number (B.read_greeting l) ≡ first_of (greeting_rows l)
-  pub store_number : (d : R) (m : List ℕ) → (B.store d m).number ≡ first_of (storing_rows (B.shows d) (length m))
+  pub store_number : (d : R) (m : List ℕ) → (B.store d m).number
+      ≡ first_of (numbers_of refusal_number (storing_rows (B.shows d) (length m)))
   pub load_number : (s : List ℕ) → (B.load s).number ≡ first_of (load_rows s)
   -- "returns the device record it was given .., and writes no byte of the reply memory"
   pub refused_keeps : (d : R) (c : Call) → (number_of B d c ≡ 0 → ⊥)

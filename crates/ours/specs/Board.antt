@@ -7,7 +7,7 @@
 --   Board R       the calls, on a record R: it may hold more than the device record, which `shows` gives
 --   ours          our calls: beside each, the function whose contract says this very definition
 -- Assumes nothing.
-use Rattle.std.specs.Prelude.{ℕ, Bool, List, Option, length, take}
+use Rattle.std.specs.Prelude.{ℕ, Bool, List, Option, Result, length, take}
 use Rattle.text.specs.Words.{over}
 use Rattle.digest.specs.Md5.{md5_of}
 use Rattle.pjlink.specs.declared.command.Command.{Command}
@@ -20,8 +20,9 @@ use Rattle.stored.specs.Form.{stored_by}
 use Rattle.stored.specs.Loading.{loaded_from}
 use Rattle.clock.specs.Passing.{time_passed}
 use Rattle.device.specs.Calls.{Result, opened_by, place_taken, closed_by, received_at}
-use Rattle.text.specs.Outcomes.{WrittenAs}
-use Rattle.controller.specs.Writing.{written_command}
+use Rattle.text.specs.Outcomes.{CallResult, outcome_number, answer_number, with_length}
+use Rattle.record.specs.Refusals.{refusal_number}
+use Rattle.controller.specs.Writing.{written_command, unwritten_number}
 use Rattle.controller.specs.Reading.{ReadAs, read_reply}
 use Rattle.pjlink.specs.Greetings.{read_greeting}
 use Rattle.pjlink.specs.declared.greeting.Greeting.{Greeting}
@@ -78,8 +79,12 @@ lent_by r m = record {
   device = r.device;
 }
 
-abbrev pub wrote_by : WrittenAs → List ℕ → Wrote
-wrote_by w m = record { number = w.number; length = length w.bytes; memory = over w.bytes m }
+-- of what a call returned that writes, and the memory that it left
+abbrev pub wrote_as : {E : Type 0} → (E → ℕ) → Result ℕ E → List ℕ → Wrote
+wrote_as why r m = record { number = outcome_number why r; length = answer_number (λ n. n) r; memory = m }
+
+abbrev pub wrote_in : {E : Type 0} → (E → ℕ) → CallResult E (Unit {0}) (Unit {0}) → List ℕ → Wrote
+wrote_in why c m = wrote_as why (with_length c) (over c.bytes m)
 
 abbrev pub ours : Board Device
 ours = record {
@@ -102,13 +107,14 @@ ours = record {
   -- record::legality::Legal::set_mark (record/src/host.rt)
   set_mark = λ d lamp mark. given_by d (mark_set d lamp mark);
   -- stored::storing::store
-  store = λ d m. wrote_by (stored_by d (length m)) m;
+  store = λ d m. wrote_in refusal_number (stored_by d (length m)) m;
   -- stored::loading::load
   load = λ s. loaded_from s;
   -- digest::md5
   md5 = md5_of;
   -- controller::writing::write_command
-  write = λ c secured random password m. wrote_by (written_command c secured random password (length m)) m;
+  write = λ c secured random password m.
+      wrote_in unwritten_number (written_command c secured random password (length m)) m;
   -- controller::reading::read_reply
   read_reply = read_reply;
   -- pjlink::greeting::Greeting::read
