@@ -1,7 +1,6 @@
 // What set-up is lent, and whether it can be set up (RULES, The legal record).
 ghost use Rattle.std.specs.Prelude.{◌≡◌};
 ghost use Rattle.record.specs.SetUp.{is_setting_in_range, first_out_of_range, set_up};
-ghost use Rattle.record.specs.SetUpErrors.{check_of};
 ghost use Rattle.record.specs.Limits.{only_in_2};
 ghost use Rattle.record.specs.Rules.{are_names};
 ghost use Rattle.record.specs.Wanted.{wanted_of, names_in};
@@ -213,7 +212,7 @@ impl<'a> Wanted<'a> {
     /// Whether this can be set up, and else why not: a setting out of its range before a short password.
     #[tactic(auto, using(crate::proofs::Refusals::reasons))]
     pub fn check(&self) -> Result<(), SetUpError>
-        ensures { result ≡ check_of (set_up (wanted_settings self.now)) }
+        ensures { result ≡ (set_up (wanted_settings self.now)).says }
     {
         if let Some(setting) = self.first_out_of_range() {
             return Err(SetUpError::OutOfRange(setting));
