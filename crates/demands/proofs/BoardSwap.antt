@@ -20,7 +20,10 @@ use Rattle.stored.proofs.FormsLoad.{stored_in_range, stored_loads as form-again,
 use Rattle.stored.proofs.FormsLoad.{old_form_loads}
 use Rattle.stored.proofs.Fields.{bytes_all}
 use Rattle.stored.proofs.OneForm.{stored_again, forms_apart}
-use Rattle.ours.specs.Board.{ours, bytes_written}
+use Rattle.text.specs.Outcomes.{CallResult, call_number}
+use Rattle.record.specs.Refusals.{refusal_number}
+use Rattle.record.specs.declared.refusal.Refusal.{Refusal}
+use Rattle.ours.specs.Board.{ours, bytes_written, wrote_in}
 use Rattle.demands.specs.Calls.{Call, run}
 use Rattle.demands.specs.History.{HistoryEvent, Stage, steady, next_stage, marks_next, no_streams, history, marks_after}
 use Rattle.demands.specs.History.{burning_from, burning_seconds, stage_after, lamp_with}
@@ -41,9 +44,12 @@ module _ (v w : Wanted) (warm : v.warm ≡ w.warm) (cool : v.cool ≡ w.cool) wh
   burning_alike g ms k [] = refl
   burning_alike g ms k (e ∷ es) = grind (arith, burning_alike (next_stage w g e) (marks_next ms e) k es)
 
-module _ (d : Device) (m : List ℕ) (h : (stored_by d (length m)).number ≡ 0) where
+module _ (d : Device) (m : List ℕ) (h : call_number refusal_number (stored_by d (length m)) ≡ 0) where
   form_stored : bytes_written (ours.store d m) ≡ stored_form d
-  form_stored = over_front (stored_by d (length m)).bytes m ∙ (stored_told d (length m) h).form
+  form_stored =
+      ap (λ (r : CallResult Refusal (Unit {0}) (Unit {0})). bytes_written (wrote_in refusal_number r m))
+      (stored_told d (length m) h).form
+      ∙ over_front (stored_form d) m
 
   loads_again : loaded_from (stored_form d) ≡ acceptance_of (started_with (stored_of d) (marks_stored d))
   loads_again = form-again d (stored_told d (length m) h).legal

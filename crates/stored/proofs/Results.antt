@@ -6,7 +6,7 @@
 -- Assumes nothing.
 use Rattle.std.proofs.Common.{ℕ, ◌≤◌, ◌≡◌, Bool, true, false, ◌==◌, List, [], length, Option, Some, Result}
 use Rattle.std.proofs.Common.{sym, ◌∙◌, arith}
-use Rattle.text.specs.Rows.{first_of}
+use Rattle.text.specs.Rows.{first_of, numbers_of}
 use Rattle.words.specs.Bytes.{◌at◌}
 use Rattle.record.specs.Wanted.{Wanted}
 use Rattle.record.specs.Rules.{is_marks}
@@ -18,7 +18,9 @@ use Rattle.record.specs.declared.types.Device.{Device}
 use Rattle.record.proofs.LegalTold.{own_of_legal}
 use Rattle.record.proofs.HostKept.{is_legal-with_own}
 use Rattle.record.proofs.Started.{started_parts, started_legal}
-use Rattle.text.specs.Outcomes.{WrittenAs, nothing_written}
+use Rattle.text.specs.Outcomes.{CallResult, served_as, refused_as, call_number}
+use Rattle.record.specs.Refusals.{refusal_number}
+use Rattle.record.specs.declared.refusal.Refusal.{Refusal}
 use Rattle.stored.specs.Form.{form_version, FormSaid, form, stored_form, storing_rows, stored_by}
 use Rattle.stored.specs.Told.{loading_told}
 use Rattle.stored.specs.declared.error.LoadError.{LoadError}
@@ -81,26 +83,27 @@ one_outcome bs r s e f = told_apart r s (e ∙ sym f)
 -- ---- what storing gives
 
 module _ (d : Device) (room : ℕ) where
-  pub storing_number : (stored_by d room).number ≡ first_of (storing_rows d room)
+  pub storing_number : call_number refusal_number (stored_by d room)
+      ≡ first_of (numbers_of refusal_number (storing_rows d room))
   unfolding stored_by
   storing_number = grind arith
 
-  pub record StoredTold (r : WrittenAs) : Type 0 where
+  pub record StoredTold (r : CallResult Refusal (Unit {0}) (Unit {0})) : Type 0 where
     pub legal : is_legal d ≡ true
     pub fits : length (stored_form d) ≤ room
-    pub form : r.bytes ≡ stored_form d
+    pub form : r ≡ served_as tt (stored_form d) tt
 
-  pub storing_by : (P : WrittenAs → Type 0) → ((n : ℕ) → (n ≡ 0 → ⊥) → P (nothing_written n))
-      → (is_legal d ≡ true → length (stored_form d) ≤ room
-      → P (record { number = 0; bytes = stored_form d }))
+  pub storing_by : (P : CallResult Refusal (Unit {0}) (Unit {0}) → Type 0) → ((e : Refusal) → P (refused_as tt e))
+      → (is_legal d ≡ true → length (stored_form d) ≤ room → P (served_as tt (stored_form d) tt))
       → P (stored_by d room)
   unfolding stored_by
   storing_by P refuse accept = grind arith
 
-  pub refused_store_writes_nothing : ((stored_by d room).number ≡ 0 → ⊥) → (stored_by d room).bytes ≡ []
+  pub refused_store_writes_nothing : (call_number refusal_number (stored_by d room) ≡ 0 → ⊥)
+      → (stored_by d room).bytes ≡ []
   unfolding stored_by
   refused_store_writes_nothing h = grind (arith, h)
 
-  pub stored_told : (stored_by d room).number ≡ 0 → StoredTold (stored_by d room)
+  pub stored_told : call_number refusal_number (stored_by d room) ≡ 0 → StoredTold (stored_by d room)
   unfolding stored_by
   stored_told e = record { legal = grind (arith, e); fits = grind (arith, e); form = grind (arith, e) }
