@@ -38,7 +38,7 @@ use Rattle.pjlink.specs.Writings.{IsAllowed}
 use Rattle.record.specs.Wanted.{Wanted}
 use Rattle.record.specs.Legal.{is_legal}
 use Rattle.record.proofs.Results.{set_up_number as set-up-table, fault_number, errors_number, mark_number}
-use Rattle.record.proofs.Results.{refusal_leaves, set_up_refusal}
+use Rattle.record.proofs.Results.{fault_refusal, errors_refusal, mark_refusal, set_up_refusal}
 use Rattle.clock.proofs.Results.{time_passed-number, passed_refusal}
 use Rattle.device.proofs.Numbers.{received_at-number, opened_number, closed_number}
 use Rattle.controller.specs.Reading.{reading_outcome_number, means_it, erra_said, not_a_line, other_command, disallowed}
@@ -175,7 +175,9 @@ refused_keeps d c n =
       none_answered,
       closing_refused,
       passed_refusal,
-      refusal_leaves,
+      fault_refusal,
+      errors_refusal,
+      mark_refusal,
     )
 
 pub refused_writer : (c : Command) (secured : Bool) (random : ℕ) (password m : List ℕ)

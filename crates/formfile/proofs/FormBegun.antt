@@ -3,7 +3,7 @@
 use Rattle.std.proofs.Common.{◌≡◌, ℕ, true, List, [], ◌++◌, take, Option, Some, None, Result, Ok, Err, sym, ap}
 use Rattle.std.proofs.Common.{subst, ◌∙◌, IfSome, option_map}
 use Rattle.record.specs.Legal.{is_legal}
-use Rattle.record.specs.Given.{Given}
+use Rattle.ours.specs.Board.{Given}
 use Rattle.record.specs.declared.types.Device.{Device}
 use Rattle.stored.specs.Loading.{loaded_from}
 use Rattle.stored.specs.Told.{loading_told}
