@@ -14,12 +14,12 @@ use Rattle.floorlog.specs.Doing.{event_result, printed_line}
 
 unfoldable pub state_after : Device → List LogEvent → Device
 state_after d [] = d
-state_after d (e ∷ es) = state_after (event_result d e).device es
+state_after d (e ∷ es) = state_after (event_result d e).leaves es
 
 unfoldable pub lines_printed : ℕ → Device → List LogEvent → List ℕ
 lines_printed n d [] = []
 lines_printed n d (e ∷ es) =
-    printed_line (n + 1) e (event_result d e) ++ lines_printed (n + 1) (event_result d e).device es
+    printed_line (n + 1) e (event_result d e) ++ lines_printed (n + 1) (event_result d e).leaves es
 
 unfoldable pub sample_device : Device
 sample_device = (set_up (wanted_of [] [] [] [] [] (codes "11") (0 ∷ []) 20 60)).leaves
