@@ -6,25 +6,27 @@
 use Rattle.std.proofs.Common.{ℕ, ◌≤◌, ◌≡◌, ap, List, [], arith, length, take, drop, length-append, length-drop, Bool, ◌++◌}
 use Rattle.std.proofs.Common.{true, false, refl, ◌∙◌, not, ◌∷◌, if◌then◌else◌}
 use Rattle.std.proofs.Math.Seq.{take-append_seam, drop-append_seam}
+use Rattle.text.specs.Outcomes.{CallResult}
 use Rattle.text.specs.Words.{over}
 use Rattle.digest.proofs.Laws.{length-leading_digest}
 use Rattle.pjlink.specs.Commands.{command_line, body_of, command_class}
 use Rattle.pjlink.specs.declared.command.Command.{Command}
 use Rattle.pjlink.proofs.CommandLines.{command_length, length-command_line}
-use Rattle.record.specs.declared.types.Device.{Device}
+use Rattle.record.specs.declared.refusal.Refusal.{Refusal}
 use Rattle.record.specs.Refusals.{refusal_number}
+use Rattle.record.specs.declared.types.Device.{Device}
 use Rattle.stored.specs.Form.{stored_form}
 use Rattle.stored.proofs.Results.{storing_by, refused_store_writes_nothing, storing_number, loading_number}
 use Rattle.stored.proofs.Results.{refused_load_blank, accepted_legal}
 use Rattle.device.specs.Receiving.{digest_long}
-use Rattle.device.specs.Calls.{longest_reply, Result, received_at, opened_by}
+use Rattle.device.specs.Calls.{longest_reply, received_at, opened_by}
 use Rattle.device.proofs.Cases.{received_by, opened_by_lem}
 use Rattle.device.proofs.Counts.{received_within}
 use Rattle.device.proofs.Short.{longest_greeting, receiving_short, opening_short}
 use Rattle.controller.specs.Writing.{led_by, unwritten_number}
 use Rattle.controller.proofs.Cases.{written_by}
 use Rattle.pjlink.proofs.GreetingCases.{greeting_open_lem, greeting_refused, greeting_secured_lem, greeting_none}
-use Rattle.ours.specs.Board.{lent_by, wrote_in, ours}
+use Rattle.ours.specs.Board.{lent_in, wrote_in, ours}
 use Rattle.demands.specs.Calls.{Call, number_of, after}
 use Rattle.demands.specs.KeepsRunning.{Inside, WroteInside, StaysInside, rows_of, set_up_rows, writer_rows, reader_rows}
 use Rattle.demands.specs.KeepsRunning.{greeting_rows, Untouched, WritesNothing, KeepsRunning}
@@ -36,14 +38,14 @@ use Rattle.pjlink.specs.Writings.{IsAllowed}
 use Rattle.record.specs.Wanted.{Wanted}
 use Rattle.record.specs.Legal.{is_legal}
 use Rattle.record.proofs.Results.{set_up_number as set-up-table, fault_number, errors_number, mark_number}
-use Rattle.record.proofs.Results.{refusal_leaves, set_up_refusal}
+use Rattle.record.proofs.Results.{fault_refusal, errors_refusal, mark_refusal, set_up_refusal}
 use Rattle.clock.proofs.Results.{time_passed-number, passed_refusal}
 use Rattle.device.proofs.Numbers.{received_at-number, opened_number, closed_number}
 use Rattle.controller.specs.Reading.{reading_outcome_number, means_it, erra_said, not_a_line, other_command, disallowed}
 use Rattle.pjlink.specs.Greetings.{greets, random_in, read_greeting, greeting_number}
 use Rattle.controller.proofs.Refusals.{written_number, refusal_writes_nothing, number_means_nothing}
 use Rattle.controller.proofs.ReadsSound.{outcome_is_first}
-use Rattle.device.proofs.Refusals.{Refused, receiving_refused, opening_refused, closing_refused, opening_refused_place}
+use Rattle.device.proofs.Refusals.{Refused, receiving_refused, opening_refused, closing_refused, none_answered}
 use Rattle.record.proofs.HostKept.{fault_legal, errors_legal, mark_legal}
 use Rattle.clock.proofs.TimeLegal.{passed_legal}
 use Rattle.device.proofs.Legal.{receiving_legal, opening_legal, closing_legal}
@@ -66,23 +68,23 @@ led_by_long : (secured : Bool) (random : ℕ) (password : List ℕ) → length (
 led_by_long secured random password = grind (arith, length-leading_digest)
 
 module _ (d : Device) (m : List ℕ) where
-  abbrev Fits : Result Device → Type 0
-  Fits r = length r.reply ≤ length m
+  abbrev Fits : CallResult Refusal ℕ Device → Type 0
+  Fits r = length r.bytes ≤ length m
 
   received_fits : (p : ℕ) (bs : List ℕ) → Fits (received_at d p bs (length m))
   received_fits p bs =
-      received_by d p bs (length m) (λ r. length r.reply ≤ longest_reply → Fits r) (λ n z short. omega arith)
+      received_by d p bs (length m) (λ r. length r.bytes ≤ longest_reply → Fits r) (λ n z short. omega arith)
       (λ h s t c short. omega arith)
       (receiving_short d p bs (length m))
 
   opened_fits : (random : ℕ) → Fits (opened_by d random (length m))
   opened_fits random =
-      opened_by_lem d random (length m) (λ r. length r.reply ≤ longest_greeting → Fits r) (λ n z short. omega arith)
+      opened_by_lem d random (length m) (λ r. length r.bytes ≤ longest_greeting → Fits r) (λ n z short. omega arith)
       (λ h s c short. omega arith)
       (opening_short d random (length m))
 
-  lent_inside : (r : Result Device) → Fits r → Inside m (lent_by r m)
-  lent_inside r h = record { room = length-over r.reply m h; fits = h; later = over_later r.reply m }
+  lent_inside : (n : ℕ) (r : CallResult Refusal ℕ Device) → Fits r → Inside m (lent_in refusal_number n r m)
+  lent_inside n r h = record { room = length-over r.bytes m h; fits = h; later = over_later r.bytes m }
 
 pub stays_inside : (d : Device) (c : Call) → StaysInside ours d c
 stays_inside d c = grind (arith, lent_inside, opened_fits, received_fits, received_within)
@@ -158,13 +160,25 @@ module _ (l : List ℕ) where
   pub greeting_reader_number : greeting_number (ours.read_greeting l) ≡ first_of (greeting_rows l)
   greeting_reader_number = greeting_number-read_greeting _ _ _ refl refl refl
 
-lent_untouched : (d : Device) (r : Result Device) (m : List ℕ) → Refused d r → Untouched m (lent_by r m)
-lent_untouched d r m h = grind (arith, over_nothing)
+lent_untouched : (d : Device) (n : ℕ) (r : CallResult Refusal ℕ Device) (m : List ℕ) → Refused d r → n ≡ 0
+    → Untouched m (lent_in refusal_number n r m)
+lent_untouched d n r m h none = grind (arith, over_nothing)
 
 pub refused_keeps : (d : Device) (c : Call) → (number_of ours d c ≡ 0 → ⊥)
     → (after ours d c ≡ d) × WritesNothing ours d c
 refused_keeps d c n =
-    grind (arith, opening_refused, lent_untouched, receiving_refused, closing_refused, passed_refusal, refusal_leaves)
+    grind (
+      arith,
+      opening_refused,
+      lent_untouched,
+      receiving_refused,
+      none_answered,
+      closing_refused,
+      passed_refusal,
+      fault_refusal,
+      errors_refusal,
+      mark_refusal,
+    )
 
 pub refused_writer : (c : Command) (secured : Bool) (random : ℕ) (password m : List ℕ)
     → let w = ours.write c secured random password m in
@@ -192,7 +206,7 @@ ours_keeps_running = record {
   store_number = λ d m. storing_number d (length m);
   load_number = loading_number;
   refused_keeps = refused_keeps;
-  refused_opening_place = λ d random m. opening_refused_place d random (length m);
+  refused_opening_place = λ d random m. none_answered (opened_by d random (length m));
   refused_writer_writes_nothing = refused_writer;
   refused_store_writes_nothing = refused_store;
   refused_reader_means_nothing = number_means_nothing;

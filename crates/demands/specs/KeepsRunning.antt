@@ -32,10 +32,10 @@ use Rattle.record.specs.Rules.{is_long_enough, is_error_list}
 use Rattle.record.specs.Legal.{is_legal}
 use Rattle.record.specs.Record.{blank}
 use Rattle.record.specs.Limits.{off}
+use Rattle.record.specs.Refusals.{refusal_number}
 use Rattle.record.specs.HostCalls.{is_no_lamp, is_none_left}
 use Rattle.record.specs.SetUp.{is_in_range}
 use Rattle.record.specs.declared.types.Device.{Device}
-use Rattle.record.specs.Refusals.{refusal_number}
 use Rattle.stored.specs.Form.{storing_rows}
 use Rattle.stored.specs.Loading.{load_rows}
 use Rattle.device.specs.Calls.{receiving_rows, opening_rows, closing_rows}
@@ -57,9 +57,9 @@ mark_rows d k m =
     ∷ (7 when not (d.own.power == off)) ∷ []
 
 abbrev pub rows_of : Device → Call → List (RefusalRow ℕ)
-rows_of d (opens random m) = opening_rows d (length m)
-rows_of d (closes p) = closing_rows d p
-rows_of d (receives p bs m) = receiving_rows d p (length m)
+rows_of d (opens random m) = numbers_of refusal_number (opening_rows d (length m))
+rows_of d (closes p) = numbers_of refusal_number (closing_rows d p)
+rows_of d (receives p bs m) = numbers_of refusal_number (receiving_rows d p (length m))
 rows_of d (passes n) = (1 when is_illegal d) ∷ []
 rows_of d (faults fault) = (1 when is_illegal d) ∷ []
 rows_of d (reports errors) = (1 when is_illegal d) ∷ (3 when not (is_error_list errors)) ∷ []

@@ -1,7 +1,7 @@
 -- What an event came to says what is printed for it, in no more bytes than there is room for.
 -- Assumes nothing.
 use Rattle.std.proofs.Common.{ℕ, ◌≤◌, ◌≡◌, List, arith, length}
-use Rattle.std.proofs.Common.{length-append, length-take, codes}
+use Rattle.std.proofs.Common.{length-append, length-take, codes, Ok}
 use Rattle.std.proofs.Math.Seq.{take-append_seam}
 use Rattle.text.specs.Words.{over}
 use Rattle.text.proofs.Choices.{if_all}
@@ -10,18 +10,18 @@ use Rattle.numbers.proofs.Digits.{digits_at_most_10, long_at_most_20}
 use Rattle.record.specs.Refusals.{refusal_number}
 use Rattle.record.specs.declared.refusal.Refusal.{Refusal}
 use Rattle.record.specs.declared.types.Device.{Device}
-use Rattle.device.specs.Calls.{Result, reply_room}
+use Rattle.device.specs.Calls.{reply_room}
 use Rattle.floorlog.specs.declared.outcome.EventOutcome.{EventOutcome}
 use Rattle.floorlog.specs.declared.outcome.EventOutcome.TheVariants.{Served}
 use Rattle.floorlog.specs.Outcomes.{refusal_shown, outcome_text, IsReplyWithin}
-use Rattle.floorlog.specs.Doing.{outcome}
+use Rattle.floorlog.specs.Doing.{EventResult, outcome}
 
 refused : (r : Refusal) → refusal_number r ≡ 0 → ⊥
 refused r h = grind arith
 
-module _ (r : Result Device) where
+module _ (r : EventResult) where
   -- a call that was served, its reply over the memory
-  pub served_text : {n : ℕ} {m : List ℕ} (out : List ℕ) → 0 ≡ r.number → n ≡ length r.reply → m ≡ over r.reply out
+  pub served_text : {n : ℕ} {m : List ℕ} (out : List ℕ) → Ok tt ≡ r.says → n ≡ length r.bytes → m ≡ over r.bytes out
       → outcome_text (Served n) m ≡ outcome r
   served_text {n} {m} out e long put = grind (arith, take-append_seam)
 

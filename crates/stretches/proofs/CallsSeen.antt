@@ -14,11 +14,10 @@ use Rattle.record.specs.declared.refusal.Refusal.{Refusal}
 use Rattle.record.specs.Limits.{off}
 use Rattle.record.specs.Legal.{is_legal}
 use Rattle.record.specs.Wanted.{Wanted}
-use Rattle.record.specs.Given.{Given}
 use Rattle.record.specs.declared.types.Device.{Device}
 use Rattle.record.proofs.Calls.{mark_set_by}
 use Rattle.clock.proofs.Cases.{passed_accepted}
-use Rattle.ours.specs.Board.{ours}
+use Rattle.ours.specs.Board.{Given, ours}
 use Rattle.demands.specs.Calls.{Call, opens, closes, receives, passes, faults, reports, enables}
 use Rattle.demands.specs.History.{HistoryEvent, switched, a_second, mark_switched, Streams, seen, Stage, steady}
 use Rattle.demands.specs.History.{streams_after}

@@ -4,7 +4,7 @@ use Rattle.std.proofs.Common.{ℕ, ◌≤◌, ◌≡◌, refl, ◌∙◌, true, 
 use Rattle.record.specs.Legal.{is_legal}
 use Rattle.record.specs.Places.{connection_at}
 use Rattle.record.specs.declared.types.Device.{Device}
-use Rattle.record.specs.Given.{Given}
+use Rattle.ours.specs.Board.{Given}
 use Rattle.record.proofs.Calls.{mark_set_by, mark_not_legal}
 use Rattle.record.proofs.HostKept.{mark_legal}
 use Rattle.clock.specs.Passing.{seconds_most}
