@@ -13,7 +13,7 @@ use Rattle.std.specs.Prelude.{ℕ, length, Option, Result}
 use Rattle.text.specs.Outcomes.{outcome_number, answer_number}
 use Rattle.record.specs.declared.types.Device.{Device}
 use Rattle.device.specs.Outcomes.{Told}
-use Rattle.panel.specs.PanelCalls.{PanelAs}
+use Rattle.panel.specs.AnyPanel.{PanelAs}
 use Rattle.panel.specs.Hearing.{HeardAs, heard_kind, heard_reading}
 use Rattle.ours.specs.Board.{Given, Lent, Wrote}
 use Rattle.board.specs.declared.results.Changed.{Changed}
