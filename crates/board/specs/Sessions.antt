@@ -16,11 +16,10 @@ use Rattle.std.specs.Prelude.{ℕ, ◌+◌, Bool, true, not, ◌&&◌, List, [],
 use Rattle.text.specs.Rows.{RefusalRow, ◌when◌, by_rows}
 use Rattle.record.specs.Legal.{is_legal}
 use Rattle.record.specs.Places.{connection_at, is_closed}
-use Rattle.record.specs.Given.{Given}
 use Rattle.record.specs.declared.types.Connection.{Connection}
 use Rattle.record.specs.declared.types.Device.{Device}
 use Rattle.device.specs.Calls.{refused_by, reply_room, is_no_place}
-use Rattle.ours.specs.Board.{Lent, lent_by, closed_as, ours}
+use Rattle.ours.specs.Board.{Given, Lent, lent_by, closed_as, ours}
 use Rattle.demands.specs.Calls.{Call, opens}
 use Rattle.board.specs.declared.sessions.Passing.{Passing}
 

@@ -14,10 +14,11 @@ ghost use Rattle.std.specs.List.{list_all};
 ghost use Rattle.pjlink.specs.declared.command.Command.{Command};
 ghost use Rattle.codes.specs.declared.command.Coded.{Coded};
 ghost use Rattle.codes.specs.Commands.{coded_command};
-ghost use Rattle.text.specs.Outcomes.{nothing_written, told_written};
+ghost use Rattle.text.specs.Outcomes.{refused_as, call_number, with_length};
 ghost use Rattle.controller.specs.Writing.{command_room};
 ghost use Rattle.controller.specs.Writing.{unwritten_number};
 ghost use Rattle.controller.specs.declared.writing.Unwritten.{Unwritten};
+ghost use Rattle.controller.specs.declared.writing.Unwritten.TheVariants.{OutOfRange};
 ghost use Rattle.controller.specs.Reading.{ReadingOutcome, not_a_line, reading_outcome_number, read_reply};
 ghost use Rattle.codes.specs.ByCode.{written_by, read_by};
 ghost use Rattle.codes.specs.Readings.{flat_greeting, no_reading};
@@ -94,14 +95,14 @@ pub fn the_header_names_the_numbers()
 /// (RULES, The numbers a call gives). What is no command is 3; if the number is not 0, nothing is written or meant.
 pub fn a_refusal_has_its_number_only()
     ensures write_number { (m : Option Command) (secured : Bool) (random : ℕ) (password : List ℕ) (room : ℕ)
-        → (written_by m secured random password room).number
+        → call_number unwritten_number (written_by m secured random password room)
         ≡ (if nat_lt room command_room then 2 else if not (is_writable_by m secured password) then 3 else 0) }
     ensures nothing_written { (m : Option Command) (secured : Bool) (random : ℕ) (password : List ℕ) (room : ℕ)
-        → (written_by m secured random password room).number ≢ 0
+        → call_number unwritten_number (written_by m secured random password room) ≢ 0
         → (written_by m secured random password room).bytes ≡ [] }
     ensures no_command_written { (k : Coded) (secured : Bool) (random : ℕ) (password : List ℕ) (room : ℕ)
         → coded_command k ≡ None → command_room ≤ room
-        → written_by (coded_command k) secured random password room ≡ nothing_written 3 }
+        → written_by (coded_command k) secured random password room ≡ refused_as tt OutOfRange }
     ensures read_number { (c : Command) (l : List ℕ)
         → (read_by (Some c) l).number ≡ reading_outcome_number (read_reply c l).outcome }
     ensures nothing_meant { (m : Option Command) (l : List ℕ)
@@ -135,8 +136,8 @@ pub fn one_result()
     ensures command_written { (k : Coded) (secured : Bool) (random : ℕ) (password out : List ℕ)
         (r s : Written) (m n : List ℕ)
         → let w = written_by (coded_command k) secured random password (length out) in
-        (r ≡ writing_of (told_written w)) × (m ≡ over w.bytes out)
-        → (s ≡ writing_of (told_written w)) × (n ≡ over w.bytes out) → (r ≡ s) × (m ≡ n) }
+        (r ≡ writing_of unwritten_number (with_length w)) × (m ≡ over w.bytes out)
+        → (s ≡ writing_of unwritten_number (with_length w)) × (n ≡ over w.bytes out) → (r ≡ s) × (m ≡ n) }
     ensures reply_read { (k : Coded) (l : List ℕ) (r s : FlatReading)
         → r ≡ read_by (coded_command k) l → s ≡ read_by (coded_command k) l → r ≡ s }
     ensures greeting_read { (l : List ℕ) (r s : FlatGreeting)

@@ -113,16 +113,17 @@ call_by d (receives p bs m) P refused serves =
     received_by d p bs (length m) (λ c. P (gave_lent 0 (received_in c m)) c.leaves) (λ e. refused (refusal_number e))
     (λ legal enough there live. serves (record { legal = legal; there = (there, live) }))
 call_by d (passes n) P refused serves =
-    passed_by (λ r. P (gave_number r) r.device) d n (λ illegal. refused 1 (λ z. omega arith))
+    passed_by (λ c. P (gave_number (given_in refusal_number c)) c.leaves) d n (λ illegal. refused 1 (λ z. omega arith))
     (λ legal. subst (P (gives d (passes n))) (sym (parts_pass n d)) (serves (record { legal = legal; there = tt })))
 call_by d (faults fault) P refused serves =
-    fault_set_by d (λ r. P (gave_number r) r.device) fault (refused 1 (λ z. omega arith))
+    fault_set_by d (λ c. P (gave_number (given_in refusal_number c)) c.leaves) fault (refused 1 (λ z. omega arith))
     (λ legal. serves (record { legal = legal; there = tt }))
 call_by d (reports errors) P refused serves =
-    errors_set_by d (λ r. P (gave_number r) r.device) errors (refused 1 (λ z. omega arith))
-    (refused 3 (λ z. omega arith)) (λ legal right. serves (record { legal = legal; there = tt }))
+    errors_set_by d (λ c. P (gave_number (given_in refusal_number c)) c.leaves) errors
+    (refused 1 (λ z. omega arith)) (refused 3 (λ z. omega arith)) (λ legal right. serves (record { legal = legal; there = tt }))
 call_by d (enables lamp mark) P refused serves =
-    mark_set_by d (λ r. P (gave_number r) r.device) lamp mark refused
+    mark_set_by d (λ c. P (gave_number (given_in refusal_number c)) c.leaves) lamp mark
+    (λ e. refused (refusal_number e))
     (λ legal there left idle. serves (record { legal = legal; there = there }))
 
 -- two records from which the call finds the same rows: it is refused of both with one number, or served of both

@@ -8,7 +8,7 @@ use Rattle.std.proofs.Common.{ℕ, ◌+◌, ◌-◌, ◌≡◌, ap, ◌∙◌, B
 use Rattle.std.proofs.Common.{length-append, codes, refl, sym, subst, take, replicate, ◌==◌, eqb-true, eq-eqb, ne_eqb}
 use Rattle.std.proofs.Common.{◌≤◌, ◌<◌, zero-add, add_assoc, slice_index_or, if◌then◌else◌, Ok}
 use Rattle.std.proofs.Math.Seq.{drop-append_seam, take-append_seam}
-use Rattle.text.specs.Outcomes.{CallResult, number_answered}
+use Rattle.text.specs.Outcomes.{CallResult, call_number, number_answered}
 use Rattle.text.proofs.Choices.{if_yes, both_left}
 use Rattle.pjlink.specs.declared.body.Body.TheVariants.{Powr}
 use Rattle.pjlink.specs.Bodies.{is_body}
@@ -26,7 +26,6 @@ use Rattle.record.specs.Wanted.{Wanted}
 use Rattle.record.specs.Places.{connection_at, no_connection}
 use Rattle.record.specs.declared.types.Settings.{Settings}
 use Rattle.record.specs.declared.types.Own.{Own}
-use Rattle.record.specs.Given.{Given}
 use Rattle.record.specs.declared.types.Device.{Device}
 use Rattle.record.proofs.Calls.{fault_set_by, errors_set_by, mark_set_by, set_up_in_range, set_up_accepted}
 use Rattle.record.proofs.LegalTold.{own_of_legal}
@@ -172,8 +171,8 @@ module _ {w : Wanted} {g : Stage} {ms : List Bool} {n : ℕ → ℕ} {stream : S
   IsNoted c =
       Then w g ms n (seen ours d (streams_after ours d stream c) c) (streams_after ours d stream c) (after ours d c)
 
-  abbrev QuietBy : Given Device → Type 0
-  QuietBy r = Quiet r.device
+  abbrev QuietBy : CallResult Refusal (Unit {0}) Device → Type 0
+  QuietBy c = Quiet c.leaves
 
   pub noted : (c : Call) → IsNoted c
   noted (opens random m) = grind (arith, reconnected, opening_keeps_settings, opening_keeps_own, opening_tells)
@@ -183,7 +182,7 @@ module _ {w : Wanted} {g : Stage} {ms : List Bool} {n : ℕ → ℕ} {stream : S
   noted (reports errors) =
       errors_set_by d QuietBy errors kept kept (λ legal right. quiet _ refl refl refl refl refl a.last)
   noted (enables lamp mark) =
-      mark_set_by d Enabled lamp mark (λ n z. rw (ne_eqb n 0 z) kept)
+      mark_set_by d Enabled lamp mark (λ e z. rw (ne_eqb (refusal_number e) 0 z) kept)
       (λ legal there left idle.
       let own = own_of_legal d legal in
       let count : d.settings.lamp_count ≡ length w.lamps
@@ -192,17 +191,18 @@ module _ {w : Wanted} {g : Stage} {ms : List Bool} {n : ℕ → ℕ} {stream : S
       agrees_marked ms lamp mark g (mark_still g)
       (remarked a lamp mark (omega (arith, count)) (omega (arith, room, own.lamps.inside))))
     where
-      Enabled : Given Device → Type 0
-      Enabled r =
-          Then w g ms n (if r.number == 0 then mark_switched lamp mark ∷ [] else []) stream r.device
+      Enabled : CallResult Refusal (Unit {0}) Device → Type 0
+      Enabled c =
+          Then w g ms n (if call_number refusal_number c == 0 then mark_switched lamp mark ∷ [] else []) stream c.leaves
 
       mark_still : (h : Stage) → next_stage w h (mark_switched lamp mark) ≡ h
       mark_still (steady on) = refl
       mark_still (towards on k) = refl
   noted (passes k) = passed_by Passed d k (λ illegal. kept) (λ legal. agrees_seconds k legal a)
     where
-      Passed : Given Device → Type 0
-      Passed r = Then w g ms n (if r.number == 0 then replicate k a_second else []) stream r.device
+      Passed : CallResult Refusal (Unit {0}) Device → Type 0
+      Passed c =
+          Then w g ms n (if call_number refusal_number c == 0 then replicate k a_second else []) stream c.leaves
   noted (receives p bs m) =
       received_by d p bs (length m) (λ r. Told p bs m r → Received r) (λ e z t. rw (ne_eqb (refusal_number e) 0 z) kept)
       (λ h s i c t. handed p bs m (accepted_taken d p (takes d p bs)) refl

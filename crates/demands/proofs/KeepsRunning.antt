@@ -3,7 +3,7 @@
 -- given, takes nothing and writes nothing; and none makes a legal record otherwise. A refusal replies nothing; a
 -- reply has at most 136 bytes, and a digest with a command's line at most 168: no more than what the calls ask for.
 -- Assumes nothing.
-use Rattle.std.proofs.Common.{ℕ, ◌≤◌, ◌≡◌, ap, List, [], arith, length, take, drop, length-append, length-drop, Bool}
+use Rattle.std.proofs.Common.{ℕ, ◌≤◌, ◌≡◌, ap, List, [], arith, length, take, drop, length-append, length-drop, Bool, ◌++◌}
 use Rattle.std.proofs.Common.{true, false, refl, ◌∙◌, not, ◌∷◌, if◌then◌else◌}
 use Rattle.std.proofs.Math.Seq.{take-append_seam, drop-append_seam}
 use Rattle.text.specs.Outcomes.{CallResult}
@@ -15,7 +15,7 @@ use Rattle.pjlink.proofs.CommandLines.{command_length, length-command_line}
 use Rattle.record.specs.declared.refusal.Refusal.{Refusal}
 use Rattle.record.specs.Refusals.{refusal_number}
 use Rattle.record.specs.declared.types.Device.{Device}
-use Rattle.stored.specs.Form.{stored_by}
+use Rattle.stored.specs.Form.{stored_form}
 use Rattle.stored.proofs.Results.{storing_by, refused_store_writes_nothing, storing_number, loading_number}
 use Rattle.stored.proofs.Results.{refused_load_blank, accepted_legal}
 use Rattle.device.specs.Receiving.{digest_long}
@@ -23,10 +23,10 @@ use Rattle.device.specs.Calls.{longest_reply, received_at, opened_by}
 use Rattle.device.proofs.Cases.{received_by, opened_by_lem}
 use Rattle.device.proofs.Counts.{received_within}
 use Rattle.device.proofs.Short.{longest_greeting, receiving_short, opening_short}
-use Rattle.controller.specs.Writing.{led_by, written_command}
+use Rattle.controller.specs.Writing.{led_by, unwritten_number}
 use Rattle.controller.proofs.Cases.{written_by}
 use Rattle.pjlink.proofs.GreetingCases.{greeting_open_lem, greeting_refused, greeting_secured_lem, greeting_none}
-use Rattle.ours.specs.Board.{lent_in, ours}
+use Rattle.ours.specs.Board.{lent_in, wrote_in, ours}
 use Rattle.demands.specs.Calls.{Call, number_of, after}
 use Rattle.demands.specs.KeepsRunning.{Inside, WroteInside, StaysInside, rows_of, set_up_rows, writer_rows, reader_rows}
 use Rattle.demands.specs.KeepsRunning.{greeting_rows, Untouched, WritesNothing, KeepsRunning}
@@ -38,7 +38,7 @@ use Rattle.pjlink.specs.Writings.{IsAllowed}
 use Rattle.record.specs.Wanted.{Wanted}
 use Rattle.record.specs.Legal.{is_legal}
 use Rattle.record.proofs.Results.{set_up_number as set-up-table, fault_number, errors_number, mark_number}
-use Rattle.record.proofs.Results.{refusal_leaves, set_up_refusal}
+use Rattle.record.proofs.Results.{fault_refusal, errors_refusal, mark_refusal, set_up_refusal}
 use Rattle.clock.proofs.Results.{time_passed-number, passed_refusal}
 use Rattle.device.proofs.Numbers.{received_at-number, opened_number, closed_number}
 use Rattle.controller.specs.Reading.{reading_outcome_number, means_it, erra_said, not_a_line, other_command, disallowed}
@@ -89,27 +89,28 @@ module _ (d : Device) (m : List ℕ) where
 pub stays_inside : (d : Device) (c : Call) → StaysInside ours d c
 stays_inside d c = grind (arith, lent_inside, opened_fits, received_fits, received_within)
 
+wrote_inside : (m bs : List ℕ) (n : ℕ) → length bs ≤ length m
+    → WroteInside m (record { number = n; length = length bs; memory = over bs m })
+wrote_inside m bs n h = record { room = length-over bs m h; fits = h; later = over_later bs m }
+
 module _ (c : Command) (secured : Bool) (random : ℕ) (password m : List ℕ) where
-  written_fits : length (written_command c secured random password (length m)).bytes ≤ length m
-  written_fits =
-      written_by c secured random password (length m) (λ w. length w.bytes ≤ length m) (λ h. omega arith)
-      (λ h w. omega arith)
-      (λ h w. omega (
+  pub writer_stays_inside : WroteInside m (ours.write c secured random password m)
+  writer_stays_inside =
+      written_by c secured random password (length m) (λ r. WroteInside m (wrote_in unwritten_number r m))
+      (λ h. wrote_inside m [] 2 (omega arith)) (λ h w. wrote_inside m [] 3 (omega arith))
+      (λ h w. wrote_inside m (led_by secured random password ++ command_line c) 0
+      (omega (
         arith,
         length-append (led_by secured random password) (command_line c),
         led_by_long secured random password,
         length-command_line c,
         command_length c,
-      ))
-
-  pub writer_stays_inside : WroteInside m (ours.write c secured random password m)
-  writer_stays_inside = grind (arith, length-over, written_fits, over_later)
+      )))
 
 pub store_stays_inside : (d : Device) (m : List ℕ) → WroteInside m (ours.store d m)
 store_stays_inside d m =
-    let bs = (stored_by d (length m)).bytes in
-    let fits = storing_by d (length m) (λ r. length r.bytes ≤ length m) (λ n some. omega arith) (λ h l. l) in
-    record { room = length-over bs m fits; fits = fits; later = over_later bs m }
+    storing_by d (length m) (λ r. WroteInside m (wrote_in refusal_number r m))
+    (λ e. wrote_inside m [] (refusal_number e) (omega arith)) (λ h l. wrote_inside m (stored_form d) 0 l)
 
 pub number_is_first : (d : Device) (c : Call) → number_of ours d c ≡ first_of (rows_of d c)
 number_is_first d c =
@@ -174,7 +175,9 @@ refused_keeps d c n =
       none_answered,
       closing_refused,
       passed_refusal,
-      refusal_leaves,
+      fault_refusal,
+      errors_refusal,
+      mark_refusal,
     )
 
 pub refused_writer : (c : Command) (secured : Bool) (random : ℕ) (password m : List ℕ)

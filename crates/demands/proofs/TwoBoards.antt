@@ -22,7 +22,6 @@ use Rattle.record.specs.Refusals.{refusal_number}
 use Rattle.record.specs.Limits.{places_count}
 use Rattle.record.specs.Wanted.{Wanted}
 use Rattle.record.specs.Rules.{is_at_most}
-use Rattle.record.specs.Given.{Given}
 use Rattle.record.specs.Legal.{is_legal}
 use Rattle.record.specs.Places.{connection_at, with_place, is_closed}
 use Rattle.record.specs.declared.types.Own.{Own}
@@ -38,7 +37,7 @@ use Rattle.device.specs.Calls.{reply_room, new_connection}
 use Rattle.device.proofs.Cases.{received_by}
 use Rattle.controller.specs.Reading.{ReadAs, ReadingOutcome, means_it, erra_said, not_a_line, other_command, disallowed}
 use Rattle.controller.specs.Reading.{read_reply, reading_outcome_number}
-use Rattle.ours.specs.Board.{Board, Lent, Wrote, ours, reply, bytes_written}
+use Rattle.ours.specs.Board.{Board, Given, Lent, Wrote, ours, reply, bytes_written}
 use Rattle.demands.specs.Calls.{Call, opens, closes, receives, passes, faults, reports, enables, after, number_of}
 use Rattle.demands.specs.Calls.{gave_by, Gave}
 use Rattle.demands.specs.CallsDone.{own_by}

@@ -34,8 +34,10 @@ use Rattle.device.proofs.CommandsReceived.{command_result, command_received, com
 use Rattle.device.proofs.CommandsReceived.{higher_received, higher_received_secured}
 use Rattle.device.proofs.Legal.{line_legal}
 use Rattle.controller.specs.Reading.{meaning, read_reply}
-use Rattle.text.specs.Outcomes.{WrittenAs, CallResult, call_number, number_answered}
-use Rattle.controller.specs.Writing.{command_room, written_command, led_by}
+use Rattle.text.specs.Outcomes.{CallResult, served_as, call_number, number_answered}
+use Rattle.std.specs.Result.{is_ok}
+use Rattle.controller.specs.Writing.{command_room, written_command, led_by, unwritten_number}
+use Rattle.controller.specs.declared.writing.Unwritten.{Unwritten}
 use Rattle.controller.proofs.Cases.{written_plain, written_led, written_by}
 use Rattle.controller.proofs.ReadsBack.{reply_read}
 use Rattle.record.specs.declared.types.Settings.{Settings}
@@ -46,7 +48,7 @@ use Rattle.demands.specs.Greeted.{greeted_on}
 use Rattle.pjlink.proofs.GreetingsHeard.{open_heard, secured_heard}
 use Rattle.text.proofs.Orders.{le_or_lt}
 use Rattle.record.proofs.LowestClosed.{below_lowest}
-use Rattle.ours.specs.Board.{bytes_written, reply, wrote_by, ours}
+use Rattle.ours.specs.Board.{bytes_written, reply, wrote_in, ours}
 use Rattle.demands.specs.SpeaksPjlink.{BetweenLines, ByClass}
 use Rattle.demands.proofs.KeepsRunning.{over_front}
 
@@ -103,8 +105,8 @@ module _ (d : Device) (p : ℕ) (there : p < places_count) (legal : is_legal d �
 
   -- what is written is no refusal, and is read back
   module _ (memory : ℕ) (lent : command_room ≤ memory) where
-    abbrev Through : WrittenAs → Type 0
-    Through w = (w.number ≡ 0) × TakenAndRead d p c w.bytes (received_at d p w.bytes room)
+    abbrev Through : CallResult Unwritten (Unit {0}) (Unit {0}) → Type 0
+    Through w = (is_ok w.says ≡ true) × TakenAndRead d p c w.bytes (received_at d p w.bytes room)
 
     pub written_reads_back : here.phase ≡ phase_open → (random : ℕ) (password : List ℕ)
         → Through (written_command c false random password memory)
@@ -138,19 +140,21 @@ pub writes : (c : Command) (secured : Bool) (random : ℕ) (password m : List �
     w.number ≡ 0 → bytes_written w ≡ led_by secured random password ++ command_line c
 writes c secured random password m =
     written_by c secured random password (length m)
-    (λ w. w.number ≡ 0 → bytes_written (wrote_by w m) ≡ led_by secured random password ++ command_line c)
+    (λ r.
+    let w = wrote_in unwritten_number r m in
+    w.number ≡ 0 → bytes_written w ≡ led_by secured random password ++ command_line c)
     (λ h e. absurd (omega arith)) (λ h w e. absurd (omega arith)) (λ h w e. over_front _ m)
 
 module _ (d : Device) (p : ℕ) (c : Command) (paper m : List ℕ) (writable : is_command c ≡ true)
     (roomy : command_room ≤ length paper) (enough : reply_room ≤ length m) where
-  abbrev Told : WrittenAs → List ℕ → Type 0
-  Told w bs = ByClass ours d p c (wrote_by w paper) (ours.receive d p bs m)
+  abbrev Told : CallResult Unwritten (Unit {0}) (Unit {0}) → List ℕ → Type 0
+  Told w bs = ByClass ours d p c (wrote_in unwritten_number w paper) (ours.receive d p bs m)
 
   -- what was written stands on the paper, and is read back, or swallowed
-  on_paper : (bs : List ℕ) (w : WrittenAs) → w ≡ record { number = 0; bytes = bs }
+  on_paper : (bs : List ℕ) (w : CallResult Unwritten (Unit {0}) (Unit {0})) → w ≡ served_as tt bs tt
       → (command_class c ≤ d.settings.class_number → TakenAndRead d p c bs (received_at d p bs (length m)))
       → (d.settings.class_number < command_class c → received_at d p bs (length m) ≡ swallowed_at d p (length bs))
-      → Told w (bytes_written (wrote_by w paper))
+      → Told w (bytes_written (wrote_in unwritten_number w paper))
   on_paper bs w e back ignored = grind (arith, over_front)
 
   pub reads_back : (random : ℕ) (password : List ℕ) → BetweenLines phase_open d p

@@ -134,7 +134,8 @@ pub record KeepsRunning {R : Type 0} (B : Board R) : Type 0 where
   pub reader_number : (c : Command) (l : List ℕ) (allowed : Bool) → IsAllowed c (reply_parameter l) allowed
       → reading_outcome_number (B.read_reply c l).outcome ≡ first_of (reader_rows c l allowed)
   pub greeting_reader_number : (l : List ℕ) → greeting_number (B.read_greeting l) ≡ first_of (greeting_rows l)
-  pub store_number : (d : R) (m : List ℕ) → (B.store d m).number ≡ first_of (storing_rows (B.shows d) (length m))
+  pub store_number : (d : R) (m : List ℕ) → (B.store d m).number
+      ≡ first_of (numbers_of refusal_number (storing_rows (B.shows d) (length m)))
   pub load_number : (s : List ℕ) → (B.load s).number ≡ first_of (load_rows s)
   -- "returns the device record it was given .., and writes no byte of the reply memory"
   pub refused_keeps : (d : R) (c : Call) → (number_of B d c ≡ 0 → ⊥)

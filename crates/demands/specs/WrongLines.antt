@@ -23,8 +23,7 @@ use Rattle.stream.specs.Collecting.{empty_line}
 use Rattle.record.specs.Places.{connection_at, with_place}
 use Rattle.controller.specs.Reading.{ReadAs, meaning, outcome_alone, read_reply, ReadingOutcome, means_it, erra_said}
 use Rattle.controller.specs.Reading.{not_a_line, other_command, disallowed}
-use Rattle.ours.specs.Board.{Board, Lent, ours, received_in, opened_in}
-use Rattle.record.specs.Given.{Given}
+use Rattle.ours.specs.Board.{Board, Given, Lent, ours, received_in, opened_in}
 use Rattle.demands.specs.OursBut.{but_receive, but_reader}
 
 -- takes every byte, and says this to them

@@ -2,19 +2,18 @@
 -- what a call gives is what `ours` says (src/), and those of crate `board` that a host of the archive is told that.
 --   received_as r d m, opened_as r d m   what receiving and opening return, the record and the reply memory that they
 --                      leave
---   wrote_as t m       what the controller's writer says, or storing, and the memory that it leaves
---   wrote_told w       what the writing that gave w says
 --   given_as why r d   what a call returns that leaves the record d: its number, by `why`, and that record
+--   made_as why r      what a call returns that makes a record: its number, and that record, or the blank one
 -- Assumes nothing.
-use Rattle.std.specs.Prelude.{ℕ, List, Result}
-use Rattle.text.specs.Outcomes.{WrittenTold, outcome_number, answer_number}
+use Rattle.std.specs.Prelude.{ℕ, List, Result, Ok, Err}
+use Rattle.text.specs.Outcomes.{outcome_number, answer_number}
 use Rattle.record.specs.Refusals.{refusal_number}
 use Rattle.record.specs.declared.refusal.Refusal.{Refusal}
 use Rattle.record.specs.declared.types.Device.{Device}
 use Rattle.device.specs.declared.calls.Received.{Received}
 use Rattle.device.specs.declared.calls.Opened.{Opened}
-use Rattle.record.specs.Given.{Given}
-use Rattle.ours.specs.Board.{Lent, Wrote}
+use Rattle.record.specs.Record.{blank}
+use Rattle.ours.specs.Board.{Given, Lent}
 
 abbrev pub received_as : Result Received Refusal → Device → List ℕ → Lent Device
 received_as r d m = record {
@@ -34,11 +33,12 @@ opened_as r d m = record {
   device = d;
 }
 
-abbrev pub wrote_as : WrittenTold → List ℕ → Wrote
-wrote_as t m = record { number = t.number; length = t.length; memory = m }
-
-abbrev pub wrote_told : Wrote → WrittenTold
-wrote_told w = record { number = w.number; length = w.length }
-
 abbrev pub given_as : {E A : Type 0} → (E → ℕ) → Result A E → Device → Given Device
 given_as why r d = record { number = outcome_number why r; device = d }
+
+abbrev pub made_by : {E : Type 0} → Result Device E → Device
+made_by (Ok d) = d
+made_by (Err e) = blank
+
+abbrev pub made_as : {E : Type 0} → (E → ℕ) → Result Device E → Given Device
+made_as why r = given_as why r (made_by r)

@@ -4,9 +4,9 @@ ghost use Rattle.std.specs.Prelude.{◌≡◌};
 ghost use Rattle.text.specs.Outcomes.{answer_number};
 ghost use Rattle.record.specs.Refusals.{refusal_number};
 ghost use Rattle.setup.specs.Lent.{wanted_settings};
-ghost use Rattle.record.specs.Given.{set_up_given};
+ghost use Rattle.record.specs.SetUpErrors.{set_up_error_number};
 ghost use Rattle.ours.specs.Board.{ours};
-ghost use Rattle.ours.specs.Tied.{given_as, received_as, opened_as};
+ghost use Rattle.ours.specs.Tied.{given_as, made_as, received_as, opened_as};
 
 use clock::pass;
 use device::calls;
@@ -18,8 +18,9 @@ use record::types::Device;
 use setup::wanted::Wanted;
 
 /// Sets a projector up: what `ours.set_up` says. Refused as `setup::set_up` does.
+#[tactic(auto, using(crate::proofs::Returned::set_up_returned))]
 pub fn set_up(wanted: &Wanted<'_>) -> Result<Device, SetUpError>
-    ensures { set_up_given result ≡ ours.set_up (wanted_settings wanted.now) }
+    ensures { made_as set_up_error_number result ≡ ours.set_up (wanted_settings wanted.now) }
 {
     setup::set_up(wanted)
 }
@@ -57,7 +58,7 @@ pub fn receive(
 }
 
 /// Lets so many seconds pass: what `ours.pass` says. Refused: `NotLegal`.
-#[tactic(auto, using(record::proofs::GivenTold::told_given, clock::proofs::Cases::passed_illegal))]
+#[tactic(auto, using(clock::proofs::Cases::passed_illegal))]
 pub fn pass(device: &mut Device, seconds: u32) -> Result<(), Refusal>
     ensures { given_as refusal_number result device.new ≡ ours.pass device.old seconds }
 {
@@ -66,7 +67,7 @@ pub fn pass(device: &mut Device, seconds: u32) -> Result<(), Refusal>
 }
 
 /// Sets the fault mark: what `ours.set_fault` says. Refused: `NotLegal`.
-#[tactic(auto, using(record::proofs::GivenTold::told_given, record::proofs::Calls::fault_illegal))]
+#[tactic(auto, using(record::proofs::Calls::fault_illegal))]
 pub fn set_fault(device: &mut Device, mark: bool) -> Result<(), Refusal>
     ensures { given_as refusal_number result device.new ≡ ours.set_fault device.old mark }
 {
@@ -75,7 +76,7 @@ pub fn set_fault(device: &mut Device, mark: bool) -> Result<(), Refusal>
 }
 
 /// Sets the error status: what `ours.set_errors` says. Refused: `NotLegal`, then as `Legal::set_errors` does.
-#[tactic(auto, using(record::proofs::GivenTold::told_given, record::proofs::Calls::errors_illegal))]
+#[tactic(auto, using(record::proofs::Calls::errors_illegal))]
 pub fn set_errors(device: &mut Device, digits: &[u8]) -> Result<(), Refusal>
     ensures { given_as refusal_number result device.new ≡ ours.set_errors device.old digits.now }
 {
@@ -83,7 +84,7 @@ pub fn set_errors(device: &mut Device, digits: &[u8]) -> Result<(), Refusal>
 }
 
 /// Sets a lamp's enabled mark: what `ours.set_mark` says. Refused: `NotLegal`, then as `Legal::set_mark` does.
-#[tactic(auto, using(record::proofs::GivenTold::told_given, record::proofs::Calls::mark_not_legal))]
+#[tactic(auto, using(record::proofs::Calls::mark_not_legal))]
 pub fn set_mark(device: &mut Device, lamp: usize, mark: bool) -> Result<(), Refusal>
     ensures { given_as refusal_number result device.new ≡ ours.set_mark device.old lamp mark }
 {

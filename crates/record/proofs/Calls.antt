@@ -11,6 +11,7 @@ use Rattle.record.specs.Rules.{is_long_enough, is_error_list}
 use Rattle.record.specs.Record.{all_closed, settings_of, start_own, start_device, blank}
 use Rattle.record.specs.Legal.{is_legal}
 use Rattle.record.specs.SetUp.{is_in_range, is_set_up, first_out_of_range, set_up}
+use Rattle.record.specs.Refusals.{refusal_number}
 use Rattle.record.specs.SetUpErrors.{set_up_error_number}
 use Rattle.record.specs.Updates.{with_own, with_fault, with_errors, with_marks}
 use Rattle.record.specs.HostCalls.{fault_set, errors_set, is_none_left, mark_set}
@@ -120,7 +121,7 @@ module _ (d : Device) where
 
   -- a mark: refused, or one at least is left and the power is off
   pub mark_set_by : (P : CallResult Refusal (Unit {0}) Device → Type 0) (k : ℕ) (m : Bool)
-      → ((e : Refusal) → P (refused_as d e))
+      → ((e : Refusal) → (refusal_number e ≡ 0 → ⊥) → P (refused_as d e))
       → (is_legal d ≡ true → k < d.settings.lamp_count → is_none_left (set d.own.enabled k (flag_of m)) ≡ false
       → d.own.power ≡ off → P (served_as tt [] (with_own d (with_marks d.own (set d.own.enabled k (flag_of m))))))
       → P (mark_set d k m)

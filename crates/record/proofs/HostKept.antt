@@ -44,4 +44,4 @@ module _ (d : Device) (h : is_legal d ≡ true) where
 
   pub mark_legal : (k : ℕ) (m : Bool) → is_legal (mark_set d k m).leaves ≡ true
   mark_legal k m =
-      mark_set_by d (λ r. is_legal r.leaves ≡ true) k m (λ e. h) (λ l inside left idle. mark_kept k m inside left)
+      mark_set_by d (λ r. is_legal r.leaves ≡ true) k m (λ e some. h) (λ l inside left idle. mark_kept k m inside left)

@@ -96,4 +96,4 @@ module _ (d : Device) where
   errors_refusal ds = errors_set_by d Rests ds (λ h. refl) (λ h. refl) (λ l e h. absurd (h refl))
 
   pub mark_refusal : (k : ℕ) (m : Bool) → Rests (mark_set d k m)
-  mark_refusal k m = mark_set_by d Rests k m (λ e h. refl) (λ l i n o h. absurd (h refl))
+  mark_refusal k m = mark_set_by d Rests k m (λ e some h. refl) (λ l i n o h. absurd (h refl))

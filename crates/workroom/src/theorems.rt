@@ -1,6 +1,7 @@
 // What the two sides keep together: what is read at the face of C, and the panel joined with our projector. Nothing is
 // done here: that these functions have their contracts is that the theorems stand.
 ghost use Rattle.std.specs.Prelude.{◌≡◌, ◌<◌, ◌≤◌, ◌^◌, ℕ, true, List, ◌∷◌, false, length, Some, Ok};
+ghost use Rattle.std.specs.Result.{is_ok};
 ghost use Rattle.record.specs.declared.types.Device.{Device};
 ghost use Rattle.record.specs.Limits.{places_count, phase_open, phase_awaiting};
 ghost use Rattle.record.specs.Legal.{is_legal};
@@ -40,7 +41,7 @@ pub fn the_face_reads_back()
         → (connection_at d p).phase ≡ phase_open → (random : ℕ) (password : List ℕ)
         → let w = written_by (coded_command k) false random password memory in
         let r = received_at d p w.bytes room in
-        (w.number ≡ 0) × (r.taken ≡ length w.bytes)
+        (is_ok w.says ≡ true) × (r.taken ≡ length w.bytes)
         × (read_by (coded_command k) r.reply ≡ said_flat (answer_for d.settings d.own (Ok c))) }
     ensures read_back_secured { (d : Device) (p : ℕ) → p < places_count → is_legal d ≡ true
         → (connection_at d p).line ≡ empty_line → (k : Coded) (c : Command) → coded_command k ≡ Some c
@@ -49,7 +50,7 @@ pub fn the_face_reads_back()
         → (connection_at d p).phase ≡ phase_awaiting
         → let w = written_by (coded_command k) true (connection_at d p).random (set_up_password d.settings) memory in
         let r = received_at d p w.bytes room in
-        (w.number ≡ 0) × (r.taken ≡ length w.bytes)
+        (is_ok w.says ≡ true) × (r.taken ≡ length w.bytes)
         × (read_by (coded_command k) r.reply ≡ said_flat (answer_for d.settings d.own (Ok c))) }
     ensures greeting { (d : Device) (random room : ℕ) → is_legal d ≡ true → lowest_closed d.connections < places_count
         → reply_room ≤ room → random < 2 ^ 32 → let o = opened_by d random room in
