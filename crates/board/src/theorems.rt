@@ -60,7 +60,6 @@ ghost use Rattle.record.specs.Wanted.{Wanted};
 ghost use Rattle.record.specs.OutOfRange.{setting_position};
 ghost use Rattle.record.specs.SetUp.{first_out_of_range, set_up};
 ghost use Rattle.record.specs.SetUpErrors.{set_up_error_number, setting_told};
-ghost use Rattle.record.specs.Given.{set_up_given};
 ghost use Rattle.record.specs.declared.types.Setting.TheVariants.{Password};
 
 /// No two verdicts, no two answers of the planner and no two settings have the same numbers.
@@ -115,13 +114,13 @@ pub fn a_refusal_has_its_number_only()
 /// its range; if set-up gives 8, the password.
 pub fn the_setting_told_goes_with_the_number()
     ensures accepted_where_0 { (w : Wanted)
-        → setting_number (setting_told (set_up w)) ≡ 0 → (set_up_given (set_up w)).number ≡ 0 }
+        → setting_number (setting_told (set_up w).says) ≡ 0 → call_number set_up_error_number (set_up w) ≡ 0 }
     ensures is_0_where_accepted { (w : Wanted)
-        → (set_up_given (set_up w)).number ≡ 0 → setting_number (setting_told (set_up w)) ≡ 0 }
-    ensures first_out { (w : Wanted) → (set_up_given (set_up w)).number ≡ 3
-        → setting_number (setting_told (set_up w)) ≡ setting_number (first_out_of_range w) }
-    ensures short_password { (w : Wanted) → (set_up_given (set_up w)).number ≡ 8
-        → setting_number (setting_told (set_up w)) ≡ setting_position Password }
+        → call_number set_up_error_number (set_up w) ≡ 0 → setting_number (setting_told (set_up w).says) ≡ 0 }
+    ensures first_out { (w : Wanted) → call_number set_up_error_number (set_up w) ≡ 3
+        → setting_number (setting_told (set_up w).says) ≡ setting_number (first_out_of_range w) }
+    ensures short_password { (w : Wanted) → call_number set_up_error_number (set_up w) ≡ 8
+        → setting_number (setting_told (set_up w).says) ≡ setting_position Password }
 {}
 
 /// A later table of one place more than the earlier one is not compared, and nothing is written (RULES, Service).
@@ -161,7 +160,7 @@ pub fn one_result()
     ensures connection_lost { (p : Panel) (i : ℕ) (r s : PanelChanged)
         → r ≡ panel_changed_of (lost_at p i) → s ≡ panel_changed_of (lost_at p i) → r ≡ s }
     ensures setting { (w : Wanted) (r s : ℕ)
-        → r ≡ setting_number (setting_told (set_up w)) → s ≡ setting_number (setting_told (set_up w)) → r ≡ s }
+        → r ≡ setting_number (setting_told (set_up w).says) → s ≡ setting_number (setting_told (set_up w).says) → r ≡ s }
 {}
 
 /// A session's own bytes get what receiving gives, and its closing what closing gives. A call that names another

@@ -25,7 +25,9 @@ use Rattle.stream.proofs.LinesSpelt.{empty_spelt}
 use Rattle.meaning.specs.Meaning.{answer_for, after_request}
 use Rattle.meaning.proofs.CanBeSaid.{meant_fits, meant_can_be_said}
 use Rattle.device.specs.Receiving.{set_up_password, phase_start}
-use Rattle.device.specs.Calls.{Result, reply_room, received_at}
+use Rattle.text.specs.Outcomes.{CallResult, number_answered}
+use Rattle.record.specs.declared.refusal.Refusal.{Refusal}
+use Rattle.device.specs.Calls.{reply_room, received_at}
 use Rattle.device.proofs.CommandsReceived.{reply_to, command_result, command_received, command_received_secured}
 use Rattle.device.proofs.CommandsReceived.{swallowed_at, higher_received, higher_received_secured}
 use Rattle.device.proofs.Legal.{receiving_legal}
@@ -100,7 +102,7 @@ module _ (i p : ℕ) (w : Workroom) (j : IsJoined i p w) where
         ∙ line_sent_whole entry c command_room (entry_legal_there w.panel i (joined_served j)) writable (omega arith)
 
     -- how the device takes a line
-    abbrev Answers : (ℕ → Result Device) → List ℕ → Type 0
+    abbrev Answers : (ℕ → CallResult Refusal ℕ Device) → List ℕ → Type 0
     Answers r l = received_at device p l reply_room ≡ r (length l)
 
     unmarked : is_raised connection.line.overlong ≡ false
@@ -176,9 +178,9 @@ module _ (i p : ℕ) (w : Workroom) (j : IsJoined i p w) where
       asking = happened ours_panel i p w (asks k there back)
 
       -- a line that is taken whole, and what comes back of it
-      asked_as_lem : (r : ℕ → Result Device) → Answers r sent → (r (length sent)).taken ≡ length sent
+      asked_as_lem : (r : ℕ → Result Device) → Answers r sent → number_answered (r (length sent)) ≡ length sent
           → asking
-          ≡ room_of (delivered ours_panel i sending.panel back (r (length sent)).reply) (r (length sent)).device
+          ≡ room_of (delivered ours_panel i sending.panel back (r (length sent)).bytes) (r (length sent)).leaves
       asked_as_lem r taken whole = grind (arith, done_sending, handed_in_cuts, fit_live)
 
       phase_then : {o : Own} {q : Panel} → asking ≡ room_of q (left o) → (our_connection p asking).phase ≡ phase_open
@@ -224,7 +226,7 @@ module _ (i p : ℕ) (w : Workroom) (j : IsJoined i p w) where
             })
             j.place
             (record {
-              legal = ap (λ (r : Result Device). is_legal r.device) (sym (command_taken within))
+              legal = ap (λ (r : CallResult Refusal ℕ Device). is_legal r.leaves) (sym (command_taken within))
                   ∙ receiving_legal device j.acquainted.device p _ reply_room;
               settings = refl;
               stands = left_open own;

@@ -21,8 +21,10 @@ use Rattle.record.proofs.ConnectionsTold.{placed_here, placed_legal}
 use Rattle.record.proofs.Spelt.{closed_spelt}
 use Rattle.stream.specs.Collecting.{empty_line}
 use Rattle.device.specs.Receiving.{begun_in, set_up_password}
-use Rattle.device.specs.Calls.{Result, reply_room, place_taken, closed_by}
-use Rattle.device.proofs.Cases.{opened_greeted, opened_lowest, greeted_by_lem, closed_by_lem, closed_at_place}
+use Rattle.text.specs.Outcomes.{CallResult, number_answered}
+use Rattle.record.specs.declared.refusal.Refusal.{Refusal}
+use Rattle.device.specs.Calls.{reply_room, opened_by, closed_by}
+use Rattle.device.proofs.Cases.{opened_greeted, greeted_by_lem, closed_by_lem, closed_at_place}
 use Rattle.device.proofs.Legal.{greeted_legal, closing_legal}
 use Rattle.device.proofs.Untouched.{closing_keeps_settings, closing_keeps_own}
 use Rattle.record.proofs.LowestClosed.{below_lowest}
@@ -128,15 +130,14 @@ module _ (i : ℕ) (w : Workroom) where
         (both_open refl (λ none. omega arith) refl) refl refl (ap (greeted_as entry) open_heard)
 
     pub greeted_joined : (r : ℕ) → r < 2 ^ 32
-        → ShownAs i (place_taken device reply_room) w (shown_of entry) device.own (connected ours_panel i w r back)
+        → ShownAs i (number_answered (opened_by device r reply_room)) w (shown_of entry) device.own
+        (connected ours_panel i w r back)
     greeted_joined r word =
-        subst (λ (p : ℕ). ShownAs i p w (shown_of entry) device.own (connected ours_panel i w r back))
-        (sym (opened_lowest device r reply_room known.device (omega arith) apart.free))
-        (subst (λ (q : Result Device). ShownAs i lowest w (shown_of entry) device.own
+        subst (λ (q : CallResult Refusal ℕ Device). ShownAs i (number_answered q) w (shown_of entry) device.own
         (connected_as ours_panel i w.panel back q))
         (sym (opened_greeted device r reply_room known.device (omega arith) apart.free))
         (greeted_by_lem device.settings r JoinsBy (secured_joins r word) (open_joins r)
-        (greeted_legal device.settings r)))
+        (greeted_legal device.settings r))
 
 -- the connection is gone
 module _ (i p : ℕ) (w : Workroom) (known : IsAcquainted i w) (place : p < places_count) where
@@ -144,7 +145,7 @@ module _ (i p : ℕ) (w : Workroom) (known : IsAcquainted i w) (place : p < plac
   before = w.device
 
   abbrev gone : Device
-  gone = (closed_by before p).device
+  gone = (closed_by before p).leaves
 
   closed_there : is_closed (connection_at gone p) ≡ true
   closed_there = by (is_closed (connection_at before p)) refl
@@ -154,10 +155,10 @@ module _ (i p : ℕ) (w : Workroom) (known : IsAcquainted i w) (place : p < plac
 
       by : (t : Bool) → is_closed (connection_at before p) ≡ t → is_closed (connection_at gone p) ≡ true
       by true e =
-          closed_by_lem before p (λ r. is_closed (connection_at r.device p) ≡ true) (λ n other. e)
+          closed_by_lem before p (λ r. is_closed (connection_at r.leaves p) ≡ true) (λ n other. e)
           (λ legal there live. ap is_closed (closes ∙ closed_spelt))
       by false e =
-          ap (λ (r : Result Device). is_closed (connection_at r.device p)) (closed_at_place before p known.device place
+          ap (λ (r : CallResult Refusal (Unit {0}) Device). is_closed (connection_at r.leaves p)) (closed_at_place before p known.device place
           e)
           ∙ ap is_closed (closes ∙ closed_spelt)
 

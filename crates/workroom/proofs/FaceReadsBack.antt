@@ -14,8 +14,9 @@ use Rattle.record.specs.declared.types.Device.{Device}
 use Rattle.stream.specs.Collecting.{empty_line}
 use Rattle.meaning.specs.Meaning.{answer_for}
 use Rattle.device.specs.Receiving.{set_up_password}
-use Rattle.device.specs.Calls.{Result, reply_room, received_at, opened_by, place_taken}
-use Rattle.text.specs.Outcomes.{CallResult}
+use Rattle.record.specs.declared.refusal.Refusal.{Refusal}
+use Rattle.device.specs.Calls.{reply_room, received_at, opened_by}
+use Rattle.text.specs.Outcomes.{CallResult, number_answered}
 use Rattle.std.specs.Result.{is_ok}
 use Rattle.controller.specs.Writing.{command_room}
 use Rattle.controller.specs.declared.writing.Unwritten.{Unwritten}
@@ -30,10 +31,10 @@ use Rattle.codes.specs.declared.command.Coded.{Coded}
 use Rattle.codes.proofs.CodesBack.{command_writable}
 
 pub record Told (d : Device) (p : ℕ) (m : Option Command) (c : Command) (w : CallResult Unwritten (Unit {0}) (Unit {0}))
-    (r : Result Device) : Type 0 where
+    (r : CallResult Refusal ℕ Device) : Type 0 where
   pub written : is_ok w.says ≡ true
   pub taken : TakenAndRead d p c w.bytes r
-  pub read : read_by m r.reply ≡ said_flat (answer_for d.settings d.own (Ok c))
+  pub read : read_by m r.bytes ≡ said_flat (answer_for d.settings d.own (Ok c))
 
 module _ (d : Device) (p : ℕ) (there : p < places_count) (legal : is_legal d ≡ true)
     (between : (connection_at d p).line ≡ empty_line)
@@ -68,5 +69,5 @@ module _ (d : Device) (p : ℕ) (there : p < places_count) (legal : is_legal d �
 pub face_greets_back : (d : Device) (r room : ℕ) → is_legal d ≡ true → lowest_closed d.connections < places_count
     → reply_room ≤ room → r < 2 ^ 32
     → let o = opened_by d r room in
-    flat_greeting (read_greeting o.reply) ≡ flat_greeting (greeted_on (connection_at o.device (place_taken d room)))
+    flat_greeting (read_greeting o.bytes) ≡ flat_greeting (greeted_on (connection_at o.leaves (number_answered o)))
 face_greets_back d r room legal free enough word = grind (arith, opening_greets_back)
