@@ -18,7 +18,7 @@ use Rattle.record.proofs.Spelt.{closed_spelt}
 use Rattle.clock.proofs.ConnectionsAge.{untimed_stays}
 use Rattle.device.specs.Calls.{reply_room, new_connection, received_at, closed_by}
 use Rattle.device.proofs.Cases.{received_by, closed_by_lem, greeted_by_lem}
-use Rattle.device.proofs.Numbers.{received_at-number, closed_number}
+use Rattle.device.proofs.Numbers.{received_number, closed_number}
 use Rattle.ours.specs.Board.{Lent, ours, given_in, received_in}
 use Rattle.ours.specs.Tied.{given_as}
 use Rattle.demands.specs.Calls.{Call, opens, closes, receives, passes, faults, reports, enables, after, run}
@@ -48,11 +48,11 @@ module _ (d : Device) (p r : ℕ) where
         (λ k other same. ap refused_lent (sym same)) (λ h s t c same. absurd (some (sym same)))
 
     pub own_bytes : is_session d p r ≡ true → session_received d p r bs m ≡ ours.receive d p bs m
-    own_bytes its = grind (arith, came_refused, received_at-number)
+    own_bytes its = grind (arith, came_refused, received_number)
 
     pub session_number : (session_received d p r bs m).number
         ≡ first_of (numbers_of refusal_number (session_rows d p r (length m)))
-    session_number = grind (arith, received_at-number)
+    session_number = grind (arith, received_number)
 
     pub others_bytes : is_session d p r ≡ false
         → let t = session_received d p r bs m in
