@@ -172,7 +172,8 @@ pub fn a_session_is_served_alone()
         → session_received d p r bytes out ≡ ours.receive d p bytes out }
     ensures own_closing { (d : Device) (p r : ℕ) → is_session d p r ≡ true → session_closed d p r ≡ ours.closing d p }
     ensures number { (d : Device) (p r : ℕ) (bytes out : List ℕ)
-        → (session_received d p r bytes out).number ≡ first_of (session_rows d p r (length out)) }
+        → (session_received d p r bytes out).number
+        ≡ first_of (numbers_of refusal_number (session_rows d p r (length out))) }
     ensures others_bytes { (d : Device) (p r : ℕ) (bytes out : List ℕ) → is_session d p r ≡ false
         → let t = session_received d p r bytes out in
         (t.number ≢ 0) × (t.taken ≡ 0) × (t.length ≡ 0) × (t.memory ≡ out) × (t.device ≡ d) }

@@ -40,7 +40,7 @@ use Rattle.record.specs.Legal.{is_legal}
 use Rattle.record.proofs.Results.{set_up_number as set-up-table, fault_number, errors_number, mark_number}
 use Rattle.record.proofs.Results.{fault_refusal, errors_refusal, mark_refusal, set_up_refusal}
 use Rattle.clock.proofs.Results.{time_passed-number, passed_refusal}
-use Rattle.device.proofs.Numbers.{received_at-number, opened_number, closed_number}
+use Rattle.device.proofs.Numbers.{received_number, opened_number, closed_number}
 use Rattle.controller.specs.Reading.{reading_outcome_number, means_it, erra_said, not_a_line, other_command, disallowed}
 use Rattle.pjlink.specs.Greetings.{greets, random_in, read_greeting, greeting_number}
 use Rattle.controller.proofs.Refusals.{written_number, refusal_writes_nothing, number_means_nothing}
@@ -118,7 +118,7 @@ number_is_first d c =
       arith,
       opened_number,
       closed_number,
-      received_at-number,
+      received_number,
       time_passed-number,
       fault_number,
       errors_number,

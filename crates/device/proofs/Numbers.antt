@@ -10,10 +10,10 @@ use Rattle.device.specs.Calls.{receiving_rows, opening_rows, closing_rows, recei
 
 module _ (d : Device) where
   module _ (room : ℕ) where
-    pub received_at-number : (p : ℕ) (bs : List ℕ) → call_number refusal_number (received_at d p bs room)
+    pub received_number : (p : ℕ) (bs : List ℕ) → call_number refusal_number (received_at d p bs room)
         ≡ first_of (numbers_of refusal_number (receiving_rows d p room))
     unfolding received_at
-    received_at-number p bs = call_rows_number refusal_number d _ refl (receiving_rows d p room)
+    received_number p bs = call_rows_number refusal_number d _ refl (receiving_rows d p room)
 
     pub opened_number : (r : ℕ) → call_number refusal_number (opened_by d r room)
         ≡ first_of (numbers_of refusal_number (opening_rows d room))

@@ -1,11 +1,10 @@
--- The calls on the whole record, by the table of numbers (RULES, The numbers a call gives and Connection), each at one
--- of four places (RULES, Places: a place that there is not is 3; opening takes the lowest closed one, and none closed
--- is 6).
+-- The calls on the whole record, by tables of errors (RULES, The numbers a call gives and Connection), each at one of
+-- four places (RULES, Places: opening takes the lowest closed one).
 --   receiving_rows, opening_rows, closing_rows   when each call is refused, and for which error
---   received_at d p bs room  receiving the bytes bs at place p with so much reply memory: refused, or it answers how many
---                         bytes it takes, and writes the reply
---   opened_by d r room    opening with the random number r: refused, or it answers the place, and writes the greeting
---   closed_by d p         closing at place p: refused, or the closed connection
+--   received_at d p bs room  receiving the bytes bs at place p with so much reply memory: it answers how many bytes it
+--                            takes, and writes the reply
+--   opened_by d r room       opening with the random number r: it answers the place, and writes the greeting
+--   closed_by d p            closing at place p
 -- Assumes nothing.
 use Rattle.std.specs.Prelude.{ℕ, Bool, not, List, [], ◌∷◌, if◌then◌else◌, nat_le, nat_lt, ◌==◌}
 use Rattle.text.specs.Rows.{RefusalRow, ◌when◌, by_rows}
@@ -23,7 +22,7 @@ use Rattle.record.specs.declared.types.Connection.{Connection}
 use Rattle.record.specs.declared.types.Device.{Device}
 use Rattle.device.specs.Receiving.{Taken, begun_in, taken_in}
 
--- lent memory under this many bytes is 2: room for the longest reply that the standard allows
+-- the least reply memory: room for the longest reply that the standard allows
 abbrev pub reply_room : ℕ
 reply_room = reply_most
 
@@ -42,11 +41,12 @@ receiving_rows d p room =
 
 abbrev pub opening_rows : Device → ℕ → List (RefusalRow Refusal)
 opening_rows d room =
-    (NotLegal when not (is_legal d)) ∷ (NoRoom when nat_lt room reply_room) ∷ (NoPlace when is_no_place (lowest_closed d.connections))
-    ∷ []
+    (NotLegal when not (is_legal d)) ∷ (NoRoom when nat_lt room reply_room)
+    ∷ (NoPlace when is_no_place (lowest_closed d.connections)) ∷ []
 
 abbrev pub closing_rows : Device → ℕ → List (RefusalRow Refusal)
-closing_rows d p = (NotLegal when not (is_legal d)) ∷ (OutOfRange when is_no_place p) ∷ (Closed when is_closed (connection_at d p)) ∷ []
+closing_rows d p =
+    (NotLegal when not (is_legal d)) ∷ (OutOfRange when is_no_place p) ∷ (Closed when is_closed (connection_at d p)) ∷ []
 
 abbrev pub accepted_taken : Device → ℕ → Taken → CallResult Refusal ℕ Device
 accepted_taken d p t = served_as t.taken t.ended.reply (with_place d t.ended.own p t.ended.connection)

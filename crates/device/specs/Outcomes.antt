@@ -9,16 +9,16 @@ use Rattle.record.specs.declared.types.Device.{Device}
 use Rattle.device.specs.declared.calls.Received.{Received}
 use Rattle.device.specs.declared.calls.Opened.{Opened}
 
-abbrev pub received_with : Result ℕ Refusal → ℕ → Result Received Refusal
-received_with (Ok t) n = Ok (record { taken = t; length = n })
-received_with (Err e) n = Err e
+abbrev pub as_received : Result ℕ Refusal → ℕ → Result Received Refusal
+as_received (Ok t) n = Ok (record { taken = t; length = n })
+as_received (Err e) n = Err e
 
 abbrev pub received_said : CallResult Refusal ℕ Device → Result Received Refusal
-received_said c = received_with c.says (length c.bytes)
+received_said c = as_received c.says (length c.bytes)
 
-abbrev pub opened_with : Result ℕ Refusal → ℕ → Result Opened Refusal
-opened_with (Ok p) n = Ok (record { place = p; length = n })
-opened_with (Err e) n = Err e
+abbrev pub as_opened : Result ℕ Refusal → ℕ → Result Opened Refusal
+as_opened (Ok p) n = Ok (record { place = p; length = n })
+as_opened (Err e) n = Err e
 
 abbrev pub opened_said : CallResult Refusal ℕ Device → Result Opened Refusal
-opened_said c = opened_with c.says (length c.bytes)
+opened_said c = as_opened c.says (length c.bytes)

@@ -9,7 +9,6 @@ use Rattle.numbers.specs.Decimal.{digits}
 use Rattle.numbers.proofs.Digits.{digits_at_most_10, long_at_most_20}
 use Rattle.record.specs.Refusals.{refusal_number}
 use Rattle.record.specs.declared.refusal.Refusal.{Refusal}
-use Rattle.record.specs.declared.types.Device.{Device}
 use Rattle.device.specs.Calls.{reply_room}
 use Rattle.floorlog.specs.declared.outcome.EventOutcome.{EventOutcome}
 use Rattle.floorlog.specs.declared.outcome.EventOutcome.TheVariants.{Served}

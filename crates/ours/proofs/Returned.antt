@@ -1,6 +1,6 @@
 -- What set-up, loading, receiving and opening return in code is, in a board's numbers, what `ours` says of them.
 -- Assumes nothing.
-use Rattle.std.proofs.Common.{ℕ, ◌≡◌, refl, List, length, Result, Ok, Err}
+use Rattle.std.proofs.Common.{ℕ, ◌≡◌, refl, arith, List, length, Err}
 use Rattle.text.specs.Words.{over}
 use Rattle.text.specs.Outcomes.{CallResult, answer_number, number_answered, with_record}
 use Rattle.record.specs.Wanted.{Wanted}
@@ -11,10 +11,9 @@ use Rattle.record.proofs.Calls.{checked_refused}
 use Rattle.stored.specs.Loading.{loaded_from}
 use Rattle.stored.specs.Told.{load_error_number}
 use Rattle.stored.proofs.Results.{load_refused}
-use Rattle.record.specs.declared.refusal.Refusal.{Refusal}
 use Rattle.record.specs.declared.types.Device.{Device}
 use Rattle.device.specs.Calls.{received_at, opened_by}
-use Rattle.device.specs.Outcomes.{opened_with, received_said, opened_said}
+use Rattle.device.specs.Outcomes.{received_said, opened_said}
 use Rattle.device.proofs.Cases.{received_by, opened_by_lem}
 use Rattle.ours.specs.Board.{given_in, received_in, opened_in}
 use Rattle.ours.specs.Tied.{made_as, received_as, opened_as}
@@ -37,7 +36,8 @@ module _ (d : Device) (m : List ℕ) where
       received_as (received_said c) c.leaves (over c.bytes m) ≡ received_in c m
   received_returned p bs =
       received_by d p bs (length m)
-      (λ c. received_as (received_said c) c.leaves (over c.bytes m) ≡ received_in c m) (λ e some. refl) (λ h s t c. refl)
+      (λ c. received_as (received_said c) c.leaves (over c.bytes m) ≡ received_in c m)
+      (λ e some. refl) (λ h s t c. refl)
 
   module _ (random : ℕ) where
     pub opened_returned : let c = opened_by d random (length m) in

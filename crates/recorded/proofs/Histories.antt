@@ -7,13 +7,13 @@ use Rattle.text.specs.Outcomes.{call_number, number_answered}
 use Rattle.text.proofs.Choices.{if_no}
 use Rattle.record.specs.Refusals.{refusal_number}
 use Rattle.record.specs.declared.types.Device.{Device}
-use Rattle.device.specs.Calls.{Result as Came, reply_room, received_at}
+use Rattle.device.specs.Calls.{reply_room, received_at}
 use Rattle.ours.specs.Board.{ours, reply, received_in}
 use Rattle.demands.specs.Calls.{Call, opens, closes, receives, passes, faults, reports, enables, after}
 use Rattle.demands.specs.History.{HistoryEvent, Streams, going_on_at, power_set, streams_after, seen, history}
 use Rattle.recorded.specs.Recorded.{is_served, recorded_call, recorded}
 use Rattle.recorded.specs.Playing.{reply_memory, played_call}
-use Rattle.recorded.proofs.Same.{played_same, refused_leaves, reply_told, received_same}
+use Rattle.recorded.proofs.Same.{Came, played_same, refused_leaves, reply_told, received_same}
 
 module _ (d : Device) (w : Streams) where
   streams_same : (c : Call) → is_served d c ≡ true
@@ -22,9 +22,13 @@ module _ (d : Device) (w : Streams) where
   streams_same (closes p) h = refl
   streams_same (receives p bs m) h =
       let t = number_answered (received_at d p bs (length m)) in
-      ap (λ (q : Came). if call_number refusal_number q == 0 then going_on_at w p (take (number_answered q) (take t bs)) else w)
+      ap
+      (λ (q : Came). if call_number refusal_number q == 0 then going_on_at w p (take (number_answered q) (take t bs))
+      else w)
       (received_same d p bs (length m) (eqb-true _ 0 h))
-      ∙ ap (λ (l : List ℕ). if call_number refusal_number (received_at d p bs (length m)) == 0 then going_on_at w p l else w)
+      ∙ ap
+      (λ (l : List ℕ). if call_number refusal_number (received_at d p bs (length m)) == 0 then going_on_at w p l
+      else w)
       (take-take t t bs (le_refl t))
   streams_same (passes n) h = refl
   streams_same (faults m) h = refl
@@ -42,7 +46,8 @@ module _ (d : Device) (w : Streams) where
   seen_same (opens r m) h = refl
   seen_same (closes p) h = refl
   seen_same (receives p bs m) h =
-      power_set_seen p (received_at d p (take (number_answered (received_at d p bs (length m))) bs) reply_room) reply_memory
+      power_set_seen p (received_at d p (take (number_answered (received_at d p bs (length m))) bs) reply_room)
+      reply_memory
       ∙ ap (λ (q : Came). if call_number refusal_number q == 0 then power_set (w p) q.bytes else [])
       (received_same d p bs (length m) (eqb-true _ 0 h))
       ∙ sym (power_set_seen p (received_at d p bs (length m)) m)
