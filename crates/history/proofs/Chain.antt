@@ -2,7 +2,7 @@
 -- Assumes nothing.
 use Rattle.std.proofs.Common.{ℕ, ◌+◌, ◌<◌, ◌^◌, ◌≡◌, Bool, true, false, List, [], ◌∷◌, ◌++◌, arith}
 use Rattle.std.proofs.Common.{refl, sym, ap, ◌∙◌, nat_lt, ◌≤◌, le-ltb}
-use Rattle.std.proofs.Common.{subst, ◌==◌, if◌then◌else◌}
+use Rattle.std.proofs.Common.{subst, if◌then◌else◌}
 use Rattle.std.specs.Result.{is_ok}
 use Rattle.text.specs.Outcomes.{CallResult}
 use Rattle.text.proofs.Choices.{if_no}

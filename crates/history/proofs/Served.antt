@@ -1,7 +1,7 @@
 -- A call of the recorder that returns what is promised of a served one was served.
 -- Assumes nothing.
 use Rattle.std.specs.Result.{is_ok}
-use Rattle.std.proofs.Common.{ℕ, ◌≡◌, true, Result, Ok, Err, arith, refl}
+use Rattle.std.proofs.Common.{ℕ, ◌≡◌, true, Result, arith}
 use Rattle.text.specs.Outcomes.{CallResult, with_length}
 use Rattle.record.specs.declared.refusal.Refusal.{Refusal}
 use Rattle.history.specs.declared.recorder.Recorder.{Recorder}

@@ -136,7 +136,8 @@ still r d e s n small t fits h bytes next made log device left said =
     let (es, all, calls) = rest.says in
     record {
       stands = line_made r d e (entry_text e) ls 0 (step_written r d s n).leaves (device_by d s)
-          (host_left (step_written r d s n).leaves (device_by d s) ts) (told_again r d e t h fits) made log device rest.stands
+          (host_left (step_written r d s n).leaves (device_by d s) ts) (told_again r d e t h fits) made log device
+          rest.stands
           ∙ ap Some (left ts);
       says = (e ∷ es, (λ i. entry_back e t h i ∷ all i), said ts es calls);
     })
@@ -186,8 +187,10 @@ module _ (r : Recorder) (d : Device) (c : Call) (n : ℕ) (k : Small r) (t : IsT
       let s : IsPlayedSame d c = played_same d c done in
       let b : belongs d (recorded_call d c) ≡ true = both s.served s.there in
       let one : step_written r d (makes c) n ≡ recorded_by r entry n = if_yes _ _ done in
-      let same : recorder_then ≡ advanced r entry = ap (λ (w : CallResult Refusal (Unit {0}) Recorder). w.leaves) one ∙ next in
-      wrote (entry_text entry) (entry_no_lf entry h) (ap (λ (w : CallResult Refusal (Unit {0}) Recorder). w.bytes) one ∙ bytes)
+      let same : recorder_then ≡ advanced r entry
+      = ap (λ (w : CallResult Refusal (Unit {0}) Recorder). w.leaves) one ∙ next in
+      wrote (entry_text entry) (entry_no_lf entry h)
+      (ap (λ (w : CallResult Refusal (Unit {0}) Recorder). w.bytes) one ∙ bytes)
       (subst Small (sym same) (small_next r entry k h free))
       (λ ls ts rest.
       let (es, all, calls) = rest.says in

@@ -68,7 +68,8 @@ after_call : (r : Recorder) (d : Device) (c : Call) (n k : ℕ) (t : Bool) → i
     → Going (step_written r d (makes c) n).leaves k
 after_call r d c n k true h g =
     let e = call (recorded_call d c) in
-    subst (λ (w : CallResult Refusal (Unit {0}) Recorder). Going w.leaves k) (sym (if_yes (recorded_by r e n) (served_as tt [] r) h))
+    subst (λ (w : CallResult Refusal (Unit {0}) Recorder). Going w.leaves k)
+    (sym (if_yes (recorded_by r e n) (served_as tt [] r) h))
     (going_next r e (recorded_by r e n) k (grind (arith, nat_tests, g.file)) (tried r e n) g)
 after_call r d c n k false h g =
     subst (λ (w : CallResult Refusal (Unit {0}) Recorder). Going w.leaves k)
@@ -87,8 +88,8 @@ kept_from ((begins t, n) ∷ ss) r d g (room, rooms) few =
     )
 kept_from ((makes c, n) ∷ ss) r d g (room, rooms) (few, fews) = (
   λ done. call_kept d c done few r g.file (omega (arith, g.lines)) n room,
-  kept_from ss (step_written r d (makes c) n).leaves (after ours d c) (after_call r d c n (length ss) (is_served d c) refl g)
-      rooms fews,
+  kept_from ss (step_written r d (makes c) n).leaves (after ours d c)
+      (after_call r d c n (length ss) (is_served d c) refl g) rooms fews,
 )
 kept_from ((states, n) ∷ ss) r d g (room, rooms) few = (
   tt,

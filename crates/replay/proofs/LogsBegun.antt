@@ -65,14 +65,16 @@ step_begins r d (makes c) n more none kept later = by (is_served d c) refl
       | refused said bytes next ↦ absurd (grind (arith, kept e, said))
     ]
     by false e =
-        subst LogBegun (sym (ap (λ (w : CallResult Refusal (Unit {0}) Recorder). w.bytes ++ more) (if_no _ _ e))) (later (ap (λ (w : CallResult Refusal (Unit {0}) Recorder). w.leaves) (if_no _ _ e)))
+        subst LogBegun (sym (ap (λ (w : CallResult Refusal (Unit {0}) Recorder). w.bytes ++ more) (if_no _ _ e)))
+        (later (ap (λ (w : CallResult Refusal (Unit {0}) Recorder). w.leaves) (if_no _ _ e)))
 
 pub host_log_begins : (ss : List (HostStep × ℕ)) (r : Recorder) (d : Device) → r.file ≡ 0 → AreKept r d ss
     → LogBegun (host_log r d ss)
 host_log_begins [] r d none kept = nothing refl
 host_log_begins ((s, n) ∷ ss) r d none (one, kept) =
     step_begins r d s n (host_log (step_written r d s n).leaves (device_by d s) ss) none one
-    (λ same. host_log_begins ss (step_written r d s n).leaves (device_by d s) (ap (λ (q : Recorder). q.file) same ∙ none) kept)
+    (λ same.
+    host_log_begins ss (step_written r d s n).leaves (device_by d s) (ap (λ (q : Recorder). q.file) same ∙ none) kept)
 
 -- cut behind its first word, or later
 take_word : (n : ℕ) → 4 ≤ n → (rest : List ℕ)

@@ -74,7 +74,8 @@ module _ (v : ℕ) (known : is_other_version (v ∷ []) ≡ false) (marked : (v 
       ∙ ap (λ (s : List ℕ). contents (saying w s)) (if_no _ _ marked)
       ∙ contents_of w ok ms
 
-  marked_marks : call_number load_error_number (loaded_from (version_form v w ms)) ≡ 0 → is_marks_of (length w.lamps) ms ≡ true
+  marked_marks : call_number load_error_number (loaded_from (version_form v w ms)) ≡ 0
+      → is_marks_of (length w.lamps) ms ≡ true
   marked_marks e = grind (arith, marked_loads, e)
 
 module _ (w : Wanted) (ok : is_set_up w ≡ true) where
@@ -84,7 +85,8 @@ module _ (w : Wanted) (ok : is_set_up w ≡ true) where
         → loaded_from (form_of w ms) ≡ served_as tt [] (started_with w ms)
     form_loads h = marked_loads form_version refl refl w ok (λ e. absurd (cc)) ms ∙ if_yes _ _ h
 
-    pub form_marks : call_number load_error_number (loaded_from (form_of w ms)) ≡ 0 → is_marks_of (length w.lamps) ms ≡ true
+    pub form_marks : call_number load_error_number (loaded_from (form_of w ms)) ≡ 0
+        → is_marks_of (length w.lamps) ms ≡ true
     form_marks = marked_marks form_version refl refl w ok (λ e. absurd (cc)) ms
 
   -- the two before it
@@ -94,7 +96,8 @@ module _ (w : Wanted) (ok : is_set_up w ≡ true) where
           → loaded_from (marked_form_of w ms) ≡ served_as tt [] (started_with w ms)
       marked_form_loads h = marked_loads marked_version refl refl w ok (λ e. one) ms ∙ if_yes _ _ h
 
-      pub marked_form_marks : call_number load_error_number (loaded_from (marked_form_of w ms)) ≡ 0 → is_marks_of (length w.lamps) ms ≡ true
+      pub marked_form_marks : call_number load_error_number (loaded_from (marked_form_of w ms)) ≡ 0
+          → is_marks_of (length w.lamps) ms ≡ true
       marked_form_marks = marked_marks marked_version refl refl w ok (λ e. one) ms
 
     pub old_form_loads : loaded_from (old_form_of w) ≡ served_as tt [] (start_device w)

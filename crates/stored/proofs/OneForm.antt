@@ -78,8 +78,8 @@ old_enabled s e o =
     ∙ ap (λ (w : Wanted). replicate (length w.lamps) true) (sym (settings_stored s e))
 
 -- bytes of one version that load as one record are one
-pub forms_apart : (s t : List ℕ) → Bytes s → Bytes t → call_number load_error_number (loaded_from s) ≡ 0 → call_number load_error_number (loaded_from t) ≡ 0
-    → s at 0 ≡ t at 0
+pub forms_apart : (s t : List ℕ) → Bytes s → Bytes t → call_number load_error_number (loaded_from s) ≡ 0
+    → call_number load_error_number (loaded_from t) ≡ 0 → s at 0 ≡ t at 0
     → (loaded_from s).leaves ≡ (loaded_from t).leaves → s ≡ t
 unfolding form_bytes loaded_from
 forms_apart s t b c e f version same = grind (arith, stored_as_it_was)

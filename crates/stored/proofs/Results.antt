@@ -4,8 +4,8 @@
 --   IsAccepted s      an accepted load: the version is known, the form is all that stands there, the contents are legal
 --   StoredTold r      an accepted store: the record is legal, the memory has room, the bytes are the form's
 -- Assumes nothing.
-use Rattle.std.proofs.Common.{ℕ, ◌≤◌, ◌≡◌, Bool, true, false, ◌==◌, List, [], length, Option, Some, Result}
-use Rattle.std.proofs.Common.{sym, ◌∙◌, arith}
+use Rattle.std.proofs.Common.{ℕ, ◌≤◌, ◌≡◌, Bool, true, false, ◌==◌, List, [], length, Option, Some, Err}
+use Rattle.std.proofs.Common.{arith}
 use Rattle.text.specs.Rows.{first_of, numbers_of}
 use Rattle.words.specs.Bytes.{◌at◌}
 use Rattle.record.specs.Wanted.{Wanted}
@@ -46,7 +46,8 @@ module _ (s : List ℕ) where
     pub marks : are_marks (length (settings_in s).lamps) (mark_bytes_in s) ≡ true
 
   -- 20, 21, 22, 23, in that order, or 0
-  pub loading_number : call_number load_error_number (loaded_from s) ≡ first_of (numbers_of load_error_number (load_rows s))
+  pub loading_number : call_number load_error_number (loaded_from s)
+      ≡ first_of (numbers_of load_error_number (load_rows s))
   unfolding loaded_from
   loading_number = grind arith
 
@@ -73,7 +74,8 @@ module _ (s : List ℕ) where
   accepted_legal e = grind (arith, accepted_told, marks_are, accepted_set_up, is_legal-started_with)
 
   -- versions 1 and 2 are of Class 1 (RULES, Class 2)
-  pub older_is_class_1 : ((s at 0) == form_version) ≡ false → call_number load_error_number (loaded_from s) ≡ 0 → (settings_in s).class ≡ 1
+  pub older_is_class_1 : ((s at 0) == form_version) ≡ false → call_number load_error_number (loaded_from s) ≡ 0
+      → (settings_in s).class ≡ 1
   older_is_class_1 older e = (form_read s (accepted_told e).read).class older
 
 -- ---- what storing gives

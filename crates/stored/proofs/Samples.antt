@@ -1,6 +1,6 @@
 -- The printed forms of specs/Printed.antt are stored and loaded, and bytes that are none are refused, by computing.
 -- Assumes nothing.
-use Rattle.std.proofs.Common.{◌≡◌, length, refl}
+use Rattle.std.proofs.Common.{◌≡◌, [], length, refl}
 use Rattle.numbers.specs.Computing.{computing as number-computing}
 use Rattle.record.specs.Record.{start_device}
 use Rattle.text.specs.Outcomes.{served_as, call_number}

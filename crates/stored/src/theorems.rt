@@ -27,7 +27,8 @@ pub fn a_form_is_whole()
     ensures cut_short { (w : Wanted) → is_set_up w ≡ true → (ms : List Bool) (k : ℕ) → k < length (form_of w ms)
         → call_number load_error_number (loaded_from (take k (form_of w ms))) ≡ 21 }
     ensures cut_short_marked { (w : Wanted) → is_set_up w ≡ true → w.class ≡ 1 → (ms : List Bool) (k : ℕ)
-        → k < length (marked_form_of w ms) → call_number load_error_number (loaded_from (take k (marked_form_of w ms))) ≡ 21 }
+        → k < length (marked_form_of w ms)
+        → call_number load_error_number (loaded_from (take k (marked_form_of w ms))) ≡ 21 }
     ensures cut_short_old { (w : Wanted) → is_set_up w ≡ true → w.class ≡ 1 → (k : ℕ) → k < length (old_form_of w)
         → call_number load_error_number (loaded_from (take k (old_form_of w))) ≡ 21 }
     ensures left_over { (w : Wanted) → is_set_up w ≡ true → (ms : List Bool) (x : ℕ) (xs : List ℕ)
@@ -49,12 +50,14 @@ pub fn what_is_stored_loads()
 /// Bytes that load are their version's form of what they loaded, each lamp enabled in the oldest, and no others of that
 /// version load as the same record.
 pub fn a_form_is_one()
-    ensures stored_again { (s : List ℕ) → list_all (is_at_most 255) s ≡ true → call_number load_error_number (loaded_from s) ≡ 0
+    ensures stored_again { (s : List ℕ) → list_all (is_at_most 255) s ≡ true
+        → call_number load_error_number (loaded_from s) ≡ 0
         → version_form (s at 0) (stored_of (loaded_from s).leaves) (marks_stored (loaded_from s).leaves) ≡ s }
     ensures old_enabled { (s : List ℕ) → call_number load_error_number (loaded_from s) ≡ 0 → s at 0 ≡ old_version
         → marks_stored (loaded_from s).leaves ≡ replicate (length (stored_of (loaded_from s).leaves).lamps) true }
     ensures apart { (s t : List ℕ) → list_all (is_at_most 255) s ≡ true → list_all (is_at_most 255) t ≡ true
-        → call_number load_error_number (loaded_from s) ≡ 0 → call_number load_error_number (loaded_from t) ≡ 0 → s at 0 ≡ t at 0
+        → call_number load_error_number (loaded_from s) ≡ 0 → call_number load_error_number (loaded_from t) ≡ 0
+        → s at 0 ≡ t at 0
         → (loaded_from s).leaves ≡ (loaded_from t).leaves → s ≡ t }
 {}
 

@@ -1,4 +1,4 @@
-use Rattle.std.proofs.Common.{sym, ap, ◌∙◌, subst, OnOk}
+use Rattle.std.proofs.Common.{◌≡◌, sym, ap, ◌∙◌, subst, OnOk}
 use Rattle.text.specs.Outcomes.{CallResult}
 use Rattle.record.specs.declared.types.Device.{Device}
 use Rattle.stored.specs.Form.{form}
@@ -14,6 +14,7 @@ returns c =
     (none_over _ _ c.in_ok-end.ensures) in
     record {
       says = c.load_in.ensures.says ∙ sym (ap (λ (r : CallResult LoadError (Unit {0}) Device). r.says) whole);
-      device = subst (λ (r : CallResult LoadError (Unit {0}) Device). OnOk c.load_in.result (c.load_in.device.new ≡ r.leaves))
+      device = subst
+          (λ (r : CallResult LoadError (Unit {0}) Device). OnOk c.load_in.result (c.load_in.new.device ≡ r.leaves))
           (sym whole) c.load_in.ensures.device;
     }
