@@ -11,9 +11,10 @@ use Rattle.record.specs.declared.types.Settings.{Settings}
 use Rattle.record.specs.declared.types.Device.{Device}
 use Rattle.record.proofs.LegalTold.{own_of_legal}
 use Rattle.record.proofs.MarksTold.{marks_long}
+use Rattle.record.proofs.Calls.{set_up_accepted}
 use Rattle.record.proofs.Started.{started_parts}
-use Rattle.stored.specs.Form.{form_version, marked_form_of, stored_of, marks_stored, stored_form, stored_by}
-use Rattle.stored.proofs.Results.{stored_told, accepted_set_up, older_is_class_1}
+use Rattle.stored.specs.Form.{form_version, marked_form_of, old_form_of, stored_of, marks_stored, stored_form, stored_by}
+use Rattle.stored.proofs.Results.{StoredTold, stored_told, accepted_set_up, older_is_class_1}
 use Rattle.stored.specs.Loading.{started_with, loaded_from}
 use Rattle.stored.specs.Told.{load_error_number}
 use Rattle.stored.proofs.FormsLoad.{stored_in_range, stored_loads as form-again, marked_form_loads, marked_form_marks}
@@ -29,7 +30,7 @@ use Rattle.demands.specs.History.{HistoryEvent, Stage, steady, next_stage, marks
 use Rattle.demands.specs.History.{burning_from, burning_seconds, stage_after, lamp_with}
 use Rattle.demands.specs.CountsSeconds.{Beginning, loads, IsClass1, start_marks, IsAccepted, run_of, history_of}
 use Rattle.demands.specs.BoardSwap.{LoadsAs, BoardSwap}
-use Rattle.demands.proofs.KeepsRunning.{over_front}
+use Rattle.demands.proofs.KeepsRunning.{wrote_number, over_front}
 use Rattle.demands.proofs.Agrees.{Agrees}
 use Rattle.demands.proofs.HistoryTold.{history_told}
 
@@ -44,15 +45,18 @@ module _ (v w : Wanted) (warm : v.warm ≡ w.warm) (cool : v.cool ≡ w.cool) wh
   burning_alike g ms k [] = refl
   burning_alike g ms k (e ∷ es) = grind (arith, burning_alike (next_stage w g e) (marks_next ms e) k es)
 
-module _ (d : Device) (m : List ℕ) (h : call_number refusal_number (stored_by d (length m)) ≡ 0) where
+module _ (d : Device) (m : List ℕ) (h : (ours.store d m).number ≡ 0) where
+  told : StoredTold d (length m) (stored_by d (length m))
+  told = stored_told d (length m) (sym (wrote_number refusal_number (stored_by d (length m)) m) ∙ h)
+
   form_stored : bytes_written (ours.store d m) ≡ stored_form d
   form_stored =
       ap (λ (r : CallResult Refusal (Unit {0}) (Unit {0})). bytes_written (wrote_in refusal_number r m))
-      (stored_told d (length m) h).form
+      told.form
       ∙ over_front (stored_form d) m
 
   loads_again : loaded_from (stored_form d) ≡ served_as tt [] (started_with (stored_of d) (marks_stored d))
-  loads_again = form-again d (stored_told d (length m) h).legal
+  loads_again = form-again d told.legal
 
   stored_loads : LoadsAs ours (bytes_written (ours.store d m)) (stored_of d) (marks_stored d)
   stored_loads = grind (arith, form_stored, loads_again)
@@ -75,7 +79,7 @@ module _ (b : Beginning) (w : Wanted) (cs es : List Call) (m : List ℕ) (place 
   known = (history_told b w cs h).1
 
   legal : is_legal old ≡ true
-  legal = (stored_told old (length m) stored).legal
+  legal = (told old m stored).legal
 
   count : old.settings.lamp_count ≡ length w.lamps
   count = ap (λ (s : Settings). s.lamp_count) known.settings

@@ -6,7 +6,7 @@
 use Rattle.std.proofs.Common.{ℕ, ◌≤◌, ◌≡◌, ap, List, [], arith, length, take, drop, length-append, length-drop, Bool, ◌++◌}
 use Rattle.std.proofs.Common.{true, false, refl, ◌∙◌, not, ◌∷◌, if◌then◌else◌}
 use Rattle.std.proofs.Math.Seq.{take-append_seam, drop-append_seam}
-use Rattle.text.specs.Outcomes.{CallResult}
+use Rattle.text.specs.Outcomes.{CallResult, call_number, number_answered}
 use Rattle.text.specs.Words.{over}
 use Rattle.digest.proofs.Laws.{length-leading_digest}
 use Rattle.pjlink.specs.Commands.{command_line, body_of, command_class}
@@ -27,7 +27,7 @@ use Rattle.controller.specs.Writing.{led_by, unwritten_number}
 use Rattle.controller.proofs.Cases.{written_by}
 use Rattle.pjlink.proofs.GreetingCases.{greeting_open_lem, greeting_refused, greeting_secured_lem, greeting_none}
 use Rattle.ours.specs.Board.{lent_in, wrote_in, ours}
-use Rattle.demands.specs.Calls.{Call, number_of, after}
+use Rattle.demands.specs.Calls.{Call, opens, receives, number_of, after}
 use Rattle.demands.specs.KeepsRunning.{Inside, WroteInside, StaysInside, rows_of, set_up_rows, writer_rows, reader_rows}
 use Rattle.demands.specs.KeepsRunning.{greeting_rows, Untouched, WritesNothing, KeepsRunning}
 use Rattle.text.specs.Rows.{◌when◌, first_of}
@@ -87,7 +87,16 @@ module _ (d : Device) (m : List ℕ) where
   lent_inside n r h = record { room = length-over r.bytes m h; fits = h; later = over_later r.bytes m }
 
 pub stays_inside : (d : Device) (c : Call) → StaysInside ours d c
-stays_inside d c = grind (arith, lent_inside, opened_fits, received_fits, received_within)
+stays_inside d (opens random m) = lent_inside d m 0 _ (opened_fits d m random)
+stays_inside d (receives p bs m) =
+    (lent_inside d m (number_answered (received_at d p bs (length m))) _ (received_fits d m p bs),
+    received_within d p bs (length m))
+stays_inside d c = tt
+
+-- what a call that writes gives in numbers has its number
+pub wrote_number : {E : Type 0} (why : E → ℕ) (c : CallResult E (Unit {0}) (Unit {0})) (m : List ℕ)
+    → (wrote_in why c m).number ≡ call_number why c
+wrote_number why c m = grind arith
 
 wrote_inside : (m bs : List ℕ) (n : ℕ) → length bs ≤ length m
     → WroteInside m (record { number = n; length = length bs; memory = over bs m })
@@ -130,7 +139,8 @@ set_up_number = set-up-table
 
 pub writer_number : (c : Command) (secured : Bool) (random : ℕ) (password m : List ℕ)
     → (ours.write c secured random password m).number ≡ first_of (writer_rows c secured password m)
-writer_number c secured random password m = written_number c secured random password (length m)
+writer_number c secured random password m =
+    wrote_number unwritten_number _ m ∙ written_number c secured random password (length m)
 
 -- the outcomes in the order of the tests, and their numbers
 by_tests : (erra formed named allowed : Bool)
@@ -203,7 +213,7 @@ ours_keeps_running = record {
   writer_number = writer_number;
   reader_number = reader_number;
   greeting_reader_number = greeting_reader_number;
-  store_number = λ d m. storing_number d (length m);
+  store_number = λ d m. wrote_number refusal_number _ m ∙ storing_number d (length m);
   load_number = loading_number;
   refused_keeps = refused_keeps;
   refused_opening_place = λ d random m. none_answered (opened_by d random (length m));

@@ -126,6 +126,6 @@ pub outsider_reads_erra : (d : Device) (p : ℕ) (bs : List ℕ) (room : ℕ) (c
     k.phase ≡ phase_awaiting
     → let g = gathered_from (held_most k.phase) k.line bs in
     g.ended ≡ true → is_match d.settings k g.line ≡ false
-    → read_reply c (received_at d p bs room).reply ≡ outcome_alone erra_said
+    → read_reply c (received_at d p bs room).bytes ≡ outcome_alone erra_said
 outsider_reads_erra d p bs room c legal enough there phase cr unmatched =
     grind (arith, received_taken, unmatched_line_refused, erra_read)

@@ -188,4 +188,6 @@ pub greets_back : (d : Device) (random : ℕ) (m : List ℕ) → is_legal d ≡ 
     let p = ours.place_opened d random m in
     (r.number ≡ 0) × (ours.read_greeting (reply r) ≡ greeted_on (connection_at r.device p))
 greets_back d random m legal q there closed enough word =
-    grind (arith, below_lowest, le_or_lt, opening_greets_back, over_front)
+    let free : lowest_closed d.connections < places_count = grind (arith, below_lowest, le_or_lt) in
+    let back = opening_greets_back d random (length m) legal free enough word in
+    (back.0, ap read_greeting (over_front (opened_by d random (length m)).bytes m) ∙ back.1)

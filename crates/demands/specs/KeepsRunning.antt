@@ -38,6 +38,7 @@ use Rattle.record.specs.SetUp.{is_in_range}
 use Rattle.record.specs.declared.types.Device.{Device}
 use Rattle.stored.specs.Form.{storing_rows}
 use Rattle.stored.specs.Loading.{load_rows}
+use Rattle.stored.specs.Told.{load_error_number}
 use Rattle.device.specs.Calls.{receiving_rows, opening_rows, closing_rows}
 use Rattle.controller.specs.Writing.{command_room, is_writable}
 use Rattle.controller.specs.Reading.{reading_outcome_number}
@@ -136,7 +137,7 @@ pub record KeepsRunning {R : Type 0} (B : Board R) : Type 0 where
   pub greeting_reader_number : (l : List ℕ) → greeting_number (B.read_greeting l) ≡ first_of (greeting_rows l)
   pub store_number : (d : R) (m : List ℕ) → (B.store d m).number
       ≡ first_of (numbers_of refusal_number (storing_rows (B.shows d) (length m)))
-  pub load_number : (s : List ℕ) → (B.load s).number ≡ first_of (load_rows s)
+  pub load_number : (s : List ℕ) → (B.load s).number ≡ first_of (numbers_of load_error_number (load_rows s))
   -- "returns the device record it was given .., and writes no byte of the reply memory"
   pub refused_keeps : (d : R) (c : Call) → (number_of B d c ≡ 0 → ⊥)
       → (after B d c ≡ d) × WritesNothing B d c
