@@ -17,7 +17,7 @@ use Rattle.record.specs.declared.refusal.Refusal.{Refusal}
 use Rattle.record.specs.declared.types.Device.{Device}
 use Rattle.device.specs.declared.calls.Received.{Received}
 use Rattle.device.specs.declared.calls.Opened.{Opened}
-use Rattle.panel.specs.PanelCalls.{PanelAs}
+use Rattle.panel.specs.AnyPanel.{PanelAs}
 use Rattle.panel.specs.Hearing.{HeardAs, heard_kind, heard_reading}
 use Rattle.ours.specs.Board.{Given, Lent, Wrote}
 use Rattle.board.specs.declared.results.Changed.{Changed}

@@ -32,7 +32,7 @@ ghost use Rattle.board.specs.declared.lamps.Comparison.{Comparison};
 ghost use Rattle.board.specs.Results.{writing_of, panel_changed_of, panel_sent_of};
 ghost use Rattle.board.specs.declared.results.PanelChanged.{PanelChanged};
 ghost use Rattle.board.specs.declared.results.PanelSent.{PanelSent};
-ghost use Rattle.panel.specs.PanelCalls.{panel_made, no_panel, added_to, command_at, stepped_at, lost_at};
+ghost use Rattle.panel.specs.AnyPanel.{ours_panel};
 ghost use Rattle.panel.specs.declared.types.Panel.{Panel};
 ghost use Rattle.panel.specs.Refusals.{panel_refusal_number};
 ghost use Rattle.panel.specs.declared.refusal.PanelRefusal.{PanelRefusal};
@@ -148,17 +148,17 @@ pub fn one_result()
     ensures comparison { (es ls : List ℕ) (out : List ℤ) (r s : Comparison) (m n : List ℤ)
         → ComparesInto es ls out r m → ComparesInto es ls out s n → (r ≡ s) × (m ≡ n) }
     ensures panel_made { (r s : PanelChanged)
-        → r ≡ panel_changed_of (panel_made no_panel) → s ≡ panel_changed_of (panel_made no_panel) → r ≡ s }
+        → r ≡ panel_changed_of ours_panel.none → s ≡ panel_changed_of ours_panel.none → r ≡ s }
     ensures projector_added { (p : Panel) (password : List ℕ) (r s : PanelChanged)
-        → r ≡ panel_changed_of (added_to p password) → s ≡ panel_changed_of (added_to p password) → r ≡ s }
+        → r ≡ panel_changed_of (ours_panel.add p password) → s ≡ panel_changed_of (ours_panel.add p password) → r ≡ s }
     ensures command_sent { (p : Panel) (i : ℕ) (k : Coded) (out : List ℕ) (r s : PanelSent) (m n : List ℕ)
-        → let c = command_at p i k (length out) in
+        → let c = ours_panel.command p i k (length out) in
         (r ≡ panel_sent_of c) × (m ≡ over c.line out)
         → (s ≡ panel_sent_of c) × (n ≡ over c.line out) → (r ≡ s) × (m ≡ n) }
     ensures line_heard { (p : Panel) (i : ℕ) (l : List ℕ) (r s : PanelChanged)
-        → r ≡ panel_changed_of (stepped_at p i l) → s ≡ panel_changed_of (stepped_at p i l) → r ≡ s }
+        → r ≡ panel_changed_of (ours_panel.hear p i l) → s ≡ panel_changed_of (ours_panel.hear p i l) → r ≡ s }
     ensures connection_lost { (p : Panel) (i : ℕ) (r s : PanelChanged)
-        → r ≡ panel_changed_of (lost_at p i) → s ≡ panel_changed_of (lost_at p i) → r ≡ s }
+        → r ≡ panel_changed_of (ours_panel.lose p i) → s ≡ panel_changed_of (ours_panel.lose p i) → r ≡ s }
     ensures setting { (w : Wanted) (r s : ℕ)
         → r ≡ setting_number (setting_told (set_up w).says) → s ≡ setting_number (setting_told (set_up w).says) → r ≡ s }
 {}

@@ -1,8 +1,9 @@
 // `ours`'s storing and loading.
 ghost use Rattle.std.specs.Prelude.{◌≡◌};
 ghost use Rattle.record.specs.Refusals.{refusal_number};
-ghost use Rattle.stored.specs.Told.{loading_told};
+ghost use Rattle.stored.specs.Told.{load_error_number};
 ghost use Rattle.ours.specs.Board.{ours, wrote_as};
+ghost use Rattle.ours.specs.Tied.{made_as};
 
 use record::refusal::Refusal;
 use record::types::Device;
@@ -17,8 +18,9 @@ pub fn store(device: &Device, out: &mut [u8]) -> Result<usize, Refusal>
 }
 
 /// `loading::load` gives what `ours.load` says.
+#[tactic(auto, using(crate::proofs::Returned::load_returned))]
 pub fn load(bytes: &[u8]) -> Result<Device, LoadError>
-    ensures { loading_told result ≡ ours.load bytes.now }
+    ensures { made_as load_error_number result ≡ ours.load bytes.now }
 {
     loading::load(bytes)
 }

@@ -5,7 +5,7 @@
 --   reply_heard m l    where the command m is under way
 --   line_heard e l     the line l from the projector whose entry is e
 --   heard_by_code h    what the code says of a line, seen so
---   hearing_told r     the same of a call, which says nothing where it is refused
+--   hearing_said r     the same of a call
 --   heard_bytes h      the bytes of the parameter that the reader took: no more than a reading has room for
 --   heard_kind h, heard_reading h     what a line was as numbers (enum pj_heard_kind): its kind, and what the
 --                      reader takes from it, where it was read as a reply
@@ -56,9 +56,9 @@ heard_by_code code.NoGreeting = no_greeting
 heard_by_code code.Late = too_late
 heard_by_code (code.Reply r) = replies (read_as r)
 
-abbrev pub hearing_told : Result Heard PanelRefusal → Option HeardAs
-hearing_told (Ok h) = Some (heard_by_code h)
-hearing_told (Err r) = None
+abbrev pub hearing_said : Result Heard PanelRefusal → Result HeardAs PanelRefusal
+hearing_said (Ok h) = Ok (heard_by_code h)
+hearing_said (Err r) = Err r
 
 abbrev pub heard_bytes : HeardAs → List ℕ
 heard_bytes (replies r) = said_bytes r.said

@@ -1,6 +1,6 @@
 // What is proved beside the contracts of the functions. Nothing is done here: that these functions have their contracts
 // is that the theorems stand.
-ghost use Rattle.std.specs.Prelude.{◌≡◌, ◌<◌, ◌≤◌, ◌∷◌, ◌++◌, true, List, Bool, ℕ, length, take, replicate, Result};
+ghost use Rattle.std.specs.Prelude.{◌≡◌, ◌<◌, ◌≤◌, [], ◌∷◌, ◌++◌, true, List, Bool, ℕ, length, take, replicate, Result};
 ghost use Rattle.std.specs.List.{list_all};
 ghost use Rattle.words.specs.Bytes.{◌at◌};
 ghost use Rattle.record.specs.Rules.{is_at_most};

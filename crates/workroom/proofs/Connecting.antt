@@ -21,7 +21,7 @@ use Rattle.record.proofs.ConnectionsTold.{placed_here, placed_legal}
 use Rattle.record.proofs.Spelt.{closed_spelt}
 use Rattle.stream.specs.Collecting.{empty_line}
 use Rattle.device.specs.Receiving.{begun_in, set_up_password}
-use Rattle.text.specs.Outcomes.{CallResult, number_answered}
+use Rattle.text.specs.Outcomes.{CallResult, call_number, number_answered}
 use Rattle.record.specs.declared.refusal.Refusal.{Refusal}
 use Rattle.device.specs.Calls.{reply_room, opened_by, closed_by}
 use Rattle.device.proofs.Cases.{opened_greeted, greeted_by_lem, closed_by_lem, closed_at_place}
@@ -35,9 +35,11 @@ use Rattle.panel.specs.Entries.{Talk, shown_of, password_in, greeted_open, greet
 use Rattle.panel.specs.Passwords.{password_room}
 use Rattle.panel.specs.LegalPanels.{panel_most, is_panel}
 use Rattle.panel.specs.Stepping.{with_talk, greeted_as}
-use Rattle.panel.specs.PanelCalls.{PanelAs, entry_at, grown_by, added_to, stepped_at}
+use Rattle.panel.specs.PanelCalls.{entry_at, grown_by, added_to, stepped_at}
 use Rattle.panel.specs.declared.types.PanelEntry.{PanelEntry}
+use Rattle.panel.specs.Refusals.{panel_refusal_number}
 use Rattle.panel.specs.declared.types.Panel.{Panel}
+use Rattle.panel.specs.declared.refusal.PanelRefusal.{PanelRefusal}
 use Rattle.panel.proofs.Cases.{added_by, added_done}
 use Rattle.panel.proofs.PanelsLegal.{added_stays_legal}
 use Rattle.panel.proofs.PanelsTold.{panel_told}
@@ -80,7 +82,7 @@ module _ (i : ℕ) (w : Workroom) where
         (between : c.line ≡ empty_line) (rests : is_raised t.under_way ≡ false)
         (heard : greeted_as entry (read_greeting l) ≡ with_talk entry t) where
       abbrev after : Panel
-      after = (stepped_at w.panel i l).panel
+      after = (stepped_at w.panel i l).leaves
 
       entry_then : entry_at after i ≡ with_talk entry t
       entry_then = grind (arith, entry_at-stepped_at, known_served, step_greets)
@@ -112,7 +114,7 @@ module _ (i : ℕ) (w : Workroom) where
 
     -- a greeting, which the panel hears whole, as the talk t
     joins : (g : List ℕ) (c : Connection) (t : Talk)
-        → delivered ours_panel i w.panel back g ≡ (stepped_at w.panel i g).panel → Fit t c
+        → delivered ours_panel i w.panel back g ≡ (stepped_at w.panel i g).leaves → Fit t c
         → c.line ≡ empty_line → is_raised t.under_way ≡ false → greeted_as entry (read_greeting g) ≡ with_talk entry t
         → JoinsBy g c
     joins g c t whole fits between rests heard legal =
@@ -183,10 +185,10 @@ module _ (i p : ℕ) (w : Workroom) (known : IsAcquainted i w) (place : p < plac
 
 -- a projector just added
 module _ (p : Panel) (s : List ℕ) (d : Device) where
-  abbrev Begun : PanelAs → Type 0
-  Begun r = r.number ≡ 0 → is_legal d ≡ true → lowest_closed d.connections < places_count → set_up_password d.settings
-      ≡ s
-      → BegunAs p.count (room_of r.panel d)
+  abbrev Begun : CallResult PanelRefusal (Unit {0}) Panel → Type 0
+  Begun r = call_number panel_refusal_number r ≡ 0 → is_legal d ≡ true → lowest_closed d.connections < places_count
+      → set_up_password d.settings ≡ s
+      → BegunAs p.count (room_of r.leaves d)
 
   module _ (legal : is_panel p ≡ true) (word : is_password s ≡ true) (free : p.count < panel_most) where
     abbrev grown : Panel
@@ -197,7 +199,8 @@ module _ (p : Panel) (s : List ℕ) (d : Device) where
 
     grown_legal : is_panel grown ≡ true
     grown_legal =
-        ap (λ (r : PanelAs). is_panel r.panel) (sym (added_done p s legal word free)) ∙ added_stays_legal p legal s
+        ap (λ (r : CallResult PanelRefusal (Unit {0}) Panel). is_panel r.leaves) (sym (added_done p s legal word free))
+        ∙ added_stays_legal p legal s
 
     password_in-fresh_entry : password_in (fresh_entry s) ≡ s
     password_in-fresh_entry = take-append_seam s (replicate (password_room - length s) 0)

@@ -26,8 +26,7 @@ use Rattle.stream.specs.Machine.{Out, Took, handed_parts, stream_of}
 use Rattle.device.specs.Calls.{reply_room, received_at, opened_by, closed_by}
 use Rattle.controller.specs.Writing.{command_room}
 use Rattle.codes.specs.declared.command.Coded.{Coded}
-use Rattle.panel.specs.AnyPanel.{AnyPanel}
-use Rattle.panel.specs.PanelCalls.{PanelAs}
+use Rattle.panel.specs.AnyPanel.{AnyPanel, PanelAs}
 use Rattle.panel.specs.declared.types.Panel.{Panel}
 
 abbrev pub cut_at : List ℕ → List ℕ → List (List ℕ)
