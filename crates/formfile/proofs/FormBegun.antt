@@ -1,6 +1,6 @@
 -- A form that loads gives a legal record; what is read of a file is what all of it comes to.
 -- Assumes nothing.
-use Rattle.std.proofs.Common.{◌≡◌, ℕ, true, List, [], ◌++◌, take, Option, Some, None, Result, Ok, Err, sym, ap}
+use Rattle.std.proofs.Common.{arith, ◌≡◌, ℕ, true, List, [], ◌++◌, take, Option, Some, None, Result, Ok, Err, sym, ap}
 use Rattle.std.proofs.Common.{subst, ◌∙◌, IfSome, option_map}
 use Rattle.record.specs.Legal.{is_legal}
 use Rattle.text.specs.Outcomes.{CallResult, call_number, with_record}
