@@ -8,8 +8,9 @@ use Rattle.pjlink.specs.Forms.{reply_parameter}
 use Rattle.pjlink.specs.declared.command.Command.{Command}
 use Rattle.pjlink.specs.Said.{Said}
 use Rattle.pjlink.specs.Reading.{read_parameter}
-use Rattle.text.specs.Outcomes.{nothing_written}
-use Rattle.controller.specs.Writing.{command_room}
+use Rattle.text.specs.Outcomes.{refused_as, call_number}
+use Rattle.controller.specs.Writing.{command_room, unwritten_number}
+use Rattle.controller.specs.declared.writing.Unwritten.TheVariants.{OutOfRange}
 use Rattle.controller.specs.Reading.{reading_outcome_number, saying, read_reply}
 use Rattle.controller.proofs.Cases.{reply_by}
 use Rattle.controller.proofs.Refusals.{refusal_writes_nothing, written_number}
@@ -20,16 +21,17 @@ use Rattle.codes.specs.declared.command.Coded.{Coded}
 use Rattle.board.specs.Writable.{is_writable_by}
 
 module _ (secured : Bool) (random : ℕ) (password : List ℕ) (room : ℕ) where
-  pub write_number : (m : Option Command) → (written_by m secured random password room).number
+  pub write_number : (m : Option Command) → call_number unwritten_number (written_by m secured random password room)
       ≡ (if nat_lt room command_room then 2 else if not (is_writable_by m secured password) then 3 else 0)
   write_number m = grind (arith, written_number)
 
-  pub refused_writes_nothing : (m : Option Command) → ((written_by m secured random password room).number ≡ 0 → ⊥)
+  pub refused_writes_nothing : (m : Option Command)
+      → (call_number unwritten_number (written_by m secured random password room) ≡ 0 → ⊥)
       → (written_by m secured random password room).bytes ≡ []
   refused_writes_nothing m h = grind (arith, refusal_writes_nothing)
 
   pub no_command_written : (k : Coded) → coded_command k ≡ None → command_room ≤ room
-      → written_by (coded_command k) secured random password room ≡ nothing_written 3
+      → written_by (coded_command k) secured random password room ≡ refused_as tt OutOfRange
   no_command_written k e enough = grind arith
 
 pub no_command_read : (k : Coded) (l : List ℕ) → coded_command k ≡ None → read_by (coded_command k) l ≡ no_reading 3

@@ -2,9 +2,12 @@
 -- lasts until its connection is closed, and comes back by no call but an opening with its number.
 -- Assumes nothing.
 use Rattle.std.proofs.Common.{arith, ℕ, ◌≤◌, ◌<◌, ◌≡◌, refl, sym, ap, ◌∙◌, Bool, true, false, ◌&&◌}
-use Rattle.std.proofs.Common.{List, [], ◌∷◌, length, ◌⊎◌, ◌==◌, eqb-true, eq-eqb}
-use Rattle.text.specs.Rows.{first_of}
+use Rattle.std.proofs.Common.{List, [], ◌∷◌, length, ◌⊎◌, ◌==◌, eqb-true, eq-eqb, Err}
+use Rattle.text.specs.Outcomes.{CallResult, refused_as, call_number}
+use Rattle.text.specs.Rows.{first_of, numbers_of}
 use Rattle.text.proofs.Choices.{if_yes, both_left, both_right}
+use Rattle.record.specs.declared.refusal.Refusal.{Refusal}
+use Rattle.record.specs.Refusals.{refusal_number}
 use Rattle.record.specs.Limits.{places_count}
 use Rattle.record.specs.Legal.{is_legal}
 use Rattle.record.specs.Record.{closed}
@@ -13,10 +16,11 @@ use Rattle.record.specs.declared.types.Connection.{Connection}
 use Rattle.record.specs.declared.types.Device.{Device}
 use Rattle.record.proofs.Spelt.{closed_spelt}
 use Rattle.clock.proofs.ConnectionsAge.{untimed_stays}
-use Rattle.device.specs.Calls.{Result, refused_by, reply_room, new_connection, received_at, closed_by}
+use Rattle.device.specs.Calls.{reply_room, new_connection, received_at, closed_by}
 use Rattle.device.proofs.Cases.{received_by, closed_by_lem, greeted_by_lem}
-use Rattle.device.proofs.Numbers.{received_at-number, closed_number}
-use Rattle.ours.specs.Board.{ours}
+use Rattle.device.proofs.Numbers.{received_number, closed_number}
+use Rattle.ours.specs.Board.{Lent, ours, given_in, received_in}
+use Rattle.ours.specs.Tied.{given_as}
 use Rattle.demands.specs.Calls.{Call, opens, closes, receives, passes, faults, reports, enables, after, run}
 use Rattle.demands.specs.Beside.{ClosedOr}
 use Rattle.demands.proofs.CallsDo.{call_by, connection_at-served, connection_left, IsServed}
@@ -30,19 +34,25 @@ is_of r c = is_live c && c.random == r
 
 module _ (d : Device) (p r : ℕ) where
   module _ (bs m : List ℕ) where
-    abbrev came : Result Device
+    abbrev came : CallResult Refusal ℕ Device
     came = received_at d p bs (length m)
 
-    came_refused : (n : ℕ) → (n ≡ 0 → ⊥) → came.number ≡ n → came ≡ refused_by n d
-    came_refused n some =
-        received_by d p bs (length m) (λ x. x.number ≡ n → x ≡ refused_by n d)
-        (λ k other e. ap (λ (j : ℕ). refused_by j d) e) (λ h s t c e. absurd (some (sym e)))
+    abbrev refused_lent : ℕ → Lent Device
+    refused_lent n = record { number = n; taken = 0; length = 0; memory = m; device = d }
+
+    came_refused : (e : Refusal) → (refusal_number e ≡ 0 → ⊥) → call_number refusal_number came ≡ refusal_number e
+        → received_in (refused_as d e) m ≡ received_in came m
+    came_refused e some =
+        received_by d p bs (length m)
+        (λ c. call_number refusal_number c ≡ refusal_number e → received_in (refused_as d e) m ≡ received_in c m)
+        (λ k other same. ap refused_lent (sym same)) (λ h s t c same. absurd (some (sym same)))
 
     pub own_bytes : is_session d p r ≡ true → session_received d p r bs m ≡ ours.receive d p bs m
-    own_bytes its = grind (arith, came_refused, received_at-number)
+    own_bytes its = grind (arith, came_refused, received_number)
 
-    pub session_number : (session_received d p r bs m).number ≡ first_of (session_rows d p r (length m))
-    session_number = grind (arith, received_at-number)
+    pub session_number : (session_received d p r bs m).number
+        ≡ first_of (numbers_of refusal_number (session_rows d p r (length m)))
+    session_number = grind (arith, received_number)
 
     pub others_bytes : is_session d p r ≡ false
         → let t = session_received d p r bs m in
@@ -53,10 +63,15 @@ module _ (d : Device) (p r : ℕ) where
         → (session_received d p r bs m).number ≡ 4
     others_number other legal enough there = grind arith
 
-  closing_refused : (n : ℕ) → (n ≡ 0 → ⊥) → (closed_by d p).number ≡ n → closed_by d p ≡ refused_by n d
-  closing_refused n some =
-      closed_by_lem d p (λ x. x.number ≡ n → x ≡ refused_by n d)
-      (λ k other e. ap (λ (j : ℕ). refused_by j d) e) (λ h t c e. absurd (some (sym e)))
+  closing_refused : (e : Refusal) → (refusal_number e ≡ 0 → ⊥)
+      → call_number refusal_number (closed_by d p) ≡ refusal_number e
+      → given_as refusal_number (Err e) d ≡ given_in refusal_number (closed_by d p)
+  closing_refused e some =
+      closed_by_lem d p
+      (λ c. call_number refusal_number c ≡ refusal_number e
+      → given_as refusal_number (Err e) d ≡ given_in refusal_number c)
+      (λ k other same. ap (λ (n : ℕ). record { number = n; device = d }) (sym same))
+      (λ h t c same. absurd (some (sym same)))
 
   pub own_closing : is_session d p r ≡ true → session_closed d p r ≡ ours.closing d p
   own_closing its = grind (arith, closing_refused, closed_number)

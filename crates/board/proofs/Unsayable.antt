@@ -3,9 +3,9 @@
 use Rattle.std.proofs.Common.{ℕ, ◌≡◌, Bool, true, false, refl, sym, ◌∙◌, List, nat_lt, ◌==◌, length, replicate, arith}
 use Rattle.history.specs.Calls.{opens, receives, closes, reports, enables}
 use Rattle.history.specs.Entries.{LogEntry, call, is_sayable_entry}
-use Rattle.history.specs.Recording.{recorded_by, recorder_after}
+use Rattle.history.specs.Recording.{recorded_by}
 use Rattle.history.specs.declared.recorder.Recorder.{Recorder}
-use Rattle.history.proofs.Unsayable.{unsayable_written, unsayable_leaves}
+use Rattle.history.proofs.Unsayable.{unsayable_written}
 use Rattle.board.specs.Logs.{byte_of, six_of}
 
 module _ (r : Recorder) (room : ℕ) where
@@ -13,9 +13,6 @@ module _ (r : Recorder) (room : ℕ) where
   module _ (e f : LogEntry) (no : is_sayable_entry e ≡ false) (nor : is_sayable_entry f ≡ false) where
     written_alike : recorded_by r e room ≡ recorded_by r f room
     written_alike = unsayable_written r e room no ∙ sym (unsayable_written r f room nor)
-
-    kept_alike : recorder_after r e room ≡ recorder_after r f room
-    kept_alike = unsayable_leaves r e room no ∙ sym (unsayable_leaves r f room nor)
 
   -- an entry by a number, of which none from 255 on can be said
   module _ (of : ℕ → LogEntry) (none : (n : ℕ) → nat_lt n 255 ≡ false → is_sayable_entry (of n) ≡ false) where
@@ -29,48 +26,21 @@ module _ (r : Recorder) (room : ℕ) where
             let e : recorded_by r (of (byte_of n)) room ≡ recorded_by r (of 255) room = simp p in
             e ∙ written_alike (of 255) (of n) (none 255 refl) (none n p)
 
-    byte_kept : (n : ℕ) → recorder_after r (of (byte_of n)) room ≡ recorder_after r (of n) room
-    unfolding byte_of
-    byte_kept n = by (nat_lt n 255) refl
-      where
-        by : (small : Bool) → nat_lt n 255 ≡ small
-            → recorder_after r (of (byte_of n)) room ≡ recorder_after r (of n) room
-        by true p = simp p
-        by false p =
-            let e : recorder_after r (of (byte_of n)) room ≡ recorder_after r (of 255) room = simp p in
-            e ∙ kept_alike (of 255) (of n) (none 255 refl) (none n p)
-
   pub opens_written : (p random : ℕ)
       → recorded_by r (call (opens (byte_of p) random)) room ≡ recorded_by r (call (opens p random)) room
   opens_written p random = byte_written (λ n. call (opens n random)) (λ n h. grind arith) p
-
-  pub opens_kept : (p random : ℕ)
-      → recorder_after r (call (opens (byte_of p) random)) room ≡ recorder_after r (call (opens p random)) room
-  opens_kept p random = byte_kept (λ n. call (opens n random)) (λ n h. grind arith) p
 
   pub receives_written : (p : ℕ) (bs : List ℕ)
       → recorded_by r (call (receives (byte_of p) bs)) room ≡ recorded_by r (call (receives p bs)) room
   receives_written p bs = byte_written (λ n. call (receives n bs)) (λ n h. grind arith) p
 
-  pub receives_kept : (p : ℕ) (bs : List ℕ)
-      → recorder_after r (call (receives (byte_of p) bs)) room ≡ recorder_after r (call (receives p bs)) room
-  receives_kept p bs = byte_kept (λ n. call (receives n bs)) (λ n h. grind arith) p
-
   pub closes_written : (p : ℕ)
       → recorded_by r (call (closes (byte_of p))) room ≡ recorded_by r (call (closes p)) room
   closes_written p = byte_written (λ n. call (closes n)) (λ n h. grind arith) p
 
-  pub closes_kept : (p : ℕ)
-      → recorder_after r (call (closes (byte_of p))) room ≡ recorder_after r (call (closes p)) room
-  closes_kept p = byte_kept (λ n. call (closes n)) (λ n h. grind arith) p
-
   pub enables_written : (k : ℕ) (m : Bool)
       → recorded_by r (call (enables (byte_of k) m)) room ≡ recorded_by r (call (enables k m)) room
   enables_written k m = byte_written (λ n. call (enables n m)) (λ n h. grind arith) k
-
-  pub enables_kept : (k : ℕ) (m : Bool)
-      → recorder_after r (call (enables (byte_of k) m)) room ≡ recorder_after r (call (enables k m)) room
-  enables_kept k m = byte_kept (λ n. call (enables n m)) (λ n h. grind arith) k
 
   pub reports_written : (ds : List ℕ)
       → recorded_by r (call (reports (six_of ds))) room ≡ recorded_by r (call (reports ds)) room
@@ -84,17 +54,3 @@ module _ (r : Recorder) (room : ℕ) where
           let six : List ℕ = replicate 6 255 in
           let e : recorded_by r (call (reports (six_of ds))) room ≡ recorded_by r (call (reports six)) room = simp p in
           e ∙ written_alike (call (reports six)) (call (reports ds)) refl (simp p)
-
-  pub reports_kept : (ds : List ℕ)
-      → recorder_after r (call (reports (six_of ds))) room ≡ recorder_after r (call (reports ds)) room
-  unfolding six_of
-  reports_kept ds = by (length ds == 6) refl
-    where
-      by : (six : Bool) → (length ds == 6) ≡ six
-          → recorder_after r (call (reports (six_of ds))) room ≡ recorder_after r (call (reports ds)) room
-      by true p = simp p
-      by false p =
-          let six : List ℕ = replicate 6 255 in
-          let e : recorder_after r (call (reports (six_of ds))) room ≡ recorder_after r (call (reports six)) room
-          = simp p in
-          e ∙ kept_alike (call (reports six)) (call (reports ds)) refl (simp p)

@@ -5,15 +5,13 @@
 --   six_of ds       the error digits: six of 255 where they are not six
 -- And what a call makes that plays a line: where the line does not belong, nothing.
 --   misfit_number m       the number of why not: that of the call which the line says, else 3
---   LinePlayed            the number, the length of the reply, the reply, and record and log then
---   unplayed r d n        refused with n
---   line_played r d l room   the line l, given without its LF, made again on the record d, at the state r of the log
---   playing_told p        what is returned of it
+--   line_played r d l room   the line l, given without its LF, made again on the record d, at the state r of the log:
+--                         refused with a number, or the length of the reply, and the reply; log and record then
 -- Assumes nothing.
 use Rattle.std.specs.Prelude.{ℕ, List, [], ◌∷◌, Option, Some, None, if◌then◌else◌, nat_lt, ◌==◌, length, replicate}
 use Rattle.std.specs.Prelude.{not, Result, Ok, Err}
 use Rattle.text.specs.Rows.{◌when◌, by_rows}
-use Rattle.text.specs.Outcomes.{WrittenTold}
+use Rattle.text.specs.Outcomes.{CallResult, served_as, refused_as}
 use Rattle.record.specs.Legal.{is_legal}
 use Rattle.record.specs.declared.types.Device.{Device}
 use Rattle.device.specs.Calls.{reply_room}
@@ -37,36 +35,19 @@ abbrev pub misfit_number : Misfit → ℕ
 misfit_number (refused_with n) = n
 misfit_number m = 3
 
-pub record LinePlayed : Type 0 where
-  pub number : ℕ
-  pub length : ℕ
-  pub reply : List ℕ
-  pub device : Device
-  pub log : Recorder
-
-abbrev pub unplayed : Recorder → Device → ℕ → LinePlayed
-unplayed r d n = record { number = n; length = 0; reply = []; device = d; log = r }
-
 -- the entry e of the line l, where it is made, or else why not
-abbrev pub entry_played : Recorder → Device → LogEntry → List ℕ → Result ℕ Misfit → LinePlayed
-entry_played r d e l (Ok n) = record {
-  number = 0;
-  length = n;
-  reply = reply_made d e;
-  device = device_made d e;
-  log = log_made r d e l;
-}
-entry_played r d e l (Err why) = unplayed r d (misfit_number why)
+abbrev pub entry_played : Recorder → Device → LogEntry → List ℕ → Result ℕ Misfit
+    → CallResult ℕ ℕ (Recorder × Device)
+entry_played r d e l (Ok n) = served_as n (reply_made d e) (log_made r d e l, device_made d e)
+entry_played r d e l (Err why) = refused_as (r, d) (misfit_number why)
 
 -- the entry that the line l says, where it fits, or else why not
-abbrev pub line_fitted : Recorder → Device → List ℕ → Result LogEntry Misfit → LinePlayed
+abbrev pub line_fitted : Recorder → Device → List ℕ → Result LogEntry Misfit
+    → CallResult ℕ ℕ (Recorder × Device)
 line_fitted r d l (Ok e) = entry_played r d e l (made_told d e)
-line_fitted r d l (Err why) = unplayed r d (misfit_number why)
+line_fitted r d l (Err why) = refused_as (r, d) (misfit_number why)
 
-unfoldable pub line_played : Recorder → Device → List ℕ → ℕ → LinePlayed
+unfoldable pub line_played : Recorder → Device → List ℕ → ℕ → CallResult ℕ ℕ (Recorder × Device)
 line_played r d l room =
-    by_rows ((1 when not (is_legal d)) ∷ (2 when nat_lt room reply_room) ∷ []) (unplayed r d)
+    by_rows ((1 when not (is_legal d)) ∷ (2 when nat_lt room reply_room) ∷ []) (refused_as (r, d))
     (line_fitted r d l (entry_told r d l))
-
-abbrev pub playing_told : LinePlayed → WrittenTold
-playing_told p = record { number = p.number; length = p.length }

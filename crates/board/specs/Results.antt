@@ -1,6 +1,8 @@
 -- What the calls on a record give, as the header's records have it.
---   receiving_of t, opening_of t p     what a call says, beside a record that changes in place
---   writing_of t                       what the controller's writer says, and storing
+--   receiving_of l, opening_of l p     what receiving and opening say, beside a record that changes in place
+--   receiving_said r, opening_said r   the same of what they return in code
+--   writing_of why r                   what a call says that writes, where it returned r, and `why` numbers its errors
+--   wrote_of w                         what the controller's writer says, and storing
 --   received_of r, opened_of r p       the same with the record, by value
 --   changed_of r                       of a call that gives a number and the record
 --   panel_changed_of r, panel_sent_of r     of a panel's call, and of its command
@@ -8,14 +10,16 @@
 --   heard_flat n h                     the number n, and what is returned for a line that was h
 --   panel_heard_of r h                 of hearing a line, which was h
 -- Assumes nothing.
-use Rattle.std.specs.Prelude.{ℕ, length, Option}
-use Rattle.text.specs.Outcomes.{WrittenTold}
+use Rattle.std.specs.Prelude.{ℕ, length, Option, Result}
+use Rattle.text.specs.Outcomes.{outcome_number, answer_number}
+use Rattle.record.specs.Refusals.{refusal_number}
+use Rattle.record.specs.declared.refusal.Refusal.{Refusal}
 use Rattle.record.specs.declared.types.Device.{Device}
-use Rattle.record.specs.Given.{Given}
-use Rattle.device.specs.Outcomes.{Told}
-use Rattle.panel.specs.PanelCalls.{PanelAs}
+use Rattle.device.specs.declared.calls.Received.{Received}
+use Rattle.device.specs.declared.calls.Opened.{Opened}
+use Rattle.panel.specs.AnyPanel.{PanelAs}
 use Rattle.panel.specs.Hearing.{HeardAs, heard_kind, heard_reading}
-use Rattle.ours.specs.Board.{Lent}
+use Rattle.ours.specs.Board.{Given, Lent, Wrote}
 use Rattle.board.specs.declared.results.Changed.{Changed}
 use Rattle.board.specs.declared.results.Receiving.{Receiving}
 use Rattle.board.specs.declared.results.Opening.{Opening}
@@ -26,14 +30,31 @@ use Rattle.board.specs.declared.results.PanelSent.{PanelSent}
 use Rattle.board.specs.declared.results.PanelHeard.{PanelHeard}
 use Rattle.board.specs.declared.writer.Written.{Written}
 
-abbrev pub receiving_of : Told → Receiving
-receiving_of t = record { number = t.number; taken = t.taken; length = t.length }
+abbrev pub receiving_of : Lent Device → Receiving
+receiving_of l = record { number = l.number; taken = l.taken; length = l.length }
 
-abbrev pub opening_of : Told → ℕ → Opening
-opening_of t p = record { number = t.number; length = t.length; place = p }
+abbrev pub receiving_said : Result Received Refusal → Receiving
+receiving_said r = record {
+  number = outcome_number refusal_number r;
+  taken = answer_number (λ a. a.taken) r;
+  length = answer_number (λ a. a.length) r;
+}
 
-abbrev pub writing_of : WrittenTold → Written
-writing_of t = record { number = t.number; length = t.length }
+abbrev pub opening_of : Lent Device → ℕ → Opening
+opening_of l p = record { number = l.number; length = l.length; place = p }
+
+abbrev pub opening_said : Result Opened Refusal → Opening
+opening_said r = record {
+  number = outcome_number refusal_number r;
+  length = answer_number (λ a. a.length) r;
+  place = answer_number (λ a. a.place) r;
+}
+
+abbrev pub writing_of : {E : Type 0} → (E → ℕ) → Result ℕ E → Written
+writing_of why r = record { number = outcome_number why r; length = answer_number (λ n. n) r }
+
+abbrev pub wrote_of : Wrote → Written
+wrote_of w = record { number = w.number; length = w.length }
 
 abbrev pub received_of : Lent Device → ReceivedByValue
 received_of r = record { number = r.number; taken = r.taken; length = r.length; device = r.device }

@@ -1,8 +1,7 @@
 // The stored form: settings that survive a board swap (RULES, Stored form).
 ghost use Rattle.std.specs.Prelude.{◌≡◌};
 ghost use Rattle.ours.specs.Board.{ours};
-ghost use Rattle.ours.specs.Tied.{wrote_told};
-ghost use Rattle.board.specs.Results.{changed_of, writing_of};
+ghost use Rattle.board.specs.Results.{changed_of, wrote_of};
 
 use crate::results::Changed;
 use crate::writer::Written;
@@ -14,7 +13,7 @@ use text::numbered;
 /// Writes the stored form of the record to the start of `out`. Errors, in this order: 1, 2.
 #[unsafe(no_mangle)]
 pub extern "C" fn pj_store_in_place(device: &Device, out: &mut [u8]) -> Written
-    ensures says { result ≡ writing_of (wrote_told (ours.store device.now out.old)) }
+    ensures says { result ≡ wrote_of (ours.store device.now out.old) }
     ensures written { out.new ≡ (ours.store device.now out.old).memory }
 {
     Written::from(storing::store(device, out))
@@ -23,7 +22,7 @@ pub extern "C" fn pj_store_in_place(device: &Device, out: &mut [u8]) -> Written
 /// Writes the stored form of the record to the start of `out`, by value. Errors, in this order: 1, 2.
 #[unsafe(no_mangle)]
 pub extern "C" fn pj_store(device: Device, out: &mut [u8]) -> Written
-    ensures says { result ≡ writing_of (wrote_told (ours.store device out.old)) }
+    ensures says { result ≡ wrote_of (ours.store device out.old) }
     ensures written { out.new ≡ (ours.store device out.old).memory }
 {
     Written::from(storing::store(&device, out))

@@ -2,14 +2,14 @@
 // shows, into a buffer. The host keeps the state from line to line, any numbers; it stays if a call is refused.
 ghost use Rattle.std.specs.Prelude.{◌≡◌, ◌≤◌, length, take, Ok};
 ghost use Rattle.text.specs.Words.{over};
-ghost use Rattle.text.specs.Outcomes.{told_written};
+ghost use Rattle.text.specs.Outcomes.{with_length};
+ghost use Rattle.record.specs.Refusals.{refusal_number};
 ghost use Rattle.history.specs.Calls.{call_seen, opens, receives, passes, closes, faults, reports, enables};
 ghost use Rattle.history.specs.Entries.{call, time_seen, entry_seen};
-ghost use Rattle.history.specs.Recording.{recorder_begun, header_next, recorded_by, recorder_after};
-ghost use Rattle.history.specs.Recording.{stated_by, stated_after};
+ghost use Rattle.history.specs.Recording.{recorder_begun, header_next, recorded_by, stated_by};
 ghost use Rattle.device.specs.Calls.{reply_room};
 ghost use Rattle.recorded.specs.Chain.{why_seen, entry_told, made_told};
-ghost use Rattle.board.specs.Logs.{time_lent, byte_of, six_of, misfit_number, entry_played, line_played, playing_told};
+ghost use Rattle.board.specs.Logs.{time_lent, byte_of, six_of, misfit_number, entry_played, line_played};
 ghost use Rattle.board.specs.Results.{writing_of};
 
 use crate::writer::Written;
@@ -46,9 +46,9 @@ fn time_lent(time: &[u8]) -> Option<&[u8]>
 /// Writes the header of the next file, with a start time or none. Errors, in this order: 2, 3.
 #[unsafe(no_mangle)]
 pub extern "C" fn pj_log_file(log: &mut Recorder, time: &[u8], out: &mut [u8]) -> Written
-    ensures says { result ≡ writing_of (told_written
+    ensures says { result ≡ writing_of refusal_number (with_length
         (recorded_by log.old (header_next log.old (time_lent time.now)) (length out.old))) }
-    ensures kept { log.new ≡ recorder_after log.old (header_next log.old (time_lent time.now)) (length out.old) }
+    ensures kept { log.new ≡ (recorded_by log.old (header_next log.old (time_lent time.now)) (length out.old)).leaves }
     ensures written { out.new
         ≡ over (recorded_by log.old (header_next log.old (time_lent time.now)) (length out.old)).bytes out.old }
 {
@@ -79,8 +79,8 @@ fn six_of(digits: &[u8]) -> ErrorStatus
 #[inline(always)]
 fn record(log: &mut Recorder, made: &RecordedCall<'_>, out: &mut [u8]) -> Written
     ensures says { result
-        ≡ writing_of (told_written (recorded_by log.old (call (call_seen made.now)) (length out.old))) }
-    ensures kept { log.new ≡ recorder_after log.old (call (call_seen made.now)) (length out.old) }
+        ≡ writing_of refusal_number (with_length (recorded_by log.old (call (call_seen made.now)) (length out.old))) }
+    ensures kept { log.new ≡ (recorded_by log.old (call (call_seen made.now)) (length out.old)).leaves }
     ensures written { out.new
         ≡ over (recorded_by log.old (call (call_seen made.now)) (length out.old)).bytes out.old }
 {
@@ -89,7 +89,7 @@ fn record(log: &mut Recorder, made: &RecordedCall<'_>, out: &mut [u8]) -> Writte
 
 /// Writes the line of an opening with this random number, which got this place. Errors, in this order: 2, 3.
 #[unsafe(no_mangle)]
-#[tactic(auto, using(crate::proofs::Unsayable::opens_written, crate::proofs::Unsayable::opens_kept))]
+#[tactic(auto, using(crate::proofs::Unsayable::opens_written))]
 pub extern "C" fn pj_log_opened(
     log: &mut Recorder,
     place: usize,
@@ -97,8 +97,8 @@ pub extern "C" fn pj_log_opened(
     out: &mut [u8],
 ) -> Written
     ensures says { result
-        ≡ writing_of (told_written (recorded_by log.old (call (opens place random)) (length out.old))) }
-    ensures kept { log.new ≡ recorder_after log.old (call (opens place random)) (length out.old) }
+        ≡ writing_of refusal_number (with_length (recorded_by log.old (call (opens place random)) (length out.old))) }
+    ensures kept { log.new ≡ (recorded_by log.old (call (opens place random)) (length out.old)).leaves }
     ensures written { out.new
         ≡ over (recorded_by log.old (call (opens place random)) (length out.old)).bytes out.old }
 {
@@ -107,7 +107,7 @@ pub extern "C" fn pj_log_opened(
 
 /// Writes the line of a receive at this place, which took these bytes, 2,046 at most. Errors, in this order: 2, 3.
 #[unsafe(no_mangle)]
-#[tactic(auto, using(crate::proofs::Unsayable::receives_written, crate::proofs::Unsayable::receives_kept))]
+#[tactic(auto, using(crate::proofs::Unsayable::receives_written))]
 pub extern "C" fn pj_log_received(
     log: &mut Recorder,
     place: usize,
@@ -115,8 +115,8 @@ pub extern "C" fn pj_log_received(
     out: &mut [u8],
 ) -> Written
     ensures says { result
-        ≡ writing_of (told_written (recorded_by log.old (call (receives place bytes.now)) (length out.old))) }
-    ensures kept { log.new ≡ recorder_after log.old (call (receives place bytes.now)) (length out.old) }
+        ≡ writing_of refusal_number (with_length (recorded_by log.old (call (receives place bytes.now)) (length out.old))) }
+    ensures kept { log.new ≡ (recorded_by log.old (call (receives place bytes.now)) (length out.old)).leaves }
     ensures written { out.new
         ≡ over (recorded_by log.old (call (receives place bytes.now)) (length out.old)).bytes out.old }
 {
@@ -127,8 +127,8 @@ pub extern "C" fn pj_log_received(
 #[unsafe(no_mangle)]
 pub extern "C" fn pj_log_passed(log: &mut Recorder, seconds: u32, out: &mut [u8]) -> Written
     ensures says { result
-        ≡ writing_of (told_written (recorded_by log.old (call (passes seconds)) (length out.old))) }
-    ensures kept { log.new ≡ recorder_after log.old (call (passes seconds)) (length out.old) }
+        ≡ writing_of refusal_number (with_length (recorded_by log.old (call (passes seconds)) (length out.old))) }
+    ensures kept { log.new ≡ (recorded_by log.old (call (passes seconds)) (length out.old)).leaves }
     ensures written { out.new
         ≡ over (recorded_by log.old (call (passes seconds)) (length out.old)).bytes out.old }
 {
@@ -137,11 +137,11 @@ pub extern "C" fn pj_log_passed(log: &mut Recorder, seconds: u32, out: &mut [u8]
 
 /// Writes the line of a closing at this place. Errors, in this order: 2, 3.
 #[unsafe(no_mangle)]
-#[tactic(auto, using(crate::proofs::Unsayable::closes_written, crate::proofs::Unsayable::closes_kept))]
+#[tactic(auto, using(crate::proofs::Unsayable::closes_written))]
 pub extern "C" fn pj_log_closed(log: &mut Recorder, place: usize, out: &mut [u8]) -> Written
     ensures says { result
-        ≡ writing_of (told_written (recorded_by log.old (call (closes place)) (length out.old))) }
-    ensures kept { log.new ≡ recorder_after log.old (call (closes place)) (length out.old) }
+        ≡ writing_of refusal_number (with_length (recorded_by log.old (call (closes place)) (length out.old))) }
+    ensures kept { log.new ≡ (recorded_by log.old (call (closes place)) (length out.old)).leaves }
     ensures written { out.new
         ≡ over (recorded_by log.old (call (closes place)) (length out.old)).bytes out.old }
 {
@@ -152,8 +152,8 @@ pub extern "C" fn pj_log_closed(log: &mut Recorder, place: usize, out: &mut [u8]
 #[unsafe(no_mangle)]
 pub extern "C" fn pj_log_fault(log: &mut Recorder, mark: bool, out: &mut [u8]) -> Written
     ensures says { result
-        ≡ writing_of (told_written (recorded_by log.old (call (faults mark)) (length out.old))) }
-    ensures kept { log.new ≡ recorder_after log.old (call (faults mark)) (length out.old) }
+        ≡ writing_of refusal_number (with_length (recorded_by log.old (call (faults mark)) (length out.old))) }
+    ensures kept { log.new ≡ (recorded_by log.old (call (faults mark)) (length out.old)).leaves }
     ensures written { out.new
         ≡ over (recorded_by log.old (call (faults mark)) (length out.old)).bytes out.old }
 {
@@ -162,11 +162,11 @@ pub extern "C" fn pj_log_fault(log: &mut Recorder, mark: bool, out: &mut [u8]) -
 
 /// Writes the line of six error digits that were set, each 0 to 2. Errors, in this order: 2, 3.
 #[unsafe(no_mangle)]
-#[tactic(auto, using(crate::proofs::Unsayable::reports_written, crate::proofs::Unsayable::reports_kept))]
+#[tactic(auto, using(crate::proofs::Unsayable::reports_written))]
 pub extern "C" fn pj_log_errors(log: &mut Recorder, digits: &[u8], out: &mut [u8]) -> Written
     ensures says { result
-        ≡ writing_of (told_written (recorded_by log.old (call (reports digits.now)) (length out.old))) }
-    ensures kept { log.new ≡ recorder_after log.old (call (reports digits.now)) (length out.old) }
+        ≡ writing_of refusal_number (with_length (recorded_by log.old (call (reports digits.now)) (length out.old))) }
+    ensures kept { log.new ≡ (recorded_by log.old (call (reports digits.now)) (length out.old)).leaves }
     ensures written { out.new
         ≡ over (recorded_by log.old (call (reports digits.now)) (length out.old)).bytes out.old }
 {
@@ -175,7 +175,7 @@ pub extern "C" fn pj_log_errors(log: &mut Recorder, digits: &[u8], out: &mut [u8
 
 /// Writes the line of a lamp, numbered from 0, that was enabled or disabled. Errors, in this order: 2, 3.
 #[unsafe(no_mangle)]
-#[tactic(auto, using(crate::proofs::Unsayable::enables_written, crate::proofs::Unsayable::enables_kept))]
+#[tactic(auto, using(crate::proofs::Unsayable::enables_written))]
 pub extern "C" fn pj_log_mark(
     log: &mut Recorder,
     lamp: usize,
@@ -183,8 +183,8 @@ pub extern "C" fn pj_log_mark(
     out: &mut [u8],
 ) -> Written
     ensures says { result
-        ≡ writing_of (told_written (recorded_by log.old (call (enables lamp enabled)) (length out.old))) }
-    ensures kept { log.new ≡ recorder_after log.old (call (enables lamp enabled)) (length out.old) }
+        ≡ writing_of refusal_number (with_length (recorded_by log.old (call (enables lamp enabled)) (length out.old))) }
+    ensures kept { log.new ≡ (recorded_by log.old (call (enables lamp enabled)) (length out.old)).leaves }
     ensures written { out.new
         ≡ over (recorded_by log.old (call (enables lamp enabled)) (length out.old)).bytes out.old }
 {
@@ -194,8 +194,8 @@ pub extern "C" fn pj_log_mark(
 /// Writes a stated line: the count of lines, the sum, and what the record shows. Errors, in this order: 1, 2, 3.
 #[unsafe(no_mangle)]
 pub extern "C" fn pj_log_stated(log: &mut Recorder, device: &Device, out: &mut [u8]) -> Written
-    ensures says { result ≡ writing_of (told_written (stated_by log.old device.now (length out.old))) }
-    ensures kept { log.new ≡ stated_after log.old device.now (length out.old) }
+    ensures says { result ≡ writing_of refusal_number (with_length (stated_by log.old device.now (length out.old))) }
+    ensures kept { log.new ≡ (stated_by log.old device.now (length out.old)).leaves }
     ensures written { out.new ≡ over (stated_by log.old device.now (length out.old)).bytes out.old }
 {
     Written::from(log.stated(device, out))
@@ -241,14 +241,14 @@ fn play_entry(
     requires same { t.old.device ≡ device.old }
     requires stands { entry_told log.old device.old line.now ≡ Ok (entry_seen entry.now) }
     requires room { reply_room ≤ length reply.old }
-    ensures says { result ≡ writing_of (playing_told (entry_played log.old device.old (entry_seen entry.now) line.now
-        (made_told device.old (entry_seen entry.now)))) }
+    ensures says { result ≡ writing_of (λ n. n) (entry_played log.old device.old (entry_seen entry.now) line.now
+        (made_told device.old (entry_seen entry.now))).says }
     ensures kept { log.new ≡ (entry_played log.old device.old (entry_seen entry.now) line.now
-        (made_told device.old (entry_seen entry.now))).log }
+        (made_told device.old (entry_seen entry.now))).leaves.0 }
     ensures device { device.new ≡ (entry_played log.old device.old (entry_seen entry.now) line.now
-        (made_told device.old (entry_seen entry.now))).device }
+        (made_told device.old (entry_seen entry.now))).leaves.1 }
     ensures written { reply.new ≡ over (entry_played log.old device.old (entry_seen entry.now) line.now
-        (made_told device.old (entry_seen entry.now))).reply reply.old }
+        (made_told device.old (entry_seen entry.now))).bytes reply.old }
 {
     let mut made = front(reply);
     match chain::make(log, t, entry, line, &mut made) {
@@ -273,11 +273,11 @@ pub extern "C" fn pj_log_play(
     reply: &mut [u8],
 ) -> Written
     ensures says { result
-        ≡ writing_of (playing_told (line_played log.old device.old line.now (length reply.old))) }
-    ensures kept { log.new ≡ (line_played log.old device.old line.now (length reply.old)).log }
-    ensures device { device.new ≡ (line_played log.old device.old line.now (length reply.old)).device }
+        ≡ writing_of (λ n. n) (line_played log.old device.old line.now (length reply.old)).says }
+    ensures kept { log.new ≡ (line_played log.old device.old line.now (length reply.old)).leaves.0 }
+    ensures device { device.new ≡ (line_played log.old device.old line.now (length reply.old)).leaves.1 }
     ensures written { reply.new
-        ≡ over (line_played log.old device.old line.now (length reply.old)).reply reply.old }
+        ≡ over (line_played log.old device.old line.now (length reply.old)).bytes reply.old }
 {
     let mut t = Tested::of(*device);
     if !t.legal {

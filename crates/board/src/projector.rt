@@ -3,7 +3,6 @@
 ghost use Rattle.std.specs.Prelude.{◌≡◌};
 ghost use Rattle.record.specs.Legal.{is_legal};
 ghost use Rattle.ours.specs.Board.{ours};
-ghost use Rattle.ours.specs.Tied.{lent_told};
 ghost use Rattle.board.specs.Results.{receiving_of, opening_of};
 
 use crate::results::{Opening, Receiving};
@@ -23,7 +22,7 @@ pub extern "C" fn pj_legal_in_place(device: &Device) -> bool
 /// 1, 2, 6.
 #[unsafe(no_mangle)]
 pub extern "C" fn pj_open_in_place(device: &mut Device, random: u32, out: &mut [u8]) -> Opening
-    ensures says { result ≡ opening_of (lent_told (ours.opening device.old random out.old))
+    ensures says { result ≡ opening_of (ours.opening device.old random out.old)
         (ours.place_opened device.old random out.old) }
     ensures device { device.new ≡ (ours.opening device.old random out.old).device }
     ensures reply { out.new ≡ (ours.opening device.old random out.old).memory }
@@ -49,7 +48,7 @@ pub extern "C" fn pj_receive_in_place(
     bytes: &[u8],
     out: &mut [u8],
 ) -> Receiving
-    ensures says { result ≡ receiving_of (lent_told (ours.receive device.old place bytes.now out.old)) }
+    ensures says { result ≡ receiving_of (ours.receive device.old place bytes.now out.old) }
     ensures device { device.new ≡ (ours.receive device.old place bytes.now out.old).device }
     ensures reply { out.new ≡ (ours.receive device.old place bytes.now out.old).memory }
 {

@@ -1,7 +1,6 @@
 // The results of the calls, as C has them: an exported call returns no enum, so a refusal is its number.
 ghost use Rattle.std.specs.Prelude.{◌≡◌};
-ghost use Rattle.device.specs.Outcomes.{receiving_told, opening_told, opened_place};
-ghost use Rattle.board.specs.Results.{receiving_of, opening_of};
+ghost use Rattle.board.specs.Results.{receiving_said, opening_said};
 
 use codes::readings::FlatReading;
 use device::calls;
@@ -108,7 +107,7 @@ pub struct Changed {
 
 /// The outcome of receiving in numbers; for a refusal its number, and all else 0.
 impl From<Result<calls::Received, Refusal>> for Receiving {
-    ghost from_gives = { λ outcome told. told ≡ receiving_of (receiving_told outcome) };
+    ghost from_gives = { λ outcome told. told ≡ receiving_said outcome };
 
     fn from(outcome: Result<calls::Received, Refusal>) -> Receiving {
         match outcome {
@@ -128,7 +127,7 @@ impl From<Result<calls::Received, Refusal>> for Receiving {
 
 /// The outcome of opening in numbers; for a refusal its number, and all else 0.
 impl From<Result<calls::Opened, Refusal>> for Opening {
-    ghost from_gives = { λ outcome told. told ≡ opening_of (opening_told outcome) (opened_place outcome) };
+    ghost from_gives = { λ outcome told. told ≡ opening_said outcome };
 
     fn from(outcome: Result<calls::Opened, Refusal>) -> Opening {
         match outcome {

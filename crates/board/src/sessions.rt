@@ -1,13 +1,11 @@
 // The calls of a host that names the connection, and not its place alone (RULES, The C face): a place is closed by time
 // and opened again, and bytes of its old socket do not belong to the new connection.
 ghost use Rattle.std.specs.Prelude.{◌≡◌, ◌<◌, ◌&&◌};
-ghost use Rattle.text.specs.Outcomes.{outcome_number};
 ghost use Rattle.record.specs.Limits.{places_count};
 ghost use Rattle.record.specs.Places.{connection_at, is_closed};
 ghost use Rattle.record.specs.Refusals.{refusal_number};
-ghost use Rattle.device.specs.Outcomes.{receiving_told};
 ghost use Rattle.ours.specs.Board.{ours};
-ghost use Rattle.ours.specs.Tied.{given_as, lent_as, lent_told};
+ghost use Rattle.ours.specs.Tied.{given_as, received_as};
 ghost use Rattle.board.specs.Results.{receiving_of};
 ghost use Rattle.board.specs.Sessions.{is_session, session_received};
 ghost use Rattle.board.specs.Sessions.{session_closed, bit_where, is_live, passing_of};
@@ -49,6 +47,7 @@ fn is_session(device: &Device, place: usize, random: u32) -> bool
 }
 
 // Receiving in a session.
+#[tactic(auto, using(ours::proofs::Returned::returned))]
 fn receive(
     device: &mut Device,
     place: usize,
@@ -56,8 +55,7 @@ fn receive(
     bytes: &[u8],
     out: &mut [u8],
 ) -> Result<Received, Refusal>
-    ensures { lent_as (receiving_told result) device.new out.new
-        ≡ session_received device.old place random bytes.now out.old }
+    ensures { received_as result device.new out.new ≡ session_received device.old place random bytes.now out.old }
 {
     let legal = &mut Legal::of(device)?;
     if out.len() < REPLY_ROOM {
@@ -74,7 +72,7 @@ fn receive(
 
 // Closing a session.
 fn close(device: &mut Device, place: usize, random: u32) -> Result<(), Refusal>
-    ensures { given_as (outcome_number refusal_number result) device.new ≡ session_closed device.old place random }
+    ensures { given_as refusal_number result device.new ≡ session_closed device.old place random }
 {
     let legal = &mut Legal::of(device)?;
     if PLACES <= place {
@@ -97,7 +95,7 @@ pub extern "C" fn pj_receive_session_in_place(
     bytes: &[u8],
     out: &mut [u8],
 ) -> Receiving
-    ensures says { result ≡ receiving_of (lent_told (session_received device.old place random bytes.now out.old)) }
+    ensures says { result ≡ receiving_of (session_received device.old place random bytes.now out.old) }
     ensures device { device.new ≡ (session_received device.old place random bytes.now out.old).device }
     ensures reply { out.new ≡ (session_received device.old place random bytes.now out.old).memory }
 {

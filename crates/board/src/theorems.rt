@@ -14,10 +14,11 @@ ghost use Rattle.std.specs.List.{list_all};
 ghost use Rattle.pjlink.specs.declared.command.Command.{Command};
 ghost use Rattle.codes.specs.declared.command.Coded.{Coded};
 ghost use Rattle.codes.specs.Commands.{coded_command};
-ghost use Rattle.text.specs.Outcomes.{nothing_written, told_written};
+ghost use Rattle.text.specs.Outcomes.{refused_as, call_number, with_length};
 ghost use Rattle.controller.specs.Writing.{command_room};
 ghost use Rattle.controller.specs.Writing.{unwritten_number};
 ghost use Rattle.controller.specs.declared.writing.Unwritten.{Unwritten};
+ghost use Rattle.controller.specs.declared.writing.Unwritten.TheVariants.{OutOfRange};
 ghost use Rattle.controller.specs.Reading.{ReadingOutcome, not_a_line, reading_outcome_number, read_reply};
 ghost use Rattle.codes.specs.ByCode.{written_by, read_by};
 ghost use Rattle.codes.specs.Readings.{flat_greeting, no_reading};
@@ -31,7 +32,7 @@ ghost use Rattle.board.specs.declared.lamps.Comparison.{Comparison};
 ghost use Rattle.board.specs.Results.{writing_of, panel_changed_of, panel_sent_of};
 ghost use Rattle.board.specs.declared.results.PanelChanged.{PanelChanged};
 ghost use Rattle.board.specs.declared.results.PanelSent.{PanelSent};
-ghost use Rattle.panel.specs.PanelCalls.{panel_made, no_panel, added_to, command_at, stepped_at, lost_at};
+ghost use Rattle.panel.specs.AnyPanel.{ours_panel};
 ghost use Rattle.panel.specs.declared.types.Panel.{Panel};
 ghost use Rattle.panel.specs.Refusals.{panel_refusal_number};
 ghost use Rattle.panel.specs.declared.refusal.PanelRefusal.{PanelRefusal};
@@ -59,7 +60,6 @@ ghost use Rattle.record.specs.Wanted.{Wanted};
 ghost use Rattle.record.specs.OutOfRange.{setting_position};
 ghost use Rattle.record.specs.SetUp.{first_out_of_range, set_up};
 ghost use Rattle.record.specs.SetUpErrors.{set_up_error_number, setting_told};
-ghost use Rattle.record.specs.Given.{set_up_given};
 ghost use Rattle.record.specs.declared.types.Setting.TheVariants.{Password};
 
 /// No two verdicts, no two answers of the planner and no two settings have the same numbers.
@@ -94,14 +94,14 @@ pub fn the_header_names_the_numbers()
 /// (RULES, The numbers a call gives). What is no command is 3; if the number is not 0, nothing is written or meant.
 pub fn a_refusal_has_its_number_only()
     ensures write_number { (m : Option Command) (secured : Bool) (random : ℕ) (password : List ℕ) (room : ℕ)
-        → (written_by m secured random password room).number
+        → call_number unwritten_number (written_by m secured random password room)
         ≡ (if nat_lt room command_room then 2 else if not (is_writable_by m secured password) then 3 else 0) }
     ensures nothing_written { (m : Option Command) (secured : Bool) (random : ℕ) (password : List ℕ) (room : ℕ)
-        → (written_by m secured random password room).number ≢ 0
+        → call_number unwritten_number (written_by m secured random password room) ≢ 0
         → (written_by m secured random password room).bytes ≡ [] }
     ensures no_command_written { (k : Coded) (secured : Bool) (random : ℕ) (password : List ℕ) (room : ℕ)
         → coded_command k ≡ None → command_room ≤ room
-        → written_by (coded_command k) secured random password room ≡ nothing_written 3 }
+        → written_by (coded_command k) secured random password room ≡ refused_as tt OutOfRange }
     ensures read_number { (c : Command) (l : List ℕ)
         → (read_by (Some c) l).number ≡ reading_outcome_number (read_reply c l).outcome }
     ensures nothing_meant { (m : Option Command) (l : List ℕ)
@@ -114,13 +114,13 @@ pub fn a_refusal_has_its_number_only()
 /// its range; if set-up gives 8, the password.
 pub fn the_setting_told_goes_with_the_number()
     ensures accepted_where_0 { (w : Wanted)
-        → setting_number (setting_told (set_up w)) ≡ 0 → (set_up_given (set_up w)).number ≡ 0 }
+        → setting_number (setting_told (set_up w).says) ≡ 0 → call_number set_up_error_number (set_up w) ≡ 0 }
     ensures is_0_where_accepted { (w : Wanted)
-        → (set_up_given (set_up w)).number ≡ 0 → setting_number (setting_told (set_up w)) ≡ 0 }
-    ensures first_out { (w : Wanted) → (set_up_given (set_up w)).number ≡ 3
-        → setting_number (setting_told (set_up w)) ≡ setting_number (first_out_of_range w) }
-    ensures short_password { (w : Wanted) → (set_up_given (set_up w)).number ≡ 8
-        → setting_number (setting_told (set_up w)) ≡ setting_position Password }
+        → call_number set_up_error_number (set_up w) ≡ 0 → setting_number (setting_told (set_up w).says) ≡ 0 }
+    ensures first_out { (w : Wanted) → call_number set_up_error_number (set_up w) ≡ 3
+        → setting_number (setting_told (set_up w).says) ≡ setting_number (first_out_of_range w) }
+    ensures short_password { (w : Wanted) → call_number set_up_error_number (set_up w) ≡ 8
+        → setting_number (setting_told (set_up w).says) ≡ setting_position Password }
 {}
 
 /// A later table of one place more than the earlier one is not compared, and nothing is written (RULES, Service).
@@ -135,8 +135,8 @@ pub fn one_result()
     ensures command_written { (k : Coded) (secured : Bool) (random : ℕ) (password out : List ℕ)
         (r s : Written) (m n : List ℕ)
         → let w = written_by (coded_command k) secured random password (length out) in
-        (r ≡ writing_of (told_written w)) × (m ≡ over w.bytes out)
-        → (s ≡ writing_of (told_written w)) × (n ≡ over w.bytes out) → (r ≡ s) × (m ≡ n) }
+        (r ≡ writing_of unwritten_number (with_length w)) × (m ≡ over w.bytes out)
+        → (s ≡ writing_of unwritten_number (with_length w)) × (n ≡ over w.bytes out) → (r ≡ s) × (m ≡ n) }
     ensures reply_read { (k : Coded) (l : List ℕ) (r s : FlatReading)
         → r ≡ read_by (coded_command k) l → s ≡ read_by (coded_command k) l → r ≡ s }
     ensures greeting_read { (l : List ℕ) (r s : FlatGreeting)
@@ -148,19 +148,19 @@ pub fn one_result()
     ensures comparison { (es ls : List ℕ) (out : List ℤ) (r s : Comparison) (m n : List ℤ)
         → ComparesInto es ls out r m → ComparesInto es ls out s n → (r ≡ s) × (m ≡ n) }
     ensures panel_made { (r s : PanelChanged)
-        → r ≡ panel_changed_of (panel_made no_panel) → s ≡ panel_changed_of (panel_made no_panel) → r ≡ s }
+        → r ≡ panel_changed_of ours_panel.none → s ≡ panel_changed_of ours_panel.none → r ≡ s }
     ensures projector_added { (p : Panel) (password : List ℕ) (r s : PanelChanged)
-        → r ≡ panel_changed_of (added_to p password) → s ≡ panel_changed_of (added_to p password) → r ≡ s }
+        → r ≡ panel_changed_of (ours_panel.add p password) → s ≡ panel_changed_of (ours_panel.add p password) → r ≡ s }
     ensures command_sent { (p : Panel) (i : ℕ) (k : Coded) (out : List ℕ) (r s : PanelSent) (m n : List ℕ)
-        → let c = command_at p i k (length out) in
+        → let c = ours_panel.command p i k (length out) in
         (r ≡ panel_sent_of c) × (m ≡ over c.line out)
         → (s ≡ panel_sent_of c) × (n ≡ over c.line out) → (r ≡ s) × (m ≡ n) }
     ensures line_heard { (p : Panel) (i : ℕ) (l : List ℕ) (r s : PanelChanged)
-        → r ≡ panel_changed_of (stepped_at p i l) → s ≡ panel_changed_of (stepped_at p i l) → r ≡ s }
+        → r ≡ panel_changed_of (ours_panel.hear p i l) → s ≡ panel_changed_of (ours_panel.hear p i l) → r ≡ s }
     ensures connection_lost { (p : Panel) (i : ℕ) (r s : PanelChanged)
-        → r ≡ panel_changed_of (lost_at p i) → s ≡ panel_changed_of (lost_at p i) → r ≡ s }
+        → r ≡ panel_changed_of (ours_panel.lose p i) → s ≡ panel_changed_of (ours_panel.lose p i) → r ≡ s }
     ensures setting { (w : Wanted) (r s : ℕ)
-        → r ≡ setting_number (setting_told (set_up w)) → s ≡ setting_number (setting_told (set_up w)) → r ≡ s }
+        → r ≡ setting_number (setting_told (set_up w).says) → s ≡ setting_number (setting_told (set_up w).says) → r ≡ s }
 {}
 
 /// A session's own bytes get what receiving gives, and its closing what closing gives. A call that names another
@@ -172,7 +172,8 @@ pub fn a_session_is_served_alone()
         → session_received d p r bytes out ≡ ours.receive d p bytes out }
     ensures own_closing { (d : Device) (p r : ℕ) → is_session d p r ≡ true → session_closed d p r ≡ ours.closing d p }
     ensures number { (d : Device) (p r : ℕ) (bytes out : List ℕ)
-        → (session_received d p r bytes out).number ≡ first_of (session_rows d p r (length out)) }
+        → (session_received d p r bytes out).number
+        ≡ first_of (numbers_of refusal_number (session_rows d p r (length out))) }
     ensures others_bytes { (d : Device) (p r : ℕ) (bytes out : List ℕ) → is_session d p r ≡ false
         → let t = session_received d p r bytes out in
         (t.number ≢ 0) × (t.taken ≡ 0) × (t.length ≡ 0) × (t.memory ≡ out) × (t.device ≡ d) }

@@ -21,7 +21,6 @@ fn number_of(checked: Result<(), SetUpError>) -> u32
 /// Returns which setting a Class 1 set-up refuses: 0 if it gives 0; the place, 1 to 9, of the first setting out of its
 /// range if it gives 3; the password's if it gives 8 (RULES, The legal record).
 #[unsafe(no_mangle)]
-#[tactic(auto, using(crate::proofs::WhichSetting::checked))]
 pub extern "C" fn pj_which_setting<'a>(
     name: &'a [u8],
     maker: &'a [u8],
@@ -34,7 +33,7 @@ pub extern "C" fn pj_which_setting<'a>(
     cool: u32,
 ) -> u32
     ensures { result ≡ setting_number (setting_told (set_up (wanted_of name.now maker.now model.now
-        other.now password.now inputs.now lamps.now warm cool))) }
+        other.now password.now inputs.now lamps.now warm cool)).says) }
 {
     let wanted = Wanted::for_class_1(
         name, maker, model, other, password, inputs, lamps, warm, cool,
@@ -45,7 +44,6 @@ pub extern "C" fn pj_which_setting<'a>(
 /// Returns which setting a Class 2 set-up refuses: 0 if it gives 0; the place, 1 to 12, of the first setting out of its
 /// range if it gives 3; the password's if it gives 8.
 #[unsafe(no_mangle)]
-#[tactic(auto, using(crate::proofs::WhichSetting::checked))]
 pub extern "C" fn pj_which_setting_2<'a>(
     name: &'a [u8],
     maker: &'a [u8],
@@ -63,7 +61,7 @@ pub extern "C" fn pj_which_setting_2<'a>(
 ) -> u32
     ensures { result ≡ setting_number (setting_told (set_up (wanted_of_2 name.now maker.now model.now
         other.now password.now inputs.now lamps.now warm cool serial.now
-        version.now (names_in lengths.now names.now)))) }
+        version.now (names_in lengths.now names.now))).says) }
 {
     let wanted = Wanted::for_class_1(
         name, maker, model, other, password, inputs, lamps, warm, cool,

@@ -2,12 +2,12 @@
 ghost use Rattle.std.specs.Prelude.{◌≡◌, length, Some};
 ghost use Rattle.pjlink.specs.declared.command.Command.{Command};
 ghost use Rattle.ours.specs.Board.{ours};
-ghost use Rattle.ours.specs.Tied.{wrote_told};
 ghost use Rattle.text.specs.Words.{over};
-ghost use Rattle.text.specs.Outcomes.{told_written, written_told};
+ghost use Rattle.text.specs.Outcomes.{with_length};
+ghost use Rattle.controller.specs.Writing.{unwritten_number};
 ghost use Rattle.codes.specs.Commands.{coded_command};
 ghost use Rattle.codes.specs.ByCode.{none_written, written_by};
-ghost use Rattle.board.specs.Results.{writing_of};
+ghost use Rattle.board.specs.Results.{writing_of, wrote_of};
 
 use codes::command::Coded;
 use controller::writing;
@@ -27,7 +27,7 @@ pub struct Written {
 
 /// The result in numbers of a call that writes so many bytes, or refuses.
 impl<E: Numbered> From<Result<usize, E>> for Written {
-    ghost from_gives = { λ outcome told. told ≡ writing_of (written_told E.number outcome) };
+    ghost from_gives = { λ outcome told. told ≡ writing_of E.number outcome };
 
     fn from(outcome: Result<usize, E>) -> Written {
         match outcome {
@@ -42,7 +42,7 @@ impl<E: Numbered> From<Result<usize, E>> for Written {
 
 // What is no command: no room for one comes first.
 fn none_written(room: usize) -> Written
-    ensures { result ≡ writing_of (told_written (none_written room)) }
+    ensures { result ≡ writing_of unwritten_number (with_length (none_written room)) }
 {
     if room < COMMAND_ROOM {
         return Written::from(Err(Unwritten::NoRoom));
@@ -60,12 +60,12 @@ pub extern "C" fn pj_write(
     password: &[u8],
     out: &mut [u8],
 ) -> Written
-    ensures says { result ≡ writing_of (told_written (written_by (coded_command coded) secured random password.now
-        (length out.old))) }
+    ensures says { result ≡ writing_of unwritten_number (with_length (written_by (coded_command coded) secured random
+        password.now (length out.old))) }
     ensures written { out.new ≡ over (written_by (coded_command coded) secured random password.now
         (length out.old)).bytes out.old }
     ensures of_a_command { (c : Command) → coded_command coded ≡ Some c
-        → (result ≡ writing_of (wrote_told (ours.write c secured random password.now out.old)))
+        → (result ≡ wrote_of (ours.write c secured random password.now out.old))
         × (out.new ≡ (ours.write c secured random password.now out.old).memory) }
 {
     match coded.command() {

@@ -1,7 +1,6 @@
 -- Time adds: a seconds and then b are a + b, in the definition and in the calls.
 -- Assumes nothing.
 use Rattle.std.proofs.Common.{arith, ℕ, ◌+◌, ◌≤◌, ◌≡◌, refl}
-use Rattle.record.specs.Given.{left_by, given_by}
 use Rattle.record.specs.declared.types.Device.{Device}
 use Rattle.clock.specs.Second.{second, times}
 use Rattle.clock.specs.Passing.{seconds_most, time_passed}
@@ -16,8 +15,7 @@ no_seconds d = refl
 pub seconds_add : (a b : ℕ) (d : Device) → times second (a + b) d ≡ times second b (times second a d)
 seconds_add a b d = times-add second a b d
 
--- the whole result, as a host is told of it; of an illegal record it is the refusal all three times
+-- the whole result; of an illegal record it is the refusal all three times
 pub time_adds : (a b : ℕ) (d : Device) → a + b ≤ seconds_most
-    → given_by (left_by d (time_passed d a)) (time_passed (left_by d (time_passed d a)) b)
-    ≡ given_by d (time_passed d (a + b))
+    → time_passed (time_passed d a).leaves b ≡ time_passed d (a + b)
 time_adds a b d within = grind (arith, passed_by, passed_illegal, passed_accepted, time_legal, seconds_add)

@@ -25,7 +25,6 @@ use Rattle.record.proofs.FactsTold.{connection_is, legal_is}
 use Rattle.std.proofs.lemmas.List.Elements.{All-map}
 use Rattle.clock.specs.Second.{times, changed_where, one_more, lamps_second}
 use Rattle.clock.specs.Second.{marks_in, own_second, connection_second, second}
-use Rattle.record.specs.Given.{left_by}
 use Rattle.clock.specs.Passing.{time_passed}
 use Rattle.clock.proofs.Repeated.{times_keeps}
 use Rattle.clock.proofs.ChangedWhere.{length-changed_where, where_at, where_unmarked}
@@ -97,9 +96,9 @@ pub time_legal : (n : ℕ) (d : Device) → is_legal d ≡ true → is_legal (ti
 time_legal n d h = (legal_is _).1 (times_keeps IsLegal second second_legal n d ((legal_is d).0 h))
 
 -- and the call keeps it legal, or not legal
-pub passed_legality : (d : Device) (n : ℕ) → is_legal (left_by d (time_passed d n)) ≡ is_legal d
+pub passed_legality : (d : Device) (n : ℕ) → is_legal (time_passed d n).leaves ≡ is_legal d
 passed_legality d n =
-    passed_by (λ r. is_legal r.device ≡ is_legal d) d n (λ h. refl) (λ h. time_legal n d h ∙ sym h)
+    passed_by (λ r. is_legal r.leaves ≡ is_legal d) d n (λ h. refl) (λ h. time_legal n d h ∙ sym h)
 
-pub passed_legal : (d : Device) (n : ℕ) → is_legal d ≡ true → is_legal (left_by d (time_passed d n)) ≡ true
+pub passed_legal : (d : Device) (n : ℕ) → is_legal d ≡ true → is_legal (time_passed d n).leaves ≡ true
 passed_legal d n h = passed_legality d n ∙ h

@@ -9,7 +9,6 @@ use Rattle.record.specs.declared.types.Settings.{Settings}
 use Rattle.record.specs.declared.types.Own.{Own}
 use Rattle.record.specs.declared.types.Device.{Device}
 use Rattle.clock.specs.Second.{times, own_second, second}
-use Rattle.record.specs.Given.{left_by}
 use Rattle.clock.specs.Passing.{time_passed}
 use Rattle.clock.proofs.ConnectionsAge.{untimed_stays}
 use Rattle.clock.proofs.InOneGo.{parts_pass, place_passes}
@@ -39,6 +38,6 @@ module _ (n : ℕ) (s : Settings) (o : Own) where
 pub time_leaves : (n : ℕ) (d : Device) → Untouched d (times second n d)
 time_leaves n d = grind (arith, parts_pass, own_else_stays, place_passes, untimed_stays)
 
-pub passed_leaves : (d : Device) (n : ℕ) → Untouched d (left_by d (time_passed d n))
+pub passed_leaves : (d : Device) (n : ℕ) → Untouched d (time_passed d n).leaves
 unfolding time_passed
 passed_leaves d n = grind (arith, time_leaves)

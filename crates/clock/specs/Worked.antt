@@ -4,11 +4,12 @@
 --   passed_figures n       what n seconds give of it: the number, the power, the seconds left, the lamp's seconds
 -- Assumes nothing.
 use Rattle.std.specs.Prelude.{ℕ, List, [], ◌∷◌, slice_index_or, codes}
+use Rattle.text.specs.Outcomes.{call_number}
 use Rattle.record.specs.Limits.{warming}
 use Rattle.record.specs.Wanted.{wanted_of}
 use Rattle.record.specs.Record.{start_device}
 use Rattle.record.specs.Updates.{with_own, with_power_left}
-use Rattle.record.specs.Given.{given_by}
+use Rattle.record.specs.Refusals.{refusal_number}
 use Rattle.record.specs.declared.types.Device.{Device}
 use Rattle.clock.specs.Passing.{time_passed}
 
@@ -20,5 +21,6 @@ warming_device = with_own fresh_device (with_power_left fresh_device.own warming
 
 abbrev pub passed_figures : ℕ → List ℕ
 passed_figures n =
-    let r = given_by warming_device (time_passed warming_device n) in
-    r.number ∷ r.device.own.power ∷ r.device.own.left ∷ slice_index_or r.device.own.lamps 0 0 ∷ []
+    let r = time_passed warming_device n in
+    let o = r.leaves.own in
+    call_number refusal_number r ∷ o.power ∷ o.left ∷ slice_index_or o.lamps 0 0 ∷ []

@@ -1,7 +1,6 @@
 // What is proved beside the contracts of the functions. Nothing is done here: that these functions have their contracts
 // is that the theorems stand.
-ghost use Rattle.std.specs.Prelude.{◌≡◌, ◌∷◌, [], true, Bool, ℕ, Result, OnErr};
-ghost use Rattle.record.specs.Given.{gives, left_by};
+ghost use Rattle.std.specs.Prelude.{◌≡◌, ◌∷◌, [], true, Bool, ℕ, Result};
 ghost use Rattle.record.specs.HostCalls.{fault_set};
 ghost use Rattle.record.specs.Legal.{is_timed};
 ghost use Rattle.record.specs.Limits.{on, warming};
@@ -19,10 +18,10 @@ ghost use Rattle.clock.specs.Second.{times, one_more, own_second, connection_sec
 ghost use Rattle.clock.specs.Worked.{passed_figures};
 
 /// Two results that meet the promise of the call are equal, the record that stands in its place included.
-#[tactic(auto, using(record::proofs::GivenTold::one_given))]
 pub fn one_result()
     ensures { (d : Device) (seconds : ℕ) (r s : Result (Unit {0}) Refusal) (x y : Device)
-        → (gives r x ≡ time_passed d seconds) × OnErr r (x ≡ d) → (gives s y ≡ time_passed d seconds) × OnErr s (y ≡ d)
+        → (r ≡ (time_passed d seconds).says) × (x ≡ (time_passed d seconds).leaves)
+        → (s ≡ (time_passed d seconds).says) × (y ≡ (time_passed d seconds).leaves)
         → (r ≡ s) × (x ≡ y) }
 {}
 
@@ -30,7 +29,7 @@ pub fn one_result()
 #[tactic(auto, using(crate::proofs::FaultMark::fault_and_time))]
 pub fn the_fault_flag_leaves_time()
     ensures { (d : Device) (n : ℕ) (m : Bool)
-        → time_passed (left_by d (fault_set d m)) n ≡ fault_set (left_by d (time_passed d n)) m }
+        → time_passed (fault_set d m).leaves n ≡ fault_set (time_passed d n).leaves m }
 {}
 
 /// Seconds worked out (RULES, Time): a warm-up with 20 seconds left is not over after 19 and is on after 20; a lamp

@@ -6,16 +6,19 @@
 -- Assumes nothing.
 use Rattle.std.specs.Prelude.{ℕ, Bool, List, if◌then◌else◌, Option, Some, None, nat_lt}
 use Rattle.pjlink.specs.declared.command.Command.{Command}
-use Rattle.text.specs.Outcomes.{WrittenAs, nothing_written}
+use Rattle.text.specs.Outcomes.{CallResult, refused_as}
 use Rattle.controller.specs.Writing.{command_room, written_command}
+use Rattle.controller.specs.declared.writing.Unwritten.{Unwritten}
+use Rattle.controller.specs.declared.writing.Unwritten.TheVariants.{NoRoom, OutOfRange}
 use Rattle.controller.specs.Reading.{read_reply}
 use Rattle.codes.specs.Readings.{no_reading, flat_reading}
 use Rattle.codes.specs.declared.readings.FlatReading.{FlatReading}
 
-abbrev pub none_written : ℕ → WrittenAs
-none_written room = if nat_lt room command_room then nothing_written 2 else nothing_written 3
+abbrev pub none_written : ℕ → CallResult Unwritten (Unit {0}) (Unit {0})
+none_written room = refused_as tt (if nat_lt room command_room then NoRoom else OutOfRange)
 
-abbrev pub written_by : Option Command → (secured : Bool) (random : ℕ) (password : List ℕ) (room : ℕ) → WrittenAs
+abbrev pub written_by : Option Command → (secured : Bool) (random : ℕ) (password : List ℕ) (room : ℕ)
+    → CallResult Unwritten (Unit {0}) (Unit {0})
 written_by (Some c) secured random password room = written_command c secured random password room
 written_by None secured random password room = none_written room
 

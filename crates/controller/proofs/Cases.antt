@@ -11,39 +11,36 @@ use Rattle.pjlink.specs.Forms.{erra_line, is_reply_form, head_body, reply_parame
 use Rattle.pjlink.specs.declared.command.Command.{Command}
 use Rattle.pjlink.specs.Bodies.{is_body}
 use Rattle.pjlink.specs.Reading.{read_parameter}
-use Rattle.text.specs.Outcomes.{WrittenAs, nothing_written}
+use Rattle.text.specs.Outcomes.{CallResult, served_as, refused_as}
 use Rattle.controller.specs.Writing.{command_room, is_writable, led_by, written_command}
+use Rattle.controller.specs.declared.writing.Unwritten.{Unwritten}
+use Rattle.controller.specs.declared.writing.Unwritten.TheVariants.{NoRoom, OutOfRange}
 use Rattle.controller.specs.Reading.{ReadAs, outcome_alone, saying, read_reply, erra_said, not_a_line, other_command}
 
 -- writing: 2, 3, or the line
 module _ (c : Command) (secured : Bool) (random : ℕ) (password : List ℕ) (room : ℕ) where
-  pub written_by : (P : WrittenAs → Type 0)
-      → (room < command_room → P (nothing_written 2))
-      → (command_room ≤ room → is_writable c secured password ≡ false → P (nothing_written 3))
+  pub written_by : (P : CallResult Unwritten (Unit {0}) (Unit {0}) → Type 0)
+      → (room < command_room → P (refused_as tt NoRoom))
+      → (command_room ≤ room → is_writable c secured password ≡ false → P (refused_as tt OutOfRange))
       → (command_room ≤ room → is_writable c secured password ≡ true
-      → P (record { number = 0; bytes = led_by secured random password ++ command_line c }))
+      → P (served_as tt (led_by secured random password ++ command_line c) tt))
       → P (written_command c secured random password room)
   unfolding written_command
   written_by P short illegal line = grind arith
 
   module _ (enough : command_room ≤ room) where
     pub written_line : is_writable c secured password ≡ true → written_command c secured random password room
-        ≡ record { number = 0; bytes = led_by secured random password ++ command_line c }
+        ≡ served_as tt (led_by secured random password ++ command_line c) tt
     unfolding written_command
     written_line w = if_no _ _ (le-ltb room command_room enough) ∙ if_no _ _ (ap not w)
 
     module _ (writable : is_command c ≡ true) where
-      led : {w : List ℕ} → led_by secured random password ≡ w → ◌≡◌ {A = WrittenAs}
-          (record { number = 0; bytes = led_by secured random password ++ command_line c })
-          (record { number = 0; bytes = w ++ command_line c })
-      led e = ap (λ (w : List ℕ). record { number = 0; bytes = w ++ command_line c }) e
-
       pub written_plain : secured ≡ false
-          → written_command c secured random password room ≡ record { number = 0; bytes = command_line c }
+          → written_command c secured random password room ≡ served_as tt (command_line c) tt
       written_plain e = grind (arith, written_line)
 
       pub written_led : secured ≡ true → is_password password ≡ true → written_command c secured random password room
-          ≡ record { number = 0; bytes = leading_digest random password ++ command_line c }
+          ≡ served_as tt (leading_digest random password ++ command_line c) tt
       written_led e f = grind (arith, written_line)
 
 -- reading a reply: the ERRA line, the form, the body, the parameter

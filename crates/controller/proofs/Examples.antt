@@ -7,17 +7,18 @@ use Rattle.pjlink.specs.declared.command.Command.TheVariants.{PowerSet, Query}
 use Rattle.pjlink.specs.Said.{okay, power_is}
 use Rattle.words.specs.declared.power.PowerStatus.TheVariants.{WarmUp}
 use Rattle.digest.specs.Computing.{computing as digest}
-use Rattle.text.specs.Outcomes.{nothing_written}
+use Rattle.text.specs.Outcomes.{served_as, refused_as}
 use Rattle.controller.specs.Writing.{written_command}
+use Rattle.controller.specs.declared.writing.Unwritten.TheVariants.{NoRoom}
 use Rattle.controller.specs.Reading.{meaning, outcome_alone, read_reply, not_a_line, other_command, disallowed}
 use Rattle.controller.specs.Computing.{computing}
 
 pub power_on_written : written_command (PowerSet true) false 0 [] 168
-    ≡ record { number = 0; bytes = codes "%1POWR 1\r" }
+    ≡ served_as tt (codes "%1POWR 1\r") tt
 unfolding computing pjlink digest
 power_on_written = refl
 
-pub memory_167 : written_command (PowerSet true) false 0 [] 167 ≡ nothing_written 2
+pub memory_167 : written_command (PowerSet true) false 0 [] 167 ≡ refused_as tt NoRoom
 unfolding computing pjlink digest
 memory_167 = refl
 

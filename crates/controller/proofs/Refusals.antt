@@ -6,20 +6,21 @@ use Rattle.text.proofs.Choices.{if_yes, if_no}
 use Rattle.pjlink.specs.Forms.{erra_line}
 use Rattle.pjlink.specs.declared.command.Command.{Command}
 use Rattle.pjlink.specs.Said.{Said, nothing}
-use Rattle.controller.specs.Writing.{command_room, is_writable, written_command}
+use Rattle.text.specs.Outcomes.{call_number}
+use Rattle.controller.specs.Writing.{command_room, is_writable, written_command, unwritten_number}
 use Rattle.controller.specs.Reading.{reading_outcome_number, outcome_alone, saying, read_reply, means_it, erra_said}
 use Rattle.controller.proofs.Cases.{written_by, reply_by, reply_erra}
 
 module _ (c : Command) (secured : Bool) (random : ℕ) (password : List ℕ) (room : ℕ) where
-  pub written_number : (written_command c secured random password room).number
+  pub written_number : call_number unwritten_number (written_command c secured random password room)
       ≡ (if nat_lt room command_room then 2 else if not (is_writable c secured password) then 3 else 0)
   unfolding written_command
   written_number = grind (arith, if_yes, lt-ltb, if_no, le-ltb)
 
-  pub refusal_writes_nothing : ((written_command c secured random password room).number ≡ 0 → ⊥)
+  pub refusal_writes_nothing : (call_number unwritten_number (written_command c secured random password room) ≡ 0 → ⊥)
       → (written_command c secured random password room).bytes ≡ []
   refusal_writes_nothing =
-      written_by c secured random password room (λ w. (w.number ≡ 0 → ⊥) → w.bytes ≡ []) (λ h n. refl)
+      written_by c secured random password room (λ w. (call_number unwritten_number w ≡ 0 → ⊥) → w.bytes ≡ []) (λ h n. refl)
       (λ h w n. refl) (λ h w n. absurd (n refl))
 
 module _ (c : Command) where

@@ -7,8 +7,10 @@ ghost use Rattle.pjlink.specs.declared.command.Command.TheVariants.{PowerSet, Qu
 ghost use Rattle.pjlink.specs.Said.{okay, power_is};
 ghost use Rattle.words.specs.declared.power.PowerStatus.TheVariants.{WarmUp};
 ghost use Rattle.controller.specs.Writing.{written_command};
+ghost use Rattle.controller.specs.declared.writing.Unwritten.{Unwritten};
+ghost use Rattle.controller.specs.declared.writing.Unwritten.TheVariants.{NoRoom};
 ghost use Rattle.text.specs.Words.{over};
-ghost use Rattle.text.specs.Outcomes.{WrittenTold, told_written, nothing_written};
+ghost use Rattle.text.specs.Outcomes.{served_as, refused_as, with_length};
 ghost use Rattle.controller.specs.declared.reading.Reading.{Reading};
 ghost use Rattle.controller.specs.declared.reading.Misread.{Misread};
 ghost use Rattle.controller.specs.Reading.{read_as, read_reply, meaning, outcome_alone};
@@ -19,10 +21,10 @@ ghost use Rattle.controller.specs.Reading.{not_a_line, other_command, disallowed
 #[tactic(auto, using(text::proofs::OneResult::one_result))]
 pub fn one_result()
     ensures command_written { (c : Command) (secured : Bool) (random : ℕ) (password out : List ℕ)
-        (r s : WrittenTold) (m n : List ℕ)
+        (r s : Result ℕ Unwritten) (m n : List ℕ)
         → let w = written_command c secured random password (length out) in
-        (r ≡ told_written w) × (m ≡ over w.bytes out)
-        → (s ≡ told_written w) × (n ≡ over w.bytes out) → (r ≡ s) × (m ≡ n) }
+        (r ≡ with_length w) × (m ≡ over w.bytes out)
+        → (s ≡ with_length w) × (n ≡ over w.bytes out) → (r ≡ s) × (m ≡ n) }
     ensures reply_read { (c : Command) (l : List ℕ) (r s : Result Reading Misread)
         → read_as r ≡ read_reply c l → read_as s ≡ read_reply c l → read_as r ≡ read_as s }
 {}
@@ -31,8 +33,8 @@ pub fn one_result()
 #[tactic(auto, using(crate::proofs::Examples::worked_commands))]
 pub fn commands_are_worked_out()
     ensures power_on { written_command (PowerSet true) false 0 [] 168
-        ≡ record { number = 0; bytes = codes "%1POWR 1\r" } }
-    ensures memory_167 { written_command (PowerSet true) false 0 [] 167 ≡ nothing_written 2 }
+        ≡ served_as tt (codes "%1POWR 1\r") tt }
+    ensures memory_167 { written_command (PowerSet true) false 0 [] 167 ≡ refused_as tt NoRoom }
 {}
 
 /// Replies as they are read (RULES, Controller): a body in any case; a warm-up; ERR2, which is no text; a reply to

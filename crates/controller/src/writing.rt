@@ -2,7 +2,7 @@
 ghost use Rattle.std.proofs.Common.{arith};
 ghost use Rattle.std.specs.Prelude.{◌≡◌, ◌≤◌, ◌++◌, length, true};
 ghost use Rattle.text.specs.Words.{over};
-ghost use Rattle.text.specs.Outcomes.{told_written, written_told};
+ghost use Rattle.text.specs.Outcomes.{with_length};
 ghost use Rattle.pjlink.specs.Commands.{command_line};
 ghost use Rattle.controller.specs.Writing.{command_room, is_writable, led_by, written_command, unwritten_number};
 
@@ -96,9 +96,7 @@ pub fn write_command(
     password: &[u8],
     out: &mut [u8],
 ) -> Result<usize, Unwritten>
-    ensures told { written_told unwritten_number result
-        ≡ told_written (written_command command secured random password.now
-        (length out.old)) }
+    ensures says { result ≡ with_length (written_command command secured random password.now (length out.old)) }
     ensures written { out.new ≡ over (written_command command secured random password.now
         (length out.old)).bytes out.old }
 {

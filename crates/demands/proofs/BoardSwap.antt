@@ -7,26 +7,30 @@ use Rattle.text.proofs.FlagsTold.{raised_many}
 use Rattle.words.specs.Bytes.{◌at◌}
 use Rattle.record.specs.Wanted.{Wanted}
 use Rattle.record.specs.Legal.{is_legal}
-use Rattle.record.specs.Given.{Given, acceptance_of}
 use Rattle.record.specs.declared.types.Settings.{Settings}
 use Rattle.record.specs.declared.types.Device.{Device}
 use Rattle.record.proofs.LegalTold.{own_of_legal}
 use Rattle.record.proofs.MarksTold.{marks_long}
+use Rattle.record.proofs.Calls.{set_up_accepted}
 use Rattle.record.proofs.Started.{started_parts}
-use Rattle.stored.specs.Form.{form_version, marked_form_of, stored_of, marks_stored, stored_form, stored_by}
-use Rattle.stored.proofs.Results.{stored_told, accepted_set_up, older_is_class_1}
+use Rattle.stored.specs.Form.{form_version, marked_form_of, old_form_of, stored_of, marks_stored, stored_form, stored_by}
+use Rattle.stored.proofs.Results.{StoredTold, stored_told, accepted_set_up, older_is_class_1}
 use Rattle.stored.specs.Loading.{started_with, loaded_from}
+use Rattle.stored.specs.Told.{load_error_number}
 use Rattle.stored.proofs.FormsLoad.{stored_in_range, stored_loads as form-again, marked_form_loads, marked_form_marks}
 use Rattle.stored.proofs.FormsLoad.{old_form_loads}
 use Rattle.stored.proofs.Fields.{bytes_all}
 use Rattle.stored.proofs.OneForm.{stored_again, forms_apart}
-use Rattle.ours.specs.Board.{ours, bytes_written}
+use Rattle.text.specs.Outcomes.{CallResult, served_as, call_number}
+use Rattle.record.specs.Refusals.{refusal_number}
+use Rattle.record.specs.declared.refusal.Refusal.{Refusal}
+use Rattle.ours.specs.Board.{ours, bytes_written, wrote_in}
 use Rattle.demands.specs.Calls.{Call, run}
 use Rattle.demands.specs.History.{HistoryEvent, Stage, steady, next_stage, marks_next, no_streams, history, marks_after}
 use Rattle.demands.specs.History.{burning_from, burning_seconds, stage_after, lamp_with}
 use Rattle.demands.specs.CountsSeconds.{Beginning, loads, IsClass1, start_marks, IsAccepted, run_of, history_of}
 use Rattle.demands.specs.BoardSwap.{LoadsAs, BoardSwap}
-use Rattle.demands.proofs.KeepsRunning.{over_front}
+use Rattle.demands.proofs.KeepsRunning.{wrote_number, over_front}
 use Rattle.demands.proofs.Agrees.{Agrees}
 use Rattle.demands.proofs.HistoryTold.{history_told}
 
@@ -41,12 +45,18 @@ module _ (v w : Wanted) (warm : v.warm ≡ w.warm) (cool : v.cool ≡ w.cool) wh
   burning_alike g ms k [] = refl
   burning_alike g ms k (e ∷ es) = grind (arith, burning_alike (next_stage w g e) (marks_next ms e) k es)
 
-module _ (d : Device) (m : List ℕ) (h : (stored_by d (length m)).number ≡ 0) where
-  form_stored : bytes_written (ours.store d m) ≡ stored_form d
-  form_stored = over_front (stored_by d (length m)).bytes m ∙ (stored_told d (length m) h).form
+module _ (d : Device) (m : List ℕ) (h : (ours.store d m).number ≡ 0) where
+  told : StoredTold d (length m) (stored_by d (length m))
+  told = stored_told d (length m) (sym (wrote_number refusal_number (stored_by d (length m)) m) ∙ h)
 
-  loads_again : loaded_from (stored_form d) ≡ acceptance_of (started_with (stored_of d) (marks_stored d))
-  loads_again = form-again d (stored_told d (length m) h).legal
+  form_stored : bytes_written (ours.store d m) ≡ stored_form d
+  form_stored =
+      ap (λ (r : CallResult Refusal (Unit {0}) (Unit {0})). bytes_written (wrote_in refusal_number r m))
+      told.form
+      ∙ over_front (stored_form d) m
+
+  loads_again : loaded_from (stored_form d) ≡ served_as tt [] (started_with (stored_of d) (marks_stored d))
+  loads_again = form-again d told.legal
 
   stored_loads : LoadsAs ours (bytes_written (ours.store d m)) (stored_of d) (marks_stored d)
   stored_loads = grind (arith, form_stored, loads_again)
@@ -69,7 +79,7 @@ module _ (b : Beginning) (w : Wanted) (cs es : List Call) (m : List ℕ) (place 
   known = (history_told b w cs h).1
 
   legal : is_legal old ≡ true
-  legal = (stored_told old (length m) stored).legal
+  legal = (told old m stored).legal
 
   count : old.settings.lamp_count ≡ length w.lamps
   count = ap (λ (s : Settings). s.lamp_count) known.settings
@@ -114,7 +124,7 @@ module _ (b : Beginning) (w : Wanted) (cs es : List Call) (m : List ℕ) (place 
   on_the_new : GoesOn (stored_form old)
   on_the_new =
       let accepted_so : IsAccepted ours (loads (marks_stored old)) kept
-      = (stored_in_range old legal, ap (λ (r : Given Device). r.number) (loads_again old m stored)) in
+      = (stored_in_range old legal, ap (call_number load_error_number) (loads_again old m stored)) in
       let more = history_of ours (loads (marks_stored old)) kept es in
       let alike = burning_alike kept w (ap (λ (s : Settings). s.warm) known.settings)
       (ap (λ (s : Settings). s.cool) known.settings) (steady false) (marks_stored old) place more in
@@ -133,6 +143,9 @@ marked_loads : (w : Wanted) (ms : List Bool) → IsClass1 w → (ours.load (mark
     → LoadsAs ours (marked_form_of w ms) w ms
 marked_loads w ms h e = grind (arith, marked_form_marks, marked_form_loads)
 
+old_sets_up : (w : Wanted) → IsClass1 w → ours.load (old_form_of w) ≡ ours.set_up w
+old_sets_up w h = grind (arith, old_form_loads, set_up_accepted)
+
 older_loads : (s : List ℕ) → (ours.load s).number ≡ 0 → (s at 0 ≡ form_version → ⊥)
     → (ours.load s).device.settings.class_number ≡ 1
 older_loads s e other = grind (arith, accepted_set_up, started_parts, older_is_class_1)
@@ -141,7 +154,7 @@ pub ours_swap : BoardSwap ours
 ours_swap = record {
   form_stored = form_stored;
   stored_loads = stored_loads;
-  old_form_sets_up = λ w h. old_form_loads w h.set_up h.class_1;
+  old_form_sets_up = old_sets_up;
   marked_form_loads = marked_loads;
   older_class_1 = older_loads;
   stored_again = λ s b new h. stored_again s h (bytes_all s b) new;

@@ -9,10 +9,12 @@
 use Rattle.std.proofs.Common.{ℕ, ◌<◌, ◌≡◌, refl, sym, ap, subst, ◌∙◌, true, false, List, [], arith, length, map, set}
 use Rattle.std.proofs.Common.{◌==◌, eqb-true, if◌then◌else◌}
 use Rattle.std.proofs.lemmas.Bool.{eqb-false}
+use Rattle.text.specs.Outcomes.{number_answered}
 use Rattle.text.specs.Flags.{flag_of}
 use Rattle.text.specs.Words.{over}
 use Rattle.text.specs.Rows.{first_of}
 use Rattle.text.proofs.Choices.{if_by}
+use Rattle.record.specs.Refusals.{refusal_number}
 use Rattle.record.specs.Limits.{places_count}
 use Rattle.record.specs.Legal.{is_legal}
 use Rattle.record.specs.Record.{closed}
@@ -28,8 +30,8 @@ use Rattle.clock.specs.Second.{times, own_second, connection_second}
 use Rattle.clock.proofs.Cases.{passed_by}
 use Rattle.clock.proofs.InOneGo.{parts_pass, place_passes}
 use Rattle.device.specs.Calls.{greeting, new_connection}
-use Rattle.device.proofs.Cases.{takes, received_by, opened_placed_by, closed_by_lem}
-use Rattle.ours.specs.Board.{ours, lent_by, closed_as}
+use Rattle.device.proofs.Cases.{takes, received_by, opened_by_lem, closed_by_lem}
+use Rattle.ours.specs.Board.{ours, given_in, received_in, opened_in}
 use Rattle.demands.specs.Calls.{Call, opens, closes, receives, passes, faults, reports, enables, after, number_of, Gave}
 use Rattle.demands.specs.Calls.{gave_lent, gave_number, gave_by}
 use Rattle.demands.specs.KeepsRunning.{rows_of}
@@ -101,25 +103,27 @@ served d c = record { settings = d.settings; own = own_then d c; connections = c
 pub call_by : (d : Device) (c : Call) (P : Gave → Device → Type 0) → ((n : ℕ) → (n ≡ 0 → ⊥) → P (unserved n c) d)
     → (IsServed d c → P (gives d c) (served d c)) → P (gave_by ours d c) (after ours d c)
 call_by d (opens random m) P refused serves =
-    opened_placed_by d random (length m) (λ k r. P (gave_lent k (lent_by r m)) r.device) refused
+    opened_by_lem d random (length m) (λ c. P (gave_lent (number_answered c) (opened_in c m)) c.leaves)
+    (λ e. refused (refusal_number e))
     (λ legal enough free. serves (record { legal = legal; there = free }))
 call_by d (closes p) P refused serves =
-    closed_by_lem d p (λ r. P (gave_number (closed_as r)) r.device) refused
+    closed_by_lem d p (λ c. P (gave_number (given_in refusal_number c)) c.leaves) (λ e. refused (refusal_number e))
     (λ legal there live. serves (record { legal = legal; there = (there, live) }))
 call_by d (receives p bs m) P refused serves =
-    received_by d p bs (length m) (λ r. P (gave_lent 0 (lent_by r m)) r.device) refused
+    received_by d p bs (length m) (λ c. P (gave_lent 0 (received_in c m)) c.leaves) (λ e. refused (refusal_number e))
     (λ legal enough there live. serves (record { legal = legal; there = (there, live) }))
 call_by d (passes n) P refused serves =
-    passed_by (λ r. P (gave_number r) r.device) d n (λ illegal. refused 1 (λ z. omega arith))
+    passed_by (λ c. P (gave_number (given_in refusal_number c)) c.leaves) d n (λ illegal. refused 1 (λ z. omega arith))
     (λ legal. subst (P (gives d (passes n))) (sym (parts_pass n d)) (serves (record { legal = legal; there = tt })))
 call_by d (faults fault) P refused serves =
-    fault_set_by d (λ r. P (gave_number r) r.device) fault (refused 1 (λ z. omega arith))
+    fault_set_by d (λ c. P (gave_number (given_in refusal_number c)) c.leaves) fault (refused 1 (λ z. omega arith))
     (λ legal. serves (record { legal = legal; there = tt }))
 call_by d (reports errors) P refused serves =
-    errors_set_by d (λ r. P (gave_number r) r.device) errors (refused 1 (λ z. omega arith))
-    (refused 3 (λ z. omega arith)) (λ legal right. serves (record { legal = legal; there = tt }))
+    errors_set_by d (λ c. P (gave_number (given_in refusal_number c)) c.leaves) errors
+    (refused 1 (λ z. omega arith)) (refused 3 (λ z. omega arith)) (λ legal right. serves (record { legal = legal; there = tt }))
 call_by d (enables lamp mark) P refused serves =
-    mark_set_by d (λ r. P (gave_number r) r.device) lamp mark refused
+    mark_set_by d (λ c. P (gave_number (given_in refusal_number c)) c.leaves) lamp mark
+    (λ e. refused (refusal_number e))
     (λ legal there left idle. serves (record { legal = legal; there = there }))
 
 -- two records from which the call finds the same rows: it is refused of both with one number, or served of both

@@ -144,9 +144,9 @@ module _ (s : Settings) (o : Own) (settings : is_settings s ≡ true) (own : is_
 
 -- on any input, refused or not
 pub short_of_class_1 : (d : Device) → d.settings.class_number ≡ 1 → (p : ℕ) (bs : List ℕ) (room : ℕ)
-    → length (received_at d p bs room).reply ≤ longest_of_class_1
+    → length (received_at d p bs room).bytes ≤ longest_of_class_1
 short_of_class_1 d one p bs room =
-    received_by d p bs room (λ r. length r.reply ≤ longest_of_class_1) (λ n z. omega arith)
+    received_by d p bs room (λ r. length r.bytes ≤ longest_of_class_1) (λ n z. omega arith)
     (λ h s t c. taken_short d.settings d.own (legal_settings d h) (legal_own d h) one (connection_at d p) bs)
 
 -- ---- what is listed

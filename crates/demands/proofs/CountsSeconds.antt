@@ -6,10 +6,13 @@
 use Rattle.std.proofs.Common.{ℕ, zero, suc, ◌+◌, ◌-◌, ◌≤◌, ◌<◌, ◌≡◌, refl, sym, ap, ◌∙◌, Bool, true, false, ◌&&◌, List}
 use Rattle.std.proofs.Common.{[], ◌∷◌, arith, length, slice_index_or, set, length-set, ⊎_elim, add-zero, zero-add, take}
 use Rattle.std.proofs.Common.{length-take, ext_get_or, if◌then◌else◌}
+use Rattle.text.specs.Outcomes.{CallResult}
+use Rattle.record.specs.declared.refusal.Refusal.{Refusal}
+use Rattle.record.specs.Refusals.{refusal_number}
 use Rattle.record.specs.Views.{marks_seen}
 use Rattle.record.specs.Limits.{lamp_limit, phase_open, is_lit}
 use Rattle.record.specs.Wanted.{Wanted}
-use Rattle.ours.specs.Board.{ours, reply}
+use Rattle.ours.specs.Board.{ours, given_in, reply}
 use Rattle.demands.specs.Calls.{Call}
 use Rattle.demands.specs.History.{HistoryEvent, switched, a_second, mark_switched, Stage, steady, next_stage}
 use Rattle.demands.specs.History.{is_burning_stage}
@@ -31,7 +34,7 @@ use Rattle.record.proofs.LegalTold.{legal_settings, own_of_legal}
 use Rattle.meaning.specs.Meaning.{lamp_said, lamps_of}
 use Rattle.meaning.proofs.LampsSaid.{length-lamps_said}
 use Rattle.meaning.proofs.LampsTold.{lamps_answered, lamp_told}
-use Rattle.device.specs.Calls.{Result, reply_room, received_at}
+use Rattle.device.specs.Calls.{reply_room, received_at}
 use Rattle.device.proofs.CommandsReceived.{reply_to, command_received}
 use Rattle.controller.specs.Reading.{meaning, read_reply}
 use Rattle.demands.proofs.WrittenAndRead.{is_between, command_reads_back}
@@ -39,7 +42,6 @@ use Rattle.demands.specs.SpeaksPjlink.{BetweenLines}
 use Rattle.demands.proofs.KeepsRunning.{over_front}
 use Rattle.demands.proofs.Agrees.{Agrees, lit_shown}
 use Rattle.record.proofs.FactsTold.{settings_is}
-use Rattle.record.specs.Given.{Given}
 use Rattle.clock.specs.Second.{times, second}
 use Rattle.clock.proofs.Cases.{passed_by}
 use Rattle.clock.proofs.TimeAdds.{time_adds}
@@ -170,16 +172,16 @@ module _ (w : Wanted) (ms : List Bool) (es : List HistoryEvent) {stream : Stream
       between.none_held
       (Query Lamp) refl any_class between.in_phase in
       let lamps = lamps_answered d.settings d.own (omega (arith, count)) ∙ ap lamps_are lamps_same in
-      let seam = over_front result.reply m in
+      let seam = over_front result.bytes m in
       record {
-        bytes = seam ∙ ap (λ (r : Result Device). r.reply) said ∙ ap (reply_to (Query Lamp)) lamps;
+        bytes = seam ∙ ap (λ (c : CallResult Refusal ℕ Device). c.bytes) said ∙ ap (reply_to (Query Lamp)) lamps;
         read = ap (read_reply (Query Lamp)) seam ∙ back.said ∙ ap meaning lamps;
       }
 
 pub ours_counts_seconds : CountsSeconds ours
 ours_counts_seconds = record {
-  time_adds = λ d a b legal within. time_adds a b d within;
-  second_by_second = λ d n. passed_by (λ (r : Given Device). Leaves ours r (times second n d)) d n
+  time_adds = λ d a b legal within. ap (given_in refusal_number) (time_adds a b d within);
+  second_by_second = λ d n. passed_by (λ c. Leaves ours (given_in refusal_number c) (times second n d)) d n
       (λ h e. absurd (omega arith)) (λ h e. refl);
   lamps_tell_the_history = λ b w cs place accepted inside. (history_told b w cs accepted).1.lamps place inside;
   hours_told = λ b w cs p m accepted some between enough.

@@ -8,6 +8,7 @@ use Rattle.std.proofs.Common.{ℕ, ◌+◌, ◌-◌, ◌≡◌, ap, ◌∙◌, B
 use Rattle.std.proofs.Common.{length-append, codes, refl, sym, subst, take, replicate, ◌==◌, eqb-true, eq-eqb, ne_eqb}
 use Rattle.std.proofs.Common.{◌≤◌, ◌<◌, zero-add, add_assoc, slice_index_or, if◌then◌else◌, Ok}
 use Rattle.std.proofs.Math.Seq.{drop-append_seam, take-append_seam}
+use Rattle.text.specs.Outcomes.{CallResult, call_number, number_answered}
 use Rattle.text.proofs.Choices.{if_yes, both_left}
 use Rattle.pjlink.specs.declared.body.Body.TheVariants.{Powr}
 use Rattle.pjlink.specs.Bodies.{is_body}
@@ -18,12 +19,13 @@ use Rattle.demands.specs.History.{towards, next_stage, Streams, going_on_at, str
 use Rattle.demands.specs.History.{stage_from, marks_after, burning_from, burning_seconds, stage_after}
 use Rattle.pjlink.specs.declared.command.Command.TheVariants.{PowerSet}
 use Rattle.pjlink.specs.Said.{okay}
+use Rattle.record.specs.declared.refusal.Refusal.{Refusal}
+use Rattle.record.specs.Refusals.{refusal_number}
 use Rattle.record.specs.Limits.{lamp_limit}
 use Rattle.record.specs.Wanted.{Wanted}
 use Rattle.record.specs.Places.{connection_at, no_connection}
 use Rattle.record.specs.declared.types.Settings.{Settings}
 use Rattle.record.specs.declared.types.Own.{Own}
-use Rattle.record.specs.Given.{Given}
 use Rattle.record.specs.declared.types.Device.{Device}
 use Rattle.record.proofs.Calls.{fault_set_by, errors_set_by, mark_set_by, set_up_in_range, set_up_accepted}
 use Rattle.record.proofs.LegalTold.{own_of_legal}
@@ -33,13 +35,13 @@ use Rattle.clock.proofs.Cases.{passed_by}
 use Rattle.meaning.specs.Meaning.{answer_for, after_request}
 use Rattle.meaning.proofs.PowerSets.{power_set_only, on_when_off, on_otherwise, off_when_on, off_otherwise}
 use Rattle.stream.specs.Collecting.{line_text}
-use Rattle.device.specs.Calls.{Result, accepted_taken}
+use Rattle.device.specs.Calls.{accepted_taken}
 use Rattle.device.proofs.Cases.{takes, received_by}
 use Rattle.device.proofs.Histories.{StreamEffect, stays, turns, Tells, received_tells, tells_on, opening_tells}
 use Rattle.device.proofs.Histories.{closing_tells}
 use Rattle.device.proofs.Untouched.{opening_keeps_settings, opening_keeps_own, closing_keeps_settings}
 use Rattle.device.proofs.Untouched.{closing_keeps_own}
-use Rattle.ours.specs.Board.{ours, lent_by, reply}
+use Rattle.ours.specs.Board.{ours, received_in, reply}
 use Rattle.demands.specs.Calls.{Call, opens, closes, receives, passes, faults, reports, enables, after, run}
 use Rattle.demands.proofs.Agrees.{power_of, left_of, Shows, Agrees, agrees_at, remarked, recounted, Then, agrees_none}
 use Rattle.demands.proofs.Agrees.{agrees_switched, agrees_seconds, agrees_marked, stage_from-append, marks_after-append}
@@ -117,31 +119,33 @@ module _ {w : Wanted} {g : Stage} {ms : List Bool} {n : ℕ → ℕ} {stream : S
         (ap (λ (k : Own). k.left) own ∙ shows.left) m same last))
 
   module _ (p : ℕ) (bs m : List ℕ) where
-    abbrev Told : Result Device → Type 0
+    abbrev Told : CallResult Refusal ℕ Device → Type 0
     Told r =
-        Tells d.settings d.own (line_text (connection_at d p).line ++ take r.taken bs) r.reply
-        r.device.own (connection_at r.device p)
+        Tells d.settings d.own (line_text (connection_at d p).line ++ take (number_answered r) bs)
+        r.bytes r.leaves.own (connection_at r.leaves p)
 
     -- what is held at each place ends its stream
-    going_on : (r : Result Device) → ((q : ℕ) → (q ≡ p → ⊥) → connection_at r.device q ≡ connection_at d q)
-        → Ends (stream p ++ take r.taken bs) (line_text (connection_at r.device p).line)
+    going_on : (r : CallResult Refusal ℕ Device)
+        → ((q : ℕ) → (q ≡ p → ⊥) → connection_at r.leaves q ≡ connection_at d q)
+        → Ends (stream p ++ take (number_answered r) bs) (line_text (connection_at r.leaves p).line)
         → (q : ℕ) (t : Bool) → (q == p) ≡ t
-        → Ends (if t then stream q ++ take r.taken bs else stream q) (line_text (connection_at r.device q).line)
+        → Ends (if t then stream q ++ take (number_answered r) bs else stream q)
+        (line_text (connection_at r.leaves q).line)
     going_on r others last q t e = grind arith
 
     -- the reply is read off the lent memory; at every other place all is as it was
-    handed : (r : Result Device) → r.device.settings ≡ d.settings
-        → ((q : ℕ) → (q ≡ p → ⊥) → connection_at r.device q ≡ connection_at d q) → Told r
-        → Seen (going_on_at stream p (take r.taken bs)) p (reply (lent_by r m)) r.device
+    handed : (r : CallResult Refusal ℕ Device) → r.leaves.settings ≡ d.settings
+        → ((q : ℕ) → (q ≡ p → ⊥) → connection_at r.leaves q ≡ connection_at d q) → Told r
+        → Seen (going_on_at stream p (take (number_answered r) bs)) p (reply (received_in r m)) r.leaves
     handed r settings others t =
-        let more = take r.taken bs in
+        let more = take (number_answered r) bs in
         let told = tells_on d.settings d.own (a.last p) more t in
         let here : going_on_at stream p more p ≡ stream p ++ more = if_yes _ _ (eq-eqb p p refl) in
-        rw (take-append_seam r.reply (drop (length r.reply) m))
-        (by_effect (going_on_at stream p more) p r.reply r.device settings
+        rw (take-append_seam r.bytes (drop (length r.bytes) m))
+        (by_effect (going_on_at stream p more) p r.bytes r.leaves settings
         (λ q. going_on r others told.last q (q == p) refl)
         told.lamps told.marks
-        (subst (λ (k : List ℕ). StreamEffect d.settings d.own k r.reply r.device.own) (sym here)
+        (subst (λ (k : List ℕ). StreamEffect d.settings d.own k r.bytes r.leaves.own) (sym here)
         told.effect))
 
   -- ---- any call
@@ -167,8 +171,8 @@ module _ {w : Wanted} {g : Stage} {ms : List Bool} {n : ℕ → ℕ} {stream : S
   IsNoted c =
       Then w g ms n (seen ours d (streams_after ours d stream c) c) (streams_after ours d stream c) (after ours d c)
 
-  abbrev QuietBy : Given Device → Type 0
-  QuietBy r = Quiet r.device
+  abbrev QuietBy : CallResult Refusal (Unit {0}) Device → Type 0
+  QuietBy c = Quiet c.leaves
 
   pub noted : (c : Call) → IsNoted c
   noted (opens random m) = grind (arith, reconnected, opening_keeps_settings, opening_keeps_own, opening_tells)
@@ -178,7 +182,7 @@ module _ {w : Wanted} {g : Stage} {ms : List Bool} {n : ℕ → ℕ} {stream : S
   noted (reports errors) =
       errors_set_by d QuietBy errors kept kept (λ legal right. quiet _ refl refl refl refl refl a.last)
   noted (enables lamp mark) =
-      mark_set_by d Enabled lamp mark (λ n z. rw (ne_eqb n 0 z) kept)
+      mark_set_by d Enabled lamp mark (λ e z. rw (ne_eqb (refusal_number e) 0 z) kept)
       (λ legal there left idle.
       let own = own_of_legal d legal in
       let count : d.settings.lamp_count ≡ length w.lamps
@@ -187,27 +191,29 @@ module _ {w : Wanted} {g : Stage} {ms : List Bool} {n : ℕ → ℕ} {stream : S
       agrees_marked ms lamp mark g (mark_still g)
       (remarked a lamp mark (omega (arith, count)) (omega (arith, room, own.lamps.inside))))
     where
-      Enabled : Given Device → Type 0
-      Enabled r =
-          Then w g ms n (if r.number == 0 then mark_switched lamp mark ∷ [] else []) stream r.device
+      Enabled : CallResult Refusal (Unit {0}) Device → Type 0
+      Enabled c =
+          Then w g ms n (if call_number refusal_number c == 0 then mark_switched lamp mark ∷ [] else []) stream c.leaves
 
       mark_still : (h : Stage) → next_stage w h (mark_switched lamp mark) ≡ h
       mark_still (steady on) = refl
       mark_still (towards on k) = refl
   noted (passes k) = passed_by Passed d k (λ illegal. kept) (λ legal. agrees_seconds k legal a)
     where
-      Passed : Given Device → Type 0
-      Passed r = Then w g ms n (if r.number == 0 then replicate k a_second else []) stream r.device
+      Passed : CallResult Refusal (Unit {0}) Device → Type 0
+      Passed c =
+          Then w g ms n (if call_number refusal_number c == 0 then replicate k a_second else []) stream c.leaves
   noted (receives p bs m) =
-      received_by d p bs (length m) (λ r. Told p bs m r → Received r) (λ n z t. rw (ne_eqb n 0 z) kept)
+      received_by d p bs (length m) (λ r. Told p bs m r → Received r) (λ e z t. rw (ne_eqb (refusal_number e) 0 z) kept)
       (λ h s i c t. handed p bs m (accepted_taken d p (takes d p bs)) refl
       (λ q other. placed_elsewhere d d.own p _ q other) t)
       (received_tells d p bs (length m))
     where
-      Received : Result Device → Type 0
-      Received r =
+      Received : CallResult Refusal ℕ Device → Type 0
+      Received c =
+          let r = received_in c m in
           let now = if r.number == 0 then going_on_at stream p (take r.taken bs) else stream in
-          Then w g ms n (if r.number == 0 then power_set (now p) (reply (lent_by r m)) else []) now r.device
+          Then w g ms n (if r.number == 0 then power_set (now p) (reply r) else []) now r.device
 
 -- ---- set-up, or load
 

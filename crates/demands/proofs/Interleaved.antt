@@ -9,6 +9,7 @@ use Rattle.std.proofs.Common.{ℕ, ◌+◌, ◌≡◌, refl, ap, ◌∙◌, true
 use Rattle.std.proofs.Common.{sym, subst, append_assoc, length, take, length-append, take_at, ◌<◌, append-nil, eqb-true}
 use Rattle.std.proofs.lemmas.Bool.{not-true, eqb-false}
 use Prim.Native.Char.{code}
+use Rattle.text.specs.Outcomes.{number_answered}
 use Rattle.text.proofs.Choices.{if_no, both_left, both_right, if_by}
 use Rattle.words.specs.Bytes.{is_not_cr}
 use Rattle.demands.specs.Interleaved.{line_ends, to_first_cr, HeardAt, heard_nothing, heard_then, heard_of}
@@ -170,11 +171,11 @@ module _ (q : ℕ) (d : Device) where
     call_there : let r = ours.receive d q bs m in
         HeardThere (heard_of d.own (take r.taken bs) (reply r)) (connection_at r.device q)
     call_there =
-        let r = received_at d q bs (length m) in
-        subst (λ (s : List ℕ). HeardThere (heard_of d.own (take r.taken bs) s) (connection_at r.device q))
-        (sym (over_front r.reply m))
+        let c = received_at d q bs (length m) in
+        subst (λ (s : List ℕ). HeardThere (heard_of d.own (take (number_answered c) bs) s) (connection_at c.leaves q))
+        (sym (over_front c.bytes m))
         (received_by d q bs (length m)
-        (λ k. HeardThere (heard_of d.own (take k.taken bs) k.reply) (connection_at k.device q))
+        (λ k. HeardThere (heard_of d.own (take (number_answered k) bs) k.bytes) (connection_at k.leaves q))
         (λ n z. hears_none d.settings d.own (connection_at d q))
         (λ legal enough there live.
         let t = takes d q bs in

@@ -3,28 +3,31 @@
 -- given, takes nothing and writes nothing; and none makes a legal record otherwise. A refusal replies nothing; a
 -- reply has at most 136 bytes, and a digest with a command's line at most 168: no more than what the calls ask for.
 -- Assumes nothing.
-use Rattle.std.proofs.Common.{ℕ, ◌≤◌, ◌≡◌, ap, List, [], arith, length, take, drop, length-append, length-drop, Bool}
+use Rattle.std.proofs.Common.{ℕ, ◌≤◌, ◌≡◌, ap, List, [], arith, length, take, drop, length-append, length-drop, Bool, ◌++◌}
 use Rattle.std.proofs.Common.{true, false, refl, ◌∙◌, not, ◌∷◌, if◌then◌else◌}
 use Rattle.std.proofs.Math.Seq.{take-append_seam, drop-append_seam}
+use Rattle.text.specs.Outcomes.{CallResult, call_number, number_answered}
 use Rattle.text.specs.Words.{over}
 use Rattle.digest.proofs.Laws.{length-leading_digest}
 use Rattle.pjlink.specs.Commands.{command_line, body_of, command_class}
 use Rattle.pjlink.specs.declared.command.Command.{Command}
 use Rattle.pjlink.proofs.CommandLines.{command_length, length-command_line}
+use Rattle.record.specs.declared.refusal.Refusal.{Refusal}
+use Rattle.record.specs.Refusals.{refusal_number}
 use Rattle.record.specs.declared.types.Device.{Device}
-use Rattle.stored.specs.Form.{stored_by}
+use Rattle.stored.specs.Form.{stored_form}
 use Rattle.stored.proofs.Results.{storing_by, refused_store_writes_nothing, storing_number, loading_number}
 use Rattle.stored.proofs.Results.{refused_load_blank, accepted_legal}
 use Rattle.device.specs.Receiving.{digest_long}
-use Rattle.device.specs.Calls.{longest_reply, Result, received_at, opened_by}
+use Rattle.device.specs.Calls.{longest_reply, received_at, opened_by}
 use Rattle.device.proofs.Cases.{received_by, opened_by_lem}
 use Rattle.device.proofs.Counts.{received_within}
 use Rattle.device.proofs.Short.{longest_greeting, receiving_short, opening_short}
-use Rattle.controller.specs.Writing.{led_by, written_command}
+use Rattle.controller.specs.Writing.{led_by, unwritten_number}
 use Rattle.controller.proofs.Cases.{written_by}
 use Rattle.pjlink.proofs.GreetingCases.{greeting_open_lem, greeting_refused, greeting_secured_lem, greeting_none}
-use Rattle.ours.specs.Board.{lent_by, ours}
-use Rattle.demands.specs.Calls.{Call, number_of, after}
+use Rattle.ours.specs.Board.{lent_in, wrote_in, ours}
+use Rattle.demands.specs.Calls.{Call, opens, receives, number_of, after}
 use Rattle.demands.specs.KeepsRunning.{Inside, WroteInside, StaysInside, rows_of, set_up_rows, writer_rows, reader_rows}
 use Rattle.demands.specs.KeepsRunning.{greeting_rows, Untouched, WritesNothing, KeepsRunning}
 use Rattle.text.specs.Rows.{◌when◌, first_of}
@@ -35,14 +38,14 @@ use Rattle.pjlink.specs.Writings.{IsAllowed}
 use Rattle.record.specs.Wanted.{Wanted}
 use Rattle.record.specs.Legal.{is_legal}
 use Rattle.record.proofs.Results.{set_up_number as set-up-table, fault_number, errors_number, mark_number}
-use Rattle.record.proofs.Results.{refusal_leaves, set_up_refusal}
+use Rattle.record.proofs.Results.{fault_refusal, errors_refusal, mark_refusal, set_up_refusal}
 use Rattle.clock.proofs.Results.{time_passed-number, passed_refusal}
-use Rattle.device.proofs.Numbers.{received_at-number, opened_number, closed_number}
+use Rattle.device.proofs.Numbers.{received_number, opened_number, closed_number}
 use Rattle.controller.specs.Reading.{reading_outcome_number, means_it, erra_said, not_a_line, other_command, disallowed}
 use Rattle.pjlink.specs.Greetings.{greets, random_in, read_greeting, greeting_number}
 use Rattle.controller.proofs.Refusals.{written_number, refusal_writes_nothing, number_means_nothing}
 use Rattle.controller.proofs.ReadsSound.{outcome_is_first}
-use Rattle.device.proofs.Refusals.{Refused, receiving_refused, opening_refused, closing_refused, opening_refused_place}
+use Rattle.device.proofs.Refusals.{Refused, receiving_refused, opening_refused, closing_refused, none_answered}
 use Rattle.record.proofs.HostKept.{fault_legal, errors_legal, mark_legal}
 use Rattle.clock.proofs.TimeLegal.{passed_legal}
 use Rattle.device.proofs.Legal.{receiving_legal, opening_legal, closing_legal}
@@ -65,48 +68,59 @@ led_by_long : (secured : Bool) (random : ℕ) (password : List ℕ) → length (
 led_by_long secured random password = grind (arith, length-leading_digest)
 
 module _ (d : Device) (m : List ℕ) where
-  abbrev Fits : Result Device → Type 0
-  Fits r = length r.reply ≤ length m
+  abbrev Fits : CallResult Refusal ℕ Device → Type 0
+  Fits r = length r.bytes ≤ length m
 
   received_fits : (p : ℕ) (bs : List ℕ) → Fits (received_at d p bs (length m))
   received_fits p bs =
-      received_by d p bs (length m) (λ r. length r.reply ≤ longest_reply → Fits r) (λ n z short. omega arith)
+      received_by d p bs (length m) (λ r. length r.bytes ≤ longest_reply → Fits r) (λ n z short. omega arith)
       (λ h s t c short. omega arith)
       (receiving_short d p bs (length m))
 
   opened_fits : (random : ℕ) → Fits (opened_by d random (length m))
   opened_fits random =
-      opened_by_lem d random (length m) (λ r. length r.reply ≤ longest_greeting → Fits r) (λ n z short. omega arith)
+      opened_by_lem d random (length m) (λ r. length r.bytes ≤ longest_greeting → Fits r) (λ n z short. omega arith)
       (λ h s c short. omega arith)
       (opening_short d random (length m))
 
-  lent_inside : (r : Result Device) → Fits r → Inside m (lent_by r m)
-  lent_inside r h = record { room = length-over r.reply m h; fits = h; later = over_later r.reply m }
+  lent_inside : (n : ℕ) (r : CallResult Refusal ℕ Device) → Fits r → Inside m (lent_in refusal_number n r m)
+  lent_inside n r h = record { room = length-over r.bytes m h; fits = h; later = over_later r.bytes m }
 
 pub stays_inside : (d : Device) (c : Call) → StaysInside ours d c
-stays_inside d c = grind (arith, lent_inside, opened_fits, received_fits, received_within)
+stays_inside d (opens random m) = lent_inside d m 0 _ (opened_fits d m random)
+stays_inside d (receives p bs m) = (
+  lent_inside d m (number_answered (received_at d p bs (length m))) _ (received_fits d m p bs),
+  received_within d p bs (length m),
+)
+stays_inside d c = tt
+
+-- what a call that writes gives in numbers has its number
+pub wrote_number : {E : Type 0} (why : E → ℕ) (c : CallResult E (Unit {0}) (Unit {0})) (m : List ℕ)
+    → (wrote_in why c m).number ≡ call_number why c
+wrote_number why c m = grind arith
+
+wrote_inside : (m bs : List ℕ) (n : ℕ) → length bs ≤ length m
+    → WroteInside m (record { number = n; length = length bs; memory = over bs m })
+wrote_inside m bs n h = record { room = length-over bs m h; fits = h; later = over_later bs m }
 
 module _ (c : Command) (secured : Bool) (random : ℕ) (password m : List ℕ) where
-  written_fits : length (written_command c secured random password (length m)).bytes ≤ length m
-  written_fits =
-      written_by c secured random password (length m) (λ w. length w.bytes ≤ length m) (λ h. omega arith)
-      (λ h w. omega arith)
-      (λ h w. omega (
+  pub writer_stays_inside : WroteInside m (ours.write c secured random password m)
+  writer_stays_inside =
+      written_by c secured random password (length m) (λ r. WroteInside m (wrote_in unwritten_number r m))
+      (λ h. wrote_inside m [] 2 (omega arith)) (λ h w. wrote_inside m [] 3 (omega arith))
+      (λ h w. wrote_inside m (led_by secured random password ++ command_line c) 0
+      (omega (
         arith,
         length-append (led_by secured random password) (command_line c),
         led_by_long secured random password,
         length-command_line c,
         command_length c,
-      ))
-
-  pub writer_stays_inside : WroteInside m (ours.write c secured random password m)
-  writer_stays_inside = grind (arith, length-over, written_fits, over_later)
+      )))
 
 pub store_stays_inside : (d : Device) (m : List ℕ) → WroteInside m (ours.store d m)
 store_stays_inside d m =
-    let bs = (stored_by d (length m)).bytes in
-    let fits = storing_by d (length m) (λ r. length r.bytes ≤ length m) (λ n some. omega arith) (λ h l. l) in
-    record { room = length-over bs m fits; fits = fits; later = over_later bs m }
+    storing_by d (length m) (λ r. WroteInside m (wrote_in refusal_number r m))
+    (λ e. wrote_inside m [] (refusal_number e) (omega arith)) (λ h l. wrote_inside m (stored_form d) 0 l)
 
 pub number_is_first : (d : Device) (c : Call) → number_of ours d c ≡ first_of (rows_of d c)
 number_is_first d c =
@@ -114,7 +128,7 @@ number_is_first d c =
       arith,
       opened_number,
       closed_number,
-      received_at-number,
+      received_number,
       time_passed-number,
       fault_number,
       errors_number,
@@ -126,7 +140,8 @@ set_up_number = set-up-table
 
 pub writer_number : (c : Command) (secured : Bool) (random : ℕ) (password m : List ℕ)
     → (ours.write c secured random password m).number ≡ first_of (writer_rows c secured password m)
-writer_number c secured random password m = written_number c secured random password (length m)
+writer_number c secured random password m =
+    wrote_number unwritten_number _ m ∙ written_number c secured random password (length m)
 
 -- the outcomes in the order of the tests, and their numbers
 by_tests : (erra formed named allowed : Bool)
@@ -156,13 +171,25 @@ module _ (l : List ℕ) where
   pub greeting_reader_number : greeting_number (ours.read_greeting l) ≡ first_of (greeting_rows l)
   greeting_reader_number = greeting_number-read_greeting _ _ _ refl refl refl
 
-lent_untouched : (d : Device) (r : Result Device) (m : List ℕ) → Refused d r → Untouched m (lent_by r m)
-lent_untouched d r m h = grind (arith, over_nothing)
+lent_untouched : (d : Device) (n : ℕ) (r : CallResult Refusal ℕ Device) (m : List ℕ) → Refused d r → n ≡ 0
+    → Untouched m (lent_in refusal_number n r m)
+lent_untouched d n r m h none = grind (arith, over_nothing)
 
 pub refused_keeps : (d : Device) (c : Call) → (number_of ours d c ≡ 0 → ⊥)
     → (after ours d c ≡ d) × WritesNothing ours d c
 refused_keeps d c n =
-    grind (arith, opening_refused, lent_untouched, receiving_refused, closing_refused, passed_refusal, refusal_leaves)
+    grind (
+      arith,
+      opening_refused,
+      lent_untouched,
+      receiving_refused,
+      none_answered,
+      closing_refused,
+      passed_refusal,
+      fault_refusal,
+      errors_refusal,
+      mark_refusal,
+    )
 
 pub refused_writer : (c : Command) (secured : Bool) (random : ℕ) (password m : List ℕ)
     → let w = ours.write c secured random password m in
@@ -187,10 +214,10 @@ ours_keeps_running = record {
   writer_number = writer_number;
   reader_number = reader_number;
   greeting_reader_number = greeting_reader_number;
-  store_number = λ d m. storing_number d (length m);
+  store_number = λ d m. wrote_number refusal_number _ m ∙ storing_number d (length m);
   load_number = loading_number;
   refused_keeps = refused_keeps;
-  refused_opening_place = λ d random m. opening_refused_place d random (length m);
+  refused_opening_place = λ d random m. none_answered (opened_by d random (length m));
   refused_writer_writes_nothing = refused_writer;
   refused_store_writes_nothing = refused_store;
   refused_reader_means_nothing = number_means_nothing;

@@ -8,18 +8,20 @@ use Rattle.std.proofs.lemmas.Grind.{common_steps}
 use Rattle.std.proofs.Common.{ℕ, ◌≤◌, ◌<◌, ◌≡◌, refl, sym, ap, true, List, ◌++◌, ⊎_elim, arith, length}
 use Rattle.std.proofs.Common.{length-append, le-leb, codes, false, append_assoc}
 use Rattle.std.proofs.lemmas.Bool.{lt-leb}
+use Rattle.text.specs.Outcomes.{CallResult}
 use Rattle.text.proofs.Choices.{if_yes, if_no}
 use Rattle.text.proofs.Orders.{le_or_lt}
 use Rattle.digest.proofs.Laws.{length-leading_digest}
 use Rattle.words.specs.Bytes.{is_cr_free, command_most}
+use Rattle.record.specs.declared.refusal.Refusal.{Refusal}
 use Rattle.record.specs.Limits.{phase_awaiting, phase_open, places_count}
 use Rattle.record.specs.Places.{connection_at, is_closed}
 use Rattle.record.specs.declared.types.Device.{Device}
 use Rattle.device.specs.Answering.{Answered, line_answer, line_swallowed}
 use Rattle.device.specs.Receiving.{is_match}
-use Rattle.device.specs.Calls.{Result, reply_room, received_at}
+use Rattle.device.specs.Calls.{reply_room, received_at}
 use Rattle.device.proofs.LinesReceived.{line_result, line_received, overlong_line_received, led_line_received}
-use Rattle.ours.specs.Board.{lent_by, ours}
+use Rattle.ours.specs.Board.{received_in, ours}
 use Rattle.demands.specs.SpeaksPjlink.{BetweenLines, AnsweredAs, answer_to, digest_for, call_on, handed_on, is_led}
 use Rattle.demands.specs.SpeaksPjlink.{RefusalOnly}
 use Rattle.demands.proofs.KeepsRunning.{over_front}
@@ -39,11 +41,12 @@ use Rattle.controller.specs.Reading.{outcome_alone, read_reply, erra_said}
 use Rattle.controller.proofs.Refusals.{erra_read}
 
 module _ (d : Device) (p : ℕ) (bs m : List ℕ) where
-  answered_as : (a : Answered) {n : ℕ} → n ≡ length bs → AnsweredAs ours d p bs a (lent_by (line_result d p a n) m)
+  answered_as : (a : Answered) {n : ℕ} → n ≡ length bs → AnsweredAs ours d p bs a (received_in (line_result d p a n) m)
   answered_as a count = record { number = refl; taken = count; replied = over_front a.reply m; device = refl }
 
-  result_answers : {n : ℕ} {r : Result Device} (a b : Answered) → r ≡ line_result d p a n → n ≡ length bs → a ≡ b
-      → AnsweredAs ours d p bs b (lent_by r m)
+  result_answers : {n : ℕ} {r : CallResult Refusal ℕ Device} (a b : Answered) → r ≡ line_result d p a n
+      → n ≡ length bs → a ≡ b
+      → AnsweredAs ours d p bs b (received_in r m)
   result_answers a b e count same = grind (arith, line_result, answered_as)
 
 module _ (d : Device) (p : ℕ) (l m : List ℕ) (plain : is_cr_free l ≡ true) (enough : reply_room ≤ length m) where
@@ -123,6 +126,6 @@ pub outsider_reads_erra : (d : Device) (p : ℕ) (bs : List ℕ) (room : ℕ) (c
     k.phase ≡ phase_awaiting
     → let g = gathered_from (held_most k.phase) k.line bs in
     g.ended ≡ true → is_match d.settings k g.line ≡ false
-    → read_reply c (received_at d p bs room).reply ≡ outcome_alone erra_said
+    → read_reply c (received_at d p bs room).bytes ≡ outcome_alone erra_said
 outsider_reads_erra d p bs room c legal enough there phase cr unmatched =
     grind (arith, received_taken, unmatched_line_refused, erra_read)

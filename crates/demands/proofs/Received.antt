@@ -5,6 +5,8 @@ use Rattle.std.proofs.Common.{ℕ, ◌<◌, ◌≡◌, sym, ap, ◌∙◌, Bool,
 use Rattle.std.proofs.Common.{if◌then◌else◌}
 use Rattle.std.proofs.lemmas.Bool.{eqb-false}
 use Prim.Native.Char.{code}
+use Rattle.text.specs.Outcomes.{call_number}
+use Rattle.record.specs.Refusals.{refusal_number}
 use Rattle.record.specs.Limits.{places_count, phase_closed}
 use Rattle.record.specs.Legal.{is_legal}
 use Rattle.record.specs.Places.{connection_at, with_place, is_closed}
@@ -15,10 +17,9 @@ use Rattle.record.proofs.ConnectionsTold.{placed_here}
 use Rattle.stream.specs.Machine.{Out, Took, run_over}
 use Rattle.stream.proofs.LinesSpelt.{run_none, run_more}
 use Rattle.stream.proofs.SameHoweverCut.{call_runs}
-use Rattle.device.specs.Calls.{Result}
 use Rattle.device.proofs.Cases.{received_by, takes}
 use Rattle.device.proofs.ReceivingAsMachine.{State, state_of, collects, ends, takes_in-state_of}
-use Rattle.ours.specs.Board.{ours, lent_by}
+use Rattle.ours.specs.Board.{ours, received_in}
 use Rattle.demands.specs.CallsDone.{own_by, ReceivedAs}
 
 module _ (s : Settings) where
@@ -58,7 +59,7 @@ taken_own d p bs legal there live =
 pub received : (d : Device) (p : ℕ) (bs m : List ℕ) → (ours.receive d p bs m).number ≡ 0
     → ReceivedAs ours d p bs (ours.receive d p bs m)
 received d p bs m =
-    received_by d p bs (length m) (λ (r : Result Device). r.number ≡ 0 → ReceivedAs ours d p bs (lent_by r m))
+    received_by d p bs (length m) (λ c. call_number refusal_number c ≡ 0 → ReceivedAs ours d p bs (received_in c m))
     (λ n some z. absurd (some z))
     (λ legal enough there live z.
     let t = takes d p bs in

@@ -2,22 +2,24 @@
 -- what set-up and opening leave; the rest stands in the files that it names.
 -- Assumes nothing.
 use Rattle.std.proofs.Common.{◌≡◌, ◌++◌, arith, codes, ℕ, refl, List, length}
+use Rattle.text.specs.Outcomes.{call_number, number_answered}
 use Rattle.pjlink.specs.declared.command.Command.TheVariants.{Query}
 use Rattle.pjlink.specs.declared.body.Body.TheVariants.{Name}
 use Rattle.pjlink.specs.Said.{text_is}
+use Rattle.record.specs.Refusals.{refusal_number}
+use Rattle.record.specs.SetUpErrors.{set_up_error_number}
 use Rattle.record.specs.Wanted.{Wanted}
 use Rattle.record.specs.declared.types.Device.{Device}
-use Rattle.record.specs.Given.{Given}
 use Rattle.record.specs.declared.types.Setting.TheVariants.{Name as ItsName}
 use Rattle.record.proofs.Calls.{set_up_by}
 use Rattle.record.proofs.OutOfRange.{each_in_range}
 use Rattle.controller.specs.Reading.{meaning}
 use Rattle.controller.proofs.NamesRead.{accepted_name_is_read}
-use Rattle.ours.specs.Board.{ours, lent_by}
+use Rattle.ours.specs.Board.{ours, opened_in}
 use Rattle.record.specs.Record.{start_device}
 use Rattle.record.proofs.Started.{set_up_started}
 use Rattle.device.specs.Calls.{greeting}
-use Rattle.device.proofs.Cases.{opened_placed_by}
+use Rattle.device.proofs.Cases.{opened_by_lem}
 use Rattle.demands.specs.CallsDone.{OpenedAs, Leaves}
 use Rattle.demands.proofs.KeepsRunning.{over_front}
 use Rattle.device.proofs.Short.{receiving_short}
@@ -37,9 +39,9 @@ pub names_read : (w : Wanted) → (ours.set_up w).number ≡ 0
     → ours.read_reply (Query Name) (codes "%1NAME=" ++ w.name ++ codes "\r") ≡ meaning (text_is w.name)
 names_read w =
     set_up_by w
-    (λ (r : Given Device). r.number ≡ 0
+    (λ c. call_number set_up_error_number c ≡ 0
     → ours.read_reply (Query Name) (codes "%1NAME=" ++ w.name ++ codes "\r") ≡ meaning (text_is w.name))
-    (λ e. absurd (omega arith)) (λ e. absurd (omega arith))
+    (λ s e. absurd (omega arith)) (λ e. absurd (omega arith))
     (λ h e. accepted_name_is_read w.name (each_in_range w h ItsName))
 
 pub set_up_shows : (w : Wanted) → Leaves ours (ours.set_up w) (start_device w)
@@ -49,8 +51,9 @@ module _ (d : Device) where
   pub opens : (random : ℕ) (m : List ℕ) → (ours.opening d random m).number ≡ 0
       → OpenedAs ours d random (ours.place_opened d random m) (ours.opening d random m)
   opens random m =
-      opened_placed_by d random (length m)
-      (λ p r. r.number ≡ 0 → OpenedAs ours d random p (lent_by r m)) (λ n z e. absurd (z e))
+      opened_by_lem d random (length m)
+      (λ c. call_number refusal_number c ≡ 0 → OpenedAs ours d random (number_answered c) (opened_in c m))
+      (λ n z e. absurd (z e))
       (λ h k c e. record {
         taken = refl;
         replied = over_front (greeting d.settings random) m;

@@ -9,6 +9,7 @@ use Rattle.std.proofs.Common.{arith, length, take, drop, replicate, take-append-
 use Rattle.std.proofs.Common.{eqb-true, eq-eqb, if◌then◌else◌, Option, Some, None}
 use Rattle.std.proofs.lemmas.Bool.{eqb-false}
 use Rattle.std.proofs.lemmas.List.{length-replicate}
+use Rattle.text.specs.Outcomes.{call_number}
 use Rattle.words.specs.Bytes.{is_cr_free, ◌at◌}
 use Rattle.pjlink.specs.Forms.{reply_parameter}
 use Rattle.pjlink.specs.Greetings.{read_greeting, Exactly}
@@ -17,10 +18,10 @@ use Rattle.pjlink.specs.declared.greeting.Greeting.{Greeting}
 use Rattle.pjlink.specs.declared.greeting.Greeting.TheVariants.{Open, Secured, Refused}
 use Rattle.pjlink.proofs.GreetingsHeard.{open_heard, erra_heard, secured_heard, heard_exactly}
 use Rattle.pjlink.proofs.ReadWritings.{allowed_or_not}
+use Rattle.record.specs.Refusals.{refusal_number}
 use Rattle.record.specs.Limits.{places_count}
 use Rattle.record.specs.Wanted.{Wanted}
 use Rattle.record.specs.Rules.{is_at_most}
-use Rattle.record.specs.Given.{Given}
 use Rattle.record.specs.Legal.{is_legal}
 use Rattle.record.specs.Places.{connection_at, with_place, is_closed}
 use Rattle.record.specs.declared.types.Own.{Own}
@@ -32,11 +33,11 @@ use Rattle.stored.proofs.Fields.{bytes_all}
 use Rattle.stored.proofs.FormsLoad.{stored_in_range}
 use Rattle.stored.proofs.OneForm.{stored_as_it_was, old_unmarked}
 use Rattle.stored.proofs.Results.{accepted_told}
-use Rattle.device.specs.Calls.{Result, reply_room, new_connection}
+use Rattle.device.specs.Calls.{reply_room, new_connection}
 use Rattle.device.proofs.Cases.{received_by}
 use Rattle.controller.specs.Reading.{ReadAs, ReadingOutcome, means_it, erra_said, not_a_line, other_command, disallowed}
 use Rattle.controller.specs.Reading.{read_reply, reading_outcome_number}
-use Rattle.ours.specs.Board.{Board, Lent, Wrote, ours, reply, bytes_written}
+use Rattle.ours.specs.Board.{Board, Given, Lent, Wrote, ours, reply, bytes_written}
 use Rattle.demands.specs.Calls.{Call, opens, closes, receives, passes, faults, reports, enables, after, number_of}
 use Rattle.demands.specs.Calls.{gave_by, Gave}
 use Rattle.demands.specs.CallsDone.{own_by}
@@ -114,7 +115,8 @@ module _ {R : Type 0} (X : Board R) (k : MeetsDemands X) (x : R) (p : ℕ) (bs m
 
   serves : Serves
   serves =
-      received_by shows_x p bs (length m) (λ (q : Result Device). q.number ≡ 0 → Serves) (λ n some y. absurd (some y))
+      received_by shows_x p bs (length m) (λ c. call_number refusal_number c ≡ 0 → Serves)
+      (λ e some y. absurd (some y))
       (λ legal enough there live y. (legal, (enough, (there, live))))
       (number_is_first shows_x (receives p bs m) ∙ sym (k.keeps_running.number_is_first x (receives p bs m)) ∙ z)
 

@@ -3,9 +3,11 @@
 -- both. And its premise about openings is needed.
 -- Assumes nothing.
 use Rattle.std.proofs.Common.{ℕ, ◌≡◌, true, false, List, ◌∷◌, refl, ap, ◌∙◌, [], arith, length, slice_index_or, codes}
+use Rattle.text.specs.Outcomes.{CallResult}
+use Rattle.record.specs.declared.refusal.Refusal.{Refusal}
 use Rattle.record.specs.declared.types.Device.{Device}
 use Rattle.device.specs.Receiving.{set_up_password}
-use Rattle.ours.specs.Board.{ours, reply, lent_by}
+use Rattle.ours.specs.Board.{ours, reply, received_in}
 use Rattle.demands.specs.Calls.{opens, receives, passes, after, Call, run, Gave}
 use Rattle.demands.specs.Outsider.{Session, unopened, noted, is_matched, IsNeverMatched}
 use Rattle.demands.specs.Sample.{memory, with_cr}
@@ -16,7 +18,7 @@ use Rattle.record.specs.Limits.{phase_awaiting, phase_failed, cooling}
 use Rattle.record.specs.Wanted.{Wanted}
 use Rattle.record.specs.declared.types.Own.{Own}
 use Rattle.device.specs.Answering.{line_answer}
-use Rattle.device.specs.Calls.{Result, received_at, has_password}
+use Rattle.device.specs.Calls.{received_at, has_password}
 use Rattle.device.proofs.LinesReceived.{line_result, led_line_received}
 use Rattle.demands.specs.WrongDoors.{secured_sample}
 use Rattle.demands.specs.Computing.{computing}
@@ -104,7 +106,7 @@ unheard =
 -- ---- where they end
 
 -- place 1 is let in, and powers on
-abbrev let_in : List ℕ → Result Device
+abbrev let_in : List ℕ → CallResult Refusal ℕ Device
 let_in bs =
     let d = spoken_to bs in
     line_result d 1 (line_answer d.settings d.own (codes "%1POWR 1")) 41
@@ -125,8 +127,8 @@ waits_powers_on =
     (codes "%1POWR 1") refl refl (omega arith)
 
 ends_as : (bs : List ℕ) → PowersOn bs
-    → run ours fresh_secured (calls_given bs) ≡ run ours (let_in bs).device calls_later
-ends_as bs on = ap (λ (r : Result Device). run ours r.device calls_later) on
+    → run ours fresh_secured (calls_given bs) ≡ run ours (let_in bs).leaves calls_later
+ends_as bs on = ap (λ (c : CallResult Refusal ℕ Device). run ours c.leaves calls_later) on
 
 -- what place 0 is: failed, or awaiting
 pub asks_failed : phase_at ours 0 (run ours fresh_secured (calls_given asking)) ≡ phase_failed
@@ -141,7 +143,7 @@ waits_awaited = ap (phase_at ours 0) (ends_as waiting waits_powers_on)
 -- cools down
 pub power_on_answered : reply (ours.receive (spoken_to asking) 1 led_on memory) ≡ with_cr "%1POWR=OK"
 unfolding computing
-power_on_answered = ap (λ (r : Result Device). reply (lent_by r memory)) asks_powers_on
+power_on_answered = ap (λ (c : CallResult Refusal ℕ Device). reply (received_in c memory)) asks_powers_on
 
 pub asks_cools : (run ours fresh_secured (calls_given asking)).own.power ≡ cooling
 unfolding computing

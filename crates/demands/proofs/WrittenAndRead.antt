@@ -13,6 +13,8 @@ use Rattle.text.specs.Flags.{is_raised}
 use Rattle.digest.specs.Hex.{leading_digest}
 use Rattle.pjlink.specs.Commands.{command_class, is_command, command_line}
 use Rattle.pjlink.specs.declared.command.Command.{Command}
+use Rattle.record.specs.declared.refusal.Refusal.{Refusal}
+use Rattle.record.specs.Refusals.{refusal_number}
 use Rattle.record.specs.Limits.{places_count, phase_awaiting, phase_open}
 use Rattle.record.specs.Legal.{is_legal}
 use Rattle.record.specs.Places.{connection_at, with_place, lowest_closed, is_closed}
@@ -27,24 +29,26 @@ use Rattle.stream.proofs.LinesCollected.{empty_is_none}
 use Rattle.meaning.specs.Meaning.{answer_for, after_request}
 use Rattle.meaning.proofs.CanBeSaid.{meant_fits, meant_can_be_said}
 use Rattle.device.specs.Receiving.{phase_start, set_up_password}
-use Rattle.device.specs.Calls.{Result, reply_room, received_at, greeting, new_connection, opened_by, place_taken}
+use Rattle.device.specs.Calls.{reply_room, received_at, greeting, new_connection, opened_by}
 use Rattle.device.proofs.CommandsReceived.{command_result, command_received, command_received_secured, swallowed_at}
 use Rattle.device.proofs.CommandsReceived.{higher_received, higher_received_secured}
 use Rattle.device.proofs.Legal.{line_legal}
 use Rattle.controller.specs.Reading.{meaning, read_reply}
-use Rattle.text.specs.Outcomes.{WrittenAs}
-use Rattle.controller.specs.Writing.{command_room, written_command, led_by}
+use Rattle.text.specs.Outcomes.{CallResult, served_as, call_number, number_answered}
+use Rattle.std.specs.Result.{is_ok}
+use Rattle.controller.specs.Writing.{command_room, written_command, led_by, unwritten_number}
+use Rattle.controller.specs.declared.writing.Unwritten.{Unwritten}
 use Rattle.controller.proofs.Cases.{written_plain, written_led, written_by}
 use Rattle.controller.proofs.ReadsBack.{reply_read}
 use Rattle.record.specs.declared.types.Settings.{Settings}
 use Rattle.record.proofs.ConnectionsTold.{placed_here}
-use Rattle.device.proofs.Cases.{opened_greeted, opened_lowest, greeted_by_lem}
+use Rattle.device.proofs.Cases.{opened_greeted, greeted_by_lem}
 use Rattle.pjlink.specs.Greetings.{read_greeting}
 use Rattle.demands.specs.Greeted.{greeted_on}
 use Rattle.pjlink.proofs.GreetingsHeard.{open_heard, secured_heard}
 use Rattle.text.proofs.Orders.{le_or_lt}
 use Rattle.record.proofs.LowestClosed.{below_lowest}
-use Rattle.ours.specs.Board.{bytes_written, reply, wrote_by, ours}
+use Rattle.ours.specs.Board.{bytes_written, reply, wrote_in, ours}
 use Rattle.demands.specs.SpeaksPjlink.{BetweenLines, ByClass}
 use Rattle.demands.proofs.KeepsRunning.{over_front}
 
@@ -56,12 +60,13 @@ is_between d p there legal unmarked none =
     let k = connection_at d p in
     between_lines k.phase k.line (line_legal k (legal_connection d legal p there)) unmarked none
 
-pub record TakenAndRead (d : Device) (p : ℕ) (c : Command) (bs : List ℕ) (r : Result Device) : Type 0 where
-  pub number : r.number ≡ 0
-  pub taken : r.taken ≡ length bs
-  pub device : r.device
+pub record TakenAndRead (d : Device) (p : ℕ) (c : Command) (bs : List ℕ)
+    (r : CallResult Refusal ℕ Device) : Type 0 where
+  pub number : call_number refusal_number r ≡ 0
+  pub taken : number_answered r ≡ length bs
+  pub device : r.leaves
       ≡ with_place d (after_request d.settings d.own (Ok c)) p (phase_start (connection_at d p) phase_open)
-  pub said : read_reply c r.reply ≡ meaning (answer_for d.settings d.own (Ok c))
+  pub said : read_reply c r.bytes ≡ meaning (answer_for d.settings d.own (Ok c))
 
 module _ (d : Device) (p : ℕ) (there : p < places_count) (legal : is_legal d ≡ true)
     (between : (connection_at d p).line ≡ empty_line) (c : Command) (writable : is_command c ≡ true)
@@ -100,8 +105,8 @@ module _ (d : Device) (p : ℕ) (there : p < places_count) (legal : is_legal d �
 
   -- what is written is no refusal, and is read back
   module _ (memory : ℕ) (lent : command_room ≤ memory) where
-    abbrev Through : WrittenAs → Type 0
-    Through w = (w.number ≡ 0) × TakenAndRead d p c w.bytes (received_at d p w.bytes room)
+    abbrev Through : CallResult Unwritten (Unit {0}) (Unit {0}) → Type 0
+    Through w = (is_ok w.says ≡ true) × TakenAndRead d p c w.bytes (received_at d p w.bytes room)
 
     pub written_reads_back : here.phase ≡ phase_open → (random : ℕ) (password : List ℕ)
         → Through (written_command c false random password memory)
@@ -125,28 +130,31 @@ read_greeting-greeting s r word =
 pub opening_greets_back : (d : Device) (r room : ℕ) → is_legal d ≡ true → lowest_closed d.connections < places_count
     → reply_room ≤ room → r < 2 ^ 32
     → let o = opened_by d r room in
-    (o.number ≡ 0) × (read_greeting o.reply ≡ greeted_on (connection_at o.device (place_taken d room)))
+    (call_number refusal_number o ≡ 0)
+    × (read_greeting o.bytes ≡ greeted_on (connection_at o.leaves (number_answered o)))
 opening_greets_back d r room legal free enough word =
-    grind (arith, common_steps, placed_here, legal_places, opened_lowest, opened_greeted, read_greeting-greeting)
+    grind (arith, common_steps, placed_here, legal_places, opened_greeted, read_greeting-greeting)
 
 pub writes : (c : Command) (secured : Bool) (random : ℕ) (password m : List ℕ)
     → let w = ours.write c secured random password m in
     w.number ≡ 0 → bytes_written w ≡ led_by secured random password ++ command_line c
 writes c secured random password m =
     written_by c secured random password (length m)
-    (λ w. w.number ≡ 0 → bytes_written (wrote_by w m) ≡ led_by secured random password ++ command_line c)
+    (λ r.
+    let w = wrote_in unwritten_number r m in
+    w.number ≡ 0 → bytes_written w ≡ led_by secured random password ++ command_line c)
     (λ h e. absurd (omega arith)) (λ h w e. absurd (omega arith)) (λ h w e. over_front _ m)
 
 module _ (d : Device) (p : ℕ) (c : Command) (paper m : List ℕ) (writable : is_command c ≡ true)
     (roomy : command_room ≤ length paper) (enough : reply_room ≤ length m) where
-  abbrev Told : WrittenAs → List ℕ → Type 0
-  Told w bs = ByClass ours d p c (wrote_by w paper) (ours.receive d p bs m)
+  abbrev Told : CallResult Unwritten (Unit {0}) (Unit {0}) → List ℕ → Type 0
+  Told w bs = ByClass ours d p c (wrote_in unwritten_number w paper) (ours.receive d p bs m)
 
   -- what was written stands on the paper, and is read back, or swallowed
-  on_paper : (bs : List ℕ) (w : WrittenAs) → w ≡ record { number = 0; bytes = bs }
+  on_paper : (bs : List ℕ) (w : CallResult Unwritten (Unit {0}) (Unit {0})) → w ≡ served_as tt bs tt
       → (command_class c ≤ d.settings.class_number → TakenAndRead d p c bs (received_at d p bs (length m)))
       → (d.settings.class_number < command_class c → received_at d p bs (length m) ≡ swallowed_at d p (length bs))
-      → Told w (bytes_written (wrote_by w paper))
+      → Told w (bytes_written (wrote_in unwritten_number w paper))
   on_paper bs w e back ignored = grind (arith, over_front)
 
   pub reads_back : (random : ℕ) (password : List ℕ) → BetweenLines phase_open d p
@@ -180,4 +188,6 @@ pub greets_back : (d : Device) (random : ℕ) (m : List ℕ) → is_legal d ≡ 
     let p = ours.place_opened d random m in
     (r.number ≡ 0) × (ours.read_greeting (reply r) ≡ greeted_on (connection_at r.device p))
 greets_back d random m legal q there closed enough word =
-    grind (arith, below_lowest, le_or_lt, opening_greets_back, over_front)
+    let free : lowest_closed d.connections < places_count = grind (arith, below_lowest, le_or_lt) in
+    let back = opening_greets_back d random (length m) legal free enough word in
+    (back.0, ap read_greeting (over_front (opened_by d random (length m)).bytes m) ∙ back.1)

@@ -8,8 +8,7 @@
 --   run B d cs      the record after the calls cs, from d on;    gave_all B d cs    what each of them gives
 -- Assumes nothing.
 use Rattle.std.specs.Prelude.{ℕ, Bool, List, [], ◌∷◌}
-use Rattle.record.specs.Given.{Given}
-use Rattle.ours.specs.Board.{Board, Lent}
+use Rattle.ours.specs.Board.{Board, Given, Lent}
 
 pub data Call : Type 0 where
   opens : (random : ℕ) (memory : List ℕ) → Call

@@ -22,8 +22,7 @@ use Rattle.record.specs.Places.{connection_at, with_place, lowest_closed}
 use Rattle.stream.specs.Collecting.{line_after}
 use Rattle.device.specs.Receiving.{keeping_line, line_ended}
 use Rattle.device.specs.Calls.{greeting, new_connection}
-use Rattle.ours.specs.Board.{Board, Lent, reply}
-use Rattle.record.specs.Given.{Given}
+use Rattle.ours.specs.Board.{Board, Given, Lent, reply}
 
 pub record OpenedAs {R : Type 0} (B : Board R) (d : R) (random place : ℕ) (r : Lent R) : Type 0 where
   pub taken : r.taken ≡ 0

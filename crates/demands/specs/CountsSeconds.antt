@@ -33,8 +33,7 @@ use Rattle.clock.specs.Second.{times, second}
 use Rattle.clock.specs.Passing.{seconds_most}
 use Rattle.device.specs.Calls.{reply_room}
 use Rattle.controller.specs.Reading.{meaning}
-use Rattle.ours.specs.Board.{Board, reply}
-use Rattle.record.specs.Given.{Given}
+use Rattle.ours.specs.Board.{Board, Given, reply}
 use Rattle.demands.specs.Calls.{Call, run}
 use Rattle.demands.specs.CallsDone.{Leaves}
 use Rattle.demands.specs.SpeaksPjlink.{BetweenLines}

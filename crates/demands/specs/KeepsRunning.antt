@@ -20,7 +20,7 @@
 -- Assumes nothing.
 use Rattle.std.specs.Prelude.{ℕ, ◌≤◌, ◌≡◌, Bool, true, false, not, ◌||◌, List, [], ◌∷◌, set, length, drop, nat_lt, ◌==◌}
 use Rattle.text.specs.Flags.{flag_of}
-use Rattle.text.specs.Rows.{NumberRow, ◌when◌, first_of}
+use Rattle.text.specs.Rows.{RefusalRow, ◌when◌, first_of, numbers_of}
 use Rattle.text.specs.Scans.{is_same_by, itself}
 use Rattle.pjlink.specs.Forms.{erra_line, greeting_open, is_reply_form, head_body, reply_parameter}
 use Rattle.pjlink.specs.Commands.{body_of, command_class}
@@ -33,11 +33,13 @@ use Rattle.record.specs.Rules.{is_long_enough, is_error_list}
 use Rattle.record.specs.Legal.{is_legal}
 use Rattle.record.specs.Record.{blank}
 use Rattle.record.specs.Limits.{off}
+use Rattle.record.specs.Refusals.{refusal_number}
 use Rattle.record.specs.HostCalls.{is_no_lamp, is_none_left}
 use Rattle.record.specs.SetUp.{is_in_range}
 use Rattle.record.specs.declared.types.Device.{Device}
 use Rattle.stored.specs.Form.{storing_rows}
 use Rattle.stored.specs.Loading.{load_rows}
+use Rattle.stored.specs.Told.{load_error_number}
 use Rattle.device.specs.Calls.{receiving_rows, opening_rows, closing_rows}
 use Rattle.controller.specs.Writing.{command_room, is_writable}
 use Rattle.controller.specs.Reading.{reading_outcome_number}
@@ -51,25 +53,25 @@ abbrev is_illegal : Device → Bool
 is_illegal d = not (is_legal d)
 
 -- of a lamp's mark: no such lamp, or the last mark cleared; then any power but off (RULES, Lamps)
-abbrev pub mark_rows : Device → ℕ → Bool → List NumberRow
+abbrev pub mark_rows : Device → ℕ → Bool → List (RefusalRow ℕ)
 mark_rows d k m =
     (1 when is_illegal d) ∷ (3 when (is_no_lamp d k || is_none_left (set d.own.enabled k (flag_of m))))
     ∷ (7 when not (d.own.power == off)) ∷ []
 
-abbrev pub rows_of : Device → Call → List NumberRow
-rows_of d (opens random m) = opening_rows d (length m)
-rows_of d (closes p) = closing_rows d p
-rows_of d (receives p bs m) = receiving_rows d p (length m)
+abbrev pub rows_of : Device → Call → List (RefusalRow ℕ)
+rows_of d (opens random m) = numbers_of refusal_number (opening_rows d (length m))
+rows_of d (closes p) = numbers_of refusal_number (closing_rows d p)
+rows_of d (receives p bs m) = numbers_of refusal_number (receiving_rows d p (length m))
 rows_of d (passes n) = (1 when is_illegal d) ∷ []
 rows_of d (faults fault) = (1 when is_illegal d) ∷ []
 rows_of d (reports errors) = (1 when is_illegal d) ∷ (3 when not (is_error_list errors)) ∷ []
 rows_of d (enables lamp mark) = mark_rows d lamp mark
 
 -- RULES, Passwords: 8 after every 3
-abbrev pub set_up_rows : Wanted → List NumberRow
+abbrev pub set_up_rows : Wanted → List (RefusalRow ℕ)
 set_up_rows w = (3 when not (is_in_range w)) ∷ (8 when not (is_long_enough (length w.password))) ∷ []
 
-abbrev pub writer_rows : Command → Bool → List ℕ → List ℕ → List NumberRow
+abbrev pub writer_rows : Command → Bool → List ℕ → List ℕ → List (RefusalRow ℕ)
 writer_rows c secured password m =
     (2 when nat_lt (length m) command_room) ∷ (3 when not (is_writable c secured password)) ∷ []
 
@@ -78,13 +80,13 @@ is_erra l = is_same_by itself l erra_line
 
 -- the ERRA line is recognised before the form is tested, which is that of the command's class (RULES, Class 2); a
 -- parameter is allowed if it says something (`IsAllowed`)
-abbrev pub reader_rows : Command → List ℕ → Bool → List NumberRow
+abbrev pub reader_rows : Command → List ℕ → Bool → List (RefusalRow ℕ)
 reader_rows c l allowed =
     (0 when is_erra l) ∷ (10 when not (is_reply_form (command_class c) l))
     ∷ (11 when not (is_body (command_class c) (head_body l) (body_of c))) ∷ (12 when not allowed) ∷ []
 
 -- the two greetings and the ERRA line
-abbrev pub greeting_rows : List ℕ → List NumberRow
+abbrev pub greeting_rows : List ℕ → List (RefusalRow ℕ)
 greeting_rows l =
     (0 when is_same_by itself l greeting_open) ∷ (0 when is_erra l) ∷ (0 when greets l (random_in l)) ∷ (10 when true)
     ∷ []
@@ -134,8 +136,9 @@ pub record KeepsRunning {R : Type 0} (B : Board R) : Type 0 where
   pub reader_number : (c : Command) (l : List ℕ) (allowed : Bool) → IsAllowed c (reply_parameter l) allowed
       → reading_outcome_number (B.read_reply c l).outcome ≡ first_of (reader_rows c l allowed)
   pub greeting_reader_number : (l : List ℕ) → greeting_number (B.read_greeting l) ≡ first_of (greeting_rows l)
-  pub store_number : (d : R) (m : List ℕ) → (B.store d m).number ≡ first_of (storing_rows (B.shows d) (length m))
-  pub load_number : (s : List ℕ) → (B.load s).number ≡ first_of (load_rows s)
+  pub store_number : (d : R) (m : List ℕ) → (B.store d m).number
+      ≡ first_of (numbers_of refusal_number (storing_rows (B.shows d) (length m)))
+  pub load_number : (s : List ℕ) → (B.load s).number ≡ first_of (numbers_of load_error_number (load_rows s))
   -- "returns the device record it was given .., and writes no byte of the reply memory"
   pub refused_keeps : (d : R) (c : Call) → (number_of B d c ≡ 0 → ⊥)
       → (after B d c ≡ d) × WritesNothing B d c

@@ -7,8 +7,7 @@ use Rattle.pjlink.specs.declared.command.Command.{Command}
 use Rattle.record.specs.Wanted.{Wanted}
 use Rattle.record.specs.declared.types.Device.{Device}
 use Rattle.controller.specs.Reading.{ReadAs}
-use Rattle.ours.specs.Board.{Board, Lent, ours}
-use Rattle.record.specs.Given.{Given}
+use Rattle.ours.specs.Board.{Board, Given, Lent, ours}
 
 module _ (set_up : Wanted → Given Device) (opening : Device → ℕ → List ℕ → Lent Device)
     (closing : Device → ℕ → Given Device) (receive : Device → ℕ → List ℕ → List ℕ → Lent Device)

@@ -12,8 +12,7 @@ use Rattle.std.specs.Prelude.{ℕ, ◌≡◌, Bool, true, List}
 use Rattle.pjlink.specs.declared.command.Command.{Command}
 use Rattle.record.specs.Wanted.{Wanted}
 use Rattle.record.specs.Rules.{is_at_most}
-use Rattle.record.specs.Given.{Given}
-use Rattle.ours.specs.Board.{Board}
+use Rattle.ours.specs.Board.{Board, Given}
 use Rattle.demands.specs.Calls.{Call, gave_all, run}
 use Rattle.demands.specs.KeepsRunning.{KeepsRunning}
 use Rattle.demands.specs.SpeaksPjlink.{SpeaksPjlink}

@@ -5,8 +5,7 @@ use Rattle.std.specs.Prelude.{ℕ, ◌*◌, ◌/◌, Bool, false, not, ◌&&◌,
 use Rattle.record.specs.Limits.{is_lit}
 use Rattle.record.specs.Updates.{with_own, with_seconds}
 use Rattle.record.specs.declared.types.Device.{Device}
-use Rattle.ours.specs.Board.{Board, Lent, ours}
-use Rattle.record.specs.Given.{Given}
+use Rattle.ours.specs.Board.{Board, Given, Lent, ours}
 use Rattle.demands.specs.OursBut.{but_receive, but_pass}
 
 abbrev pub still_clock : Board Device

@@ -2,15 +2,17 @@
 -- proofs/WrongBoardsFall.antt.
 --   secured_sample    the sample set-up, with the password of the specification's example
 -- Assumes nothing.
-use Rattle.std.specs.Prelude.{ℕ, [], length, if◌then◌else◌, ◌==◌, codes}
+use Rattle.std.specs.Prelude.{ℕ, [], length, if◌then◌else◌, ◌==◌, codes, Result, Ok, Err}
+use Rattle.text.specs.Outcomes.{CallResult, served_as, refused_as}
 use Rattle.pjlink.specs.Forms.{greeting_open}
 use Rattle.record.specs.Limits.{phase_awaiting, phase_open, phase_failed}
 use Rattle.record.specs.Wanted.{Wanted, with_password}
+use Rattle.record.specs.declared.refusal.Refusal.{Refusal}
 use Rattle.record.specs.declared.types.Device.{Device}
 use Rattle.record.specs.Places.{connection_at, with_place}
 use Rattle.device.specs.Receiving.{phase_start}
-use Rattle.device.specs.Calls.{Result, opened_by, place_taken}
-use Rattle.ours.specs.Board.{Board, ours, lent_by}
+use Rattle.device.specs.Calls.{opened_by}
+use Rattle.ours.specs.Board.{Board, ours, opened_in}
 use Rattle.demands.specs.Sample.{sample}
 use Rattle.demands.specs.OursBut.{but_set_up, but_opening, but_closing, but_pass, but_fault, but_errors}
 
@@ -25,19 +27,14 @@ abbrev let_in : Device → ℕ → Device
 let_in d p = with_place d d.own p (phase_start (connection_at d p) phase_open)
 
 -- `PJLINK 0`, password or not
-abbrev opened_openly : ℕ → Result Device → Result Device
-opened_openly p r =
-    if r.number == 0 then record {
-      number = 0;
-      taken = 0;
-      reply = greeting_open;
-      device = let_in
-          r.device p;
-    } else r
+abbrev open_to_all : Result ℕ Refusal → Device → CallResult Refusal ℕ Device
+open_to_all (Ok p) d = served_as p greeting_open (let_in d p)
+open_to_all (Err e) d = refused_as d e
 
 abbrev pub ignores_password : Board Device
-ignores_password =
-    but_opening (λ d random m. lent_by (opened_openly (place_taken d (length m)) (opened_by d random (length m))) m)
+ignores_password = but_opening (λ d random m.
+    let c = opened_by d random (length m) in
+    opened_in (open_to_all c.says c.leaves) m)
 
 abbrev pub greets_with_zero : Board Device
 greets_with_zero = but_opening (λ d random m. ours.opening d 0 m)

@@ -4,6 +4,7 @@
 use Rattle.std.specs.Prelude.{ℕ, suc, Bool, not, ◌&&◌, List, [], ◌∷◌, ◌++◌, map, length, take, drop, ◌==◌, codes}
 use Rattle.std.specs.Prelude.{if◌then◌else◌}
 use Rattle.text.specs.Flags.{is_raised, flag_of}
+use Rattle.text.specs.Outcomes.{served_as, refused_as}
 use Rattle.text.specs.Scans.{is_same_by, itself}
 use Rattle.words.specs.Bytes.{upper_of}
 use Rattle.words.specs.declared.power.PowerStatus.TheVariants.{Off}
@@ -15,21 +16,20 @@ use Rattle.pjlink.specs.Said.{text_is, power_is}
 use Rattle.record.specs.Limits.{phase_open}
 use Rattle.record.specs.Updates.{with_line, with_own, with_mutes}
 use Rattle.record.specs.Record.{blank}
+use Rattle.record.specs.declared.refusal.Refusal.TheVariants.{NotLegal}
 use Rattle.record.specs.declared.types.Own.{Own}
 use Rattle.record.specs.declared.types.Device.{Device}
 use Rattle.stream.specs.Collecting.{empty_line}
 use Rattle.record.specs.Places.{connection_at, with_place}
-use Rattle.device.specs.Calls.{refused_by}
 use Rattle.controller.specs.Reading.{ReadAs, meaning, outcome_alone, read_reply, ReadingOutcome, means_it, erra_said}
 use Rattle.controller.specs.Reading.{not_a_line, other_command, disallowed}
-use Rattle.ours.specs.Board.{Board, Lent, ours, lent_by}
-use Rattle.record.specs.Given.{Given}
+use Rattle.ours.specs.Board.{Board, Given, Lent, ours, received_in, opened_in}
 use Rattle.demands.specs.OursBut.{but_receive, but_reader}
 
 -- takes every byte, and gives this reply to them
 abbrev always_replying : (List ℕ → List ℕ) → Board Device
 always_replying answer =
-    but_receive (λ d p bs m. lent_by (record { number = 0; taken = length bs; reply = answer bs; device = d }) m)
+    but_receive (λ d p bs m. received_in (served_as (length bs) (answer bs) d) m)
 
 abbrev pub drops_all : Board Device
 drops_all = always_replying (λ bs. [])
@@ -45,10 +45,10 @@ abbrev pub refuses_all : Board Device
 refuses_all = record {
   shows = λ d. d;
   set_up = λ w. refused_given 3 blank;
-  opening = λ d random m. lent_by (refused_by 1 d) m;
+  opening = λ d random m. opened_in (refused_as d NotLegal) m;
   place_opened = λ d random m. 0;
   closing = λ d p. refused_given 1 d;
-  receive = λ d p bs m. lent_by (refused_by 1 d) m;
+  receive = λ d p bs m. received_in (refused_as d NotLegal) m;
   pass = λ d n. refused_given 1 d;
   set_fault = λ d mark. refused_given 1 d;
   set_errors = λ d digits. refused_given 1 d;
@@ -97,7 +97,7 @@ upper_cases = retelling_by (λ r. record {
 abbrev forgetting_at : Device → ℕ → List ℕ → List ℕ → Lent Device
 forgetting_at d p [] m =
     let none = with_place d d.own p (with_line (connection_at d p) empty_line) in
-    lent_by (record { number = 0; taken = 0; reply = []; device = none }) m
+    received_in (served_as 0 [] none) m
 forgetting_at d p (b ∷ bs) m = ours.receive d p (b ∷ bs) m
 
 abbrev pub forgets_at_nothing : Board Device

@@ -12,8 +12,7 @@ use Rattle.record.specs.Updates.{with_own, with_errors}
 use Rattle.record.specs.declared.types.Device.{Device}
 use Rattle.record.specs.Places.{connection_at, with_place}
 use Rattle.device.specs.Calls.{is_no_place}
-use Rattle.ours.specs.Board.{Board, Lent, ours}
-use Rattle.record.specs.Given.{Given}
+use Rattle.ours.specs.Board.{Board, Given, Lent, ours}
 use Rattle.demands.specs.OursBut.{but_receive}
 
 abbrev fails_now : Device → ℕ → Device → Bool

@@ -9,8 +9,7 @@ use Rattle.record.specs.Places.{connection_at, with_place}
 use Rattle.record.specs.declared.types.CollectedLine.{CollectedLine}
 use Rattle.record.specs.declared.types.Device.{Device}
 use Rattle.stream.specs.Collecting.{empty_line}
-use Rattle.ours.specs.Board.{Board, Lent, ours}
-use Rattle.record.specs.Given.{Given}
+use Rattle.ours.specs.Board.{Board, Given, Lent, ours}
 
 module _ {X : Type 0} where
   abbrev given_beside : X → Given Device → Given (Device × X)

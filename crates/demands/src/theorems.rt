@@ -40,7 +40,7 @@ pub fn outsiders_read_erra()
         → p < places_count → let k = connection_at d p in k.phase ≡ phase_awaiting
         → let g =
         gathered_from (held_most k.phase) k.line bytes in g.ended ≡ true → is_match d.settings k g.line ≡ false
-        → read_reply c (received_at d p bytes room).reply ≡ outcome_alone erra_said }
+        → read_reply c (received_at d p bytes room).bytes ≡ outcome_alone erra_said }
 {}
 
 /// The lines that settle the rules, and those of Class 2, have these answers (RULES, Commands and Class 2).

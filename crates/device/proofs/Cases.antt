@@ -1,8 +1,9 @@
 -- The calls, case by case: one law a call, and the equation of what it does.
 -- Assumes nothing.
-use Rattle.std.proofs.Common.{arith, ℕ, ◌≤◌, ◌<◌, ◌≡◌, ap, true, false, not, List, le-ltb}
+use Rattle.std.proofs.Common.{arith, ℕ, ◌≤◌, ◌<◌, ◌≡◌, ap, true, false, not, List, [], le-ltb}
 use Rattle.std.proofs.lemmas.Bool.{lt-leb}
 use Rattle.text.specs.Rows.{NoneOf}
+use Rattle.text.specs.Outcomes.{CallResult, served_as, refused_as}
 use Rattle.text.proofs.ByRows.{rows_done}
 use Rattle.text.proofs.Choices.{if_yes, if_no}
 use Rattle.digest.specs.Hex.{hex_digits}
@@ -11,20 +12,22 @@ use Rattle.record.specs.Limits.{places_count, phase_awaiting, phase_open}
 use Rattle.record.specs.Legal.{is_legal}
 use Rattle.record.specs.Record.{closed}
 use Rattle.record.specs.Places.{connection_at, with_place, is_closed, lowest_closed}
+use Rattle.record.specs.Refusals.{refusal_number}
+use Rattle.record.specs.declared.refusal.Refusal.{Refusal}
 use Rattle.record.specs.declared.types.Settings.{Settings}
 use Rattle.record.specs.declared.types.Connection.{Connection}
 use Rattle.record.specs.declared.types.Device.{Device}
 use Rattle.device.specs.Receiving.{Taken, begun_in, taken_in}
-use Rattle.device.specs.Calls.{Result, refused_by, plain_result, reply_room, accepted_taken, opening_rows}
-use Rattle.device.specs.Calls.{received_at, has_password, greeting, new_connection, accepted_opening, opened_by}
-use Rattle.device.specs.Calls.{place_taken, closed_by}
+use Rattle.device.specs.Calls.{reply_room, accepted_taken, opening_rows, received_at, has_password, greeting}
+use Rattle.device.specs.Calls.{new_connection, accepted_opening, opened_by, closed_by}
 
 abbrev pub takes : Device → ℕ → List ℕ → Taken
 takes d p bs = taken_in d.settings d.own (connection_at d p) bs
 
 -- receiving: refused, or what is taken in
 module _ (d : Device) (p : ℕ) (bs : List ℕ) (room : ℕ) where
-  pub received_by : (P : Result Device → Type 0) → ((n : ℕ) → (n ≡ 0 → ⊥) → P (refused_by n d))
+  pub received_by : (P : CallResult Refusal ℕ Device → Type 0)
+      → ((e : Refusal) → (refusal_number e ≡ 0 → ⊥) → P (refused_as d e))
       → (is_legal d ≡ true → reply_room ≤ room → p < places_count → is_closed (connection_at d p) ≡ false
       → P (accepted_taken d p (takes d p bs)))
       → P (received_at d p bs room)
@@ -41,16 +44,12 @@ module _ (d : Device) (r room : ℕ) where
   abbrev lowest : ℕ
   lowest = lowest_closed d.connections
 
-  pub opened_placed_by : (P : ℕ → Result Device → Type 0) → ((n : ℕ) → (n ≡ 0 → ⊥) → P 0 (refused_by n d))
-      → (is_legal d ≡ true → reply_room ≤ room → lowest < places_count → P lowest (accepted_opening d r))
-      → P (place_taken d room) (opened_by d r room)
-  unfolding opened_by place_taken
-  opened_placed_by P refused greets = grind arith
-
-  pub opened_by_lem : (P : Result Device → Type 0) → ((n : ℕ) → (n ≡ 0 → ⊥) → P (refused_by n d))
+  pub opened_by_lem : (P : CallResult Refusal ℕ Device → Type 0)
+      → ((e : Refusal) → (refusal_number e ≡ 0 → ⊥) → P (refused_as d e))
       → (is_legal d ≡ true → reply_room ≤ room → lowest < places_count → P (accepted_opening d r))
       → P (opened_by d r room)
-  opened_by_lem P refused greets = opened_placed_by (λ p q. P q) refused greets
+  unfolding opened_by
+  opened_by_lem P refused greets = grind arith
 
   module _ (legal : is_legal d ≡ true) (enough : reply_room ≤ room) (free : lowest < places_count) where
     none_applies : NoneOf (opening_rows d room)
@@ -58,11 +57,7 @@ module _ (d : Device) (r room : ℕ) where
 
     pub opened_greeted : opened_by d r room ≡ accepted_opening d r
     unfolding opened_by
-    opened_greeted = rows_done (λ n. refused_by n d) _ (opening_rows d room) none_applies
-
-    pub opened_lowest : place_taken d room ≡ lowest
-    unfolding place_taken
-    opened_lowest = rows_done (λ n. 0) _ (opening_rows d room) none_applies
+    opened_greeted = rows_done (refused_as d) _ (opening_rows d room) none_applies
 
 -- the greeting and the connection that it opens, by whether there is a password
 pub greeted_by_lem : (s : Settings) (r : ℕ) (P : List ℕ → Connection → Type 0)
@@ -94,15 +89,16 @@ module _ (s : Settings) (r : ℕ) where
 
 -- closing: refused, or the closed connection
 module _ (d : Device) (p : ℕ) where
-  pub closed_by_lem : (P : Result Device → Type 0) → ((n : ℕ) → (n ≡ 0 → ⊥) → P (refused_by n d))
+  pub closed_by_lem : (P : CallResult Refusal (Unit {0}) Device → Type 0)
+      → ((e : Refusal) → (refusal_number e ≡ 0 → ⊥) → P (refused_as d e))
       → (is_legal d ≡ true → p < places_count → is_closed (connection_at d p) ≡ false
-      → P (plain_result (with_place d d.own p closed)))
+      → P (served_as tt [] (with_place d d.own p closed)))
       → P (closed_by d p)
   unfolding closed_by
   closed_by_lem P refused closes = grind arith
 
   pub closed_at_place : is_legal d ≡ true → p < places_count → is_closed (connection_at d p) ≡ false
-      → closed_by d p ≡ plain_result (with_place d d.own p closed)
+      → closed_by d p ≡ served_as tt [] (with_place d d.own p closed)
   unfolding closed_by
   closed_at_place legal there live = grind arith
 

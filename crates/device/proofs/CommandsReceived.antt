@@ -16,9 +16,11 @@ use Rattle.pjlink.specs.declared.command.Command.{Command}
 use Rattle.pjlink.proofs.CommandLines.{command_length, command_no_cr}
 use Rattle.pjlink.specs.Said.{Said, said_bytes}
 use Rattle.text.specs.Flags.{is_raised}
+use Rattle.text.specs.Outcomes.{CallResult, served_as}
 use Rattle.record.specs.Limits.{places_count, phase_awaiting, phase_open}
 use Rattle.record.specs.Legal.{is_legal}
 use Rattle.record.specs.Places.{connection_at, with_place}
+use Rattle.record.specs.declared.refusal.Refusal.{Refusal}
 use Rattle.record.specs.declared.types.Connection.{Connection}
 use Rattle.record.specs.declared.types.Device.{Device}
 use Rattle.record.proofs.LegalTold.{legal_settings, legal_connection}
@@ -28,7 +30,7 @@ use Rattle.stream.specs.Collecting.{empty_line}
 use Rattle.meaning.specs.Meaning.{answer_for, after_request}
 use Rattle.device.specs.Answering.{Answered, line_answer}
 use Rattle.device.specs.Receiving.{phase_start, digest_long, set_up_password}
-use Rattle.device.specs.Calls.{Result, reply_room, received_at}
+use Rattle.device.specs.Calls.{reply_room, received_at}
 use Rattle.device.proofs.LinesReceived.{line_result, line_received, led_line_received}
 use Rattle.device.proofs.WholeLines.{command_answered, higher_swallowed}
 
@@ -36,21 +38,13 @@ abbrev pub reply_to : Command → Said → List ℕ
 reply_to k m =
     codes "%" ++ (class_digit (command_class k) ∷ body_text (body_of k)) ++ codes "=" ++ said_bytes m ++ codes "\r"
 
-abbrev pub command_result : Device → ℕ → Command → ℕ → Result Device
-command_result d p k n = record {
-  number = 0;
-  taken = n;
-  reply = reply_to k (answer_for d.settings d.own (Ok k));
-  device = with_place d (after_request d.settings d.own (Ok k)) p (phase_start (connection_at d p) phase_open);
-}
+abbrev pub command_result : Device → ℕ → Command → ℕ → CallResult Refusal ℕ Device
+command_result d p k n =
+    served_as n (reply_to k (answer_for d.settings d.own (Ok k)))
+    (with_place d (after_request d.settings d.own (Ok k)) p (phase_start (connection_at d p) phase_open))
 
-abbrev pub swallowed_at : Device → ℕ → ℕ → Result Device
-swallowed_at d p n = record {
-  number = 0;
-  taken = n;
-  reply = [];
-  device = with_place d d.own p (phase_start (connection_at d p) phase_open);
-}
+abbrev pub swallowed_at : Device → ℕ → ℕ → CallResult Refusal ℕ Device
+swallowed_at d p n = served_as n [] (with_place d d.own p (phase_start (connection_at d p) phase_open))
 
 -- an open connection between lines stays as it was
 pub open_again : (d : Device) (p : ℕ) → p < places_count → is_legal d ≡ true → (connection_at d p).phase ≡ phase_open
@@ -65,7 +59,7 @@ module _ (d : Device) (p : ℕ) (there : p < places_count) (room : ℕ) (legal :
   c = connection_at d p
 
   -- its line is taken whole, whatever it is answered
-  abbrev spoken_after : ℕ → Answered → Result Device
+  abbrev spoken_after : ℕ → Answered → CallResult Refusal ℕ Device
   spoken_after n a = line_result d p a n
 
   abbrev answered : Answered

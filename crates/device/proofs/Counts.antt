@@ -5,6 +5,7 @@ use Rattle.std.specs.List.{list_all}
 use Rattle.std.proofs.Common.{ℕ, ◌+◌, ◌≤◌, ◌≡◌, refl, true, List, [], ◌∷◌, ◌++◌, arith, length, ◌==◌}
 use Prim.Native.Char.{code}
 use Rattle.text.proofs.Choices.{if_all}
+use Rattle.text.specs.Outcomes.{number_answered}
 use Rattle.words.specs.Bytes.{is_not_cr}
 use Rattle.record.specs.Limits.{phase_failed}
 use Rattle.record.specs.Legal.{held_most}
@@ -45,9 +46,10 @@ module _ (s : Settings) (o : Own) (c : Connection) where
   unfolding taken_in
   nothing_taken = grind (arith, gathered_none, keeps_itself)
 
-pub received_within : (d : Device) (p : ℕ) (bs : List ℕ) (room : ℕ) → (received_at d p bs room).taken ≤ length bs
+pub received_within : (d : Device) (p : ℕ) (bs : List ℕ) (room : ℕ)
+    → number_answered (received_at d p bs room) ≤ length bs
 received_within d p bs room =
-    received_by d p bs room (λ r. r.taken ≤ length bs) (λ n z. omega arith)
+    received_by d p bs room (λ r. number_answered r ≤ length bs) (λ e some. omega arith)
     (λ h s t c. taken_within d.settings d.own (connection_at d p) bs)
 
 pub ruleset counts = (all_taken, line_taken, nothing_taken)

@@ -9,6 +9,7 @@ use Rattle.std.proofs.Common.{ℕ, ◌+◌, ◌≡◌, refl, sym, ap, subst, ◌
 use Rattle.std.proofs.Common.{append_assoc, append-nil, arith, take, drop, take-append-drop, eqb-true, codes, Ok}
 use Rattle.std.proofs.lemmas.Bool.{eqb-false}
 use Prim.Native.Char.{code}
+use Rattle.text.specs.Outcomes.{CallResult, number_answered}
 use Rattle.pjlink.specs.Forms.{reply_line}
 use Rattle.pjlink.specs.declared.body.Body.TheVariants.{Powr}
 use Rattle.pjlink.specs.declared.command.Command.TheVariants.{PowerSet}
@@ -18,6 +19,7 @@ use Rattle.record.specs.Limits.{phase_closed, phase_awaiting, phase_open}
 use Rattle.record.specs.Legal.{is_collecting, held_most, is_connection}
 use Rattle.record.specs.Record.{closed}
 use Rattle.record.specs.Places.{connection_at}
+use Rattle.record.specs.declared.refusal.Refusal.{Refusal}
 use Rattle.record.specs.declared.types.Settings.{Settings}
 use Rattle.record.specs.declared.types.Own.{Own}
 use Rattle.record.specs.declared.types.Connection.{Connection}
@@ -31,7 +33,7 @@ use Rattle.stream.specs.Collecting.{line_text, empty_line, gathered_from}
 use Rattle.meaning.specs.Meaning.{answer_for, after_request}
 use Rattle.meaning.proofs.Done.{Keeps}
 use Rattle.device.specs.Receiving.{Taken, digest_long, line_ended, keeping_line, taken_in}
-use Rattle.device.specs.Calls.{Result, received_at, new_connection, opened_by, closed_by}
+use Rattle.device.specs.Calls.{received_at, new_connection, opened_by, closed_by}
 use Rattle.device.proofs.Cases.{received_by, opened_by_lem, closed_by_lem}
 use Rattle.device.proofs.LineCases.{ended_by, taken_by}
 use Rattle.device.proofs.Legal.{collecting, line_legal}
@@ -134,21 +136,21 @@ module _ (s : Settings) (o : Own) (c : Connection) (bs : List ℕ) (legal : is_c
 
 -- receiving, on any input: refused, it takes nothing and leaves the record
 pub received_tells : (d : Device) (p : ℕ) (bs : List ℕ) (room : ℕ) → let r = received_at d p bs room in
-    Tells d.settings d.own (line_text (connection_at d p).line ++ take r.taken bs) r.reply r.device.own
-    (connection_at r.device p)
+    Tells d.settings d.own (line_text (connection_at d p).line ++ take (number_answered r) bs) r.bytes r.leaves.own
+    (connection_at r.leaves p)
 received_tells d p bs room =
     let here = connection_at d p in
     let held = line_text here.line in
-    let Told : Result Device → Type 0 = λ r.
-    Tells d.settings d.own (held ++ take r.taken bs) r.reply r.device.own
-    (connection_at r.device p) in
+    let Told : CallResult Refusal ℕ Device → Type 0 = λ r.
+    Tells d.settings d.own (held ++ take (number_answered r) bs) r.bytes r.leaves.own
+    (connection_at r.leaves p) in
     let nothing : Tells d.settings d.own (held ++ []) [] d.own here = record {
       effect = stays refl refl refl;
       lamps = refl;
       marks = refl;
       last = record { before = []; split = append-nil held };
     } in
-    received_by d p bs room Told (λ n z. nothing)
+    received_by d p bs room Told (λ e some. nothing)
     (λ h s t c. let took = taken_in d.settings d.own here bs in
     subst (Tells d.settings d.own (held ++ take took.taken bs) took.ended.reply took.ended.own)
     (sym (placed_here d (legal_places d h) p t took.ended.own took.ended.connection))
@@ -162,16 +164,16 @@ module _ (d : Device) (q : ℕ) (w : List ℕ) (known : Ends w (held (connection
   abbrev EndsIt : Connection → Type 0
   EndsIt c = Ends w (held c)
 
-  abbrev Ending : Result Device → Type 0
-  Ending k = EndsIt (connection_at k.device q)
+  abbrev Ending : {A : Type 0} → CallResult Refusal A Device → Type 0
+  Ending k = EndsIt (connection_at k.leaves q)
 
-  pub opening_tells : (r room : ℕ) → Ends w (held (connection_at (opened_by d r room).device q))
+  pub opening_tells : (r room : ℕ) → Ends w (held (connection_at (opened_by d r room).leaves q))
   unfolding new_connection
   opening_tells r room =
-      opened_by_lem d r room Ending (λ n z. known)
+      opened_by_lem d r room Ending (λ e some. known)
       (λ h s c. placed_either EndsIt d d.own _ _ q (ends_unheld w empty_line empty_held) known)
 
-  pub closing_tells : (p : ℕ) → Ends w (held (connection_at (closed_by d p).device q))
+  pub closing_tells : (p : ℕ) → Ends w (held (connection_at (closed_by d p).leaves q))
   closing_tells p =
-      closed_by_lem d p Ending (λ n z. known)
+      closed_by_lem d p Ending (λ e some. known)
       (λ h t c. placed_either EndsIt d d.own p _ q (ends_unheld w closed.line closed_holds_none) known)

@@ -3,12 +3,14 @@
 use Rattle.std.proofs.Common.{ℕ, ◌≤◌, ◌<◌, ◌≡◌, sym, subst, true, false, List, set, arith, ◌==◌}
 use Rattle.std.proofs.lemmas.List.{set-get_or}
 use Rattle.std.proofs.lemmas.Bool.{eqb-false}
+use Rattle.text.specs.Outcomes.{CallResult}
 use Rattle.text.proofs.Choices.{if_all, if_by}
 use Rattle.record.specs.Limits.{phase_closed, phase_awaiting, phase_open, phase_failed, places_count}
 use Rattle.record.specs.Updates.{with_line}
 use Rattle.record.specs.Legal.{is_collecting, is_settings, is_own, is_connection, is_legal}
 use Rattle.record.specs.Places.{no_connection, connection_at, with_place, is_closed}
 use Rattle.record.specs.Record.{closed}
+use Rattle.record.specs.declared.refusal.Refusal.{Refusal}
 use Rattle.record.specs.declared.types.Settings.{Settings}
 use Rattle.record.specs.declared.types.Own.{Own}
 use Rattle.record.specs.declared.types.CollectedLine.{CollectedLine}
@@ -24,7 +26,7 @@ use Rattle.meaning.proofs.Done.{done_legal}
 use Rattle.device.specs.Ready.{IsReady}
 use Rattle.device.specs.Answering.{line_answer}
 use Rattle.device.specs.Receiving.{phase_start, line_ended, keeping_line, taken_in}
-use Rattle.device.specs.Calls.{Result, has_password, new_connection, received_at, opened_by, closed_by}
+use Rattle.device.specs.Calls.{has_password, new_connection, received_at, opened_by, closed_by}
 use Rattle.device.proofs.Cases.{received_by, opened_by_lem, closed_by_lem}
 use Rattle.device.proofs.LineCases.{ended_by, taken_by}
 
@@ -97,8 +99,8 @@ greeted_legal s r =
 
 -- the calls
 module _ (d : Device) (legal : is_legal d ≡ true) where
-  abbrev LegalAfter : Result Device → Type 0
-  LegalAfter r = is_legal r.device ≡ true
+  abbrev LegalAfter : {A : Type 0} → CallResult Refusal A Device → Type 0
+  LegalAfter r = is_legal r.leaves ≡ true
 
   -- the device with a legal own part, and a legal connection at a place
   placed : (o : Own) (p : ℕ) (c : Connection) → is_own d.settings o ≡ true → is_connection c ≡ true
@@ -135,16 +137,16 @@ module _ (d : Device) (legal : is_legal d ≡ true) where
         (λ e f. subst (λ (k : Device). is_legal k ≡ true) (λ i. with_place d (sym e i) p (sym f i))
         (taken_kept p bs there live))
 
-  pub receiving_legal : (p : ℕ) (bs : List ℕ) (room : ℕ) → is_legal (received_at d p bs room).device ≡ true
+  pub receiving_legal : (p : ℕ) (bs : List ℕ) (room : ℕ) → is_legal (received_at d p bs room).leaves ≡ true
   receiving_legal p bs room =
-      received_by d p bs room LegalAfter (λ n z. legal)
+      received_by d p bs room LegalAfter (λ e some. legal)
       (λ h s t c. taken_kept p bs t c)
 
-  pub opening_legal : (r room : ℕ) → is_legal (opened_by d r room).device ≡ true
+  pub opening_legal : (r room : ℕ) → is_legal (opened_by d r room).leaves ≡ true
   opening_legal r room =
-      opened_by_lem d r room LegalAfter (λ n z. legal)
+      opened_by_lem d r room LegalAfter (λ e some. legal)
       (λ h s c. greeted_kept _ r)
 
-  pub closing_legal : (p : ℕ) → is_legal (closed_by d p).device ≡ true
+  pub closing_legal : (p : ℕ) → is_legal (closed_by d p).leaves ≡ true
   closing_legal p =
-      closed_by_lem d p LegalAfter (λ n z. legal) (λ h t c. closed_kept p)
+      closed_by_lem d p LegalAfter (λ e some. legal) (λ h t c. closed_kept p)

@@ -10,9 +10,11 @@ use Rattle.digest.specs.Hex.{leading_digest}
 use Rattle.words.specs.Bytes.{is_not_cr, is_cr_free, command_most}
 use Rattle.words.proofs.Characters.{no_cr_each}
 use Rattle.text.specs.Flags.{is_raised}
+use Rattle.text.specs.Outcomes.{CallResult}
 use Rattle.record.specs.Limits.{places_count, phase_closed, phase_awaiting, phase_open}
 use Rattle.record.specs.Legal.{held_most, is_legal}
 use Rattle.record.specs.Places.{connection_at}
+use Rattle.record.specs.declared.refusal.Refusal.{Refusal}
 use Rattle.record.specs.declared.types.Settings.{Settings}
 use Rattle.record.specs.declared.types.Own.{Own}
 use Rattle.record.specs.declared.types.Connection.{Connection}
@@ -24,7 +26,7 @@ use Rattle.stream.proofs.LinesSpelt.{overlong_marked}
 use Rattle.stream.proofs.LinesCollected.{empty_is_none, overlong_gathered}
 use Rattle.device.specs.Answering.{Answered, line_answer, line_swallowed}
 use Rattle.device.specs.Receiving.{served_line, digest_long, set_up_password, taken_in}
-use Rattle.device.specs.Calls.{Result, reply_room, accepted_taken, received_at}
+use Rattle.device.specs.Calls.{reply_room, accepted_taken, received_at}
 use Rattle.device.proofs.Cases.{received_taken}
 use Rattle.device.proofs.LineCases.{ended_overlong, taken-line}
 use Rattle.device.proofs.Legal.{line_legal}
@@ -45,7 +47,7 @@ module _ (s : Settings) (o : Own) (c : Connection) (empty : c.line ≡ empty_lin
       ≡ record { ended = served_line c (line_swallowed o); taken = length xs + 1 }
   overlong_line-taken = grind (arith, taken-line, gathered_from-held_most, ended_overlong, overlong_marked)
 
-abbrev pub line_result : Device → ℕ → Answered → ℕ → Result Device
+abbrev pub line_result : Device → ℕ → Answered → ℕ → CallResult Refusal ℕ Device
 line_result d p a n = accepted_taken d p (record { ended = served_line (connection_at d p) a; taken = n })
 
 module _ (d : Device) (p : ℕ) (there : p < places_count) (room : ℕ) (legal : is_legal d ≡ true)

@@ -58,11 +58,11 @@ module _ (d : Device) (p : ℕ) (bs : List ℕ) (room : ℕ) where
   here = connection_at d p
 
   module _ (phase : here.phase ≡ phase_failed) where
-    pub failed_keeps_record : (received_at d p bs room).device ≡ d
+    pub failed_keeps_record : (received_at d p bs room).leaves ≡ d
     unfolding received_at
     failed_keeps_record = grind (arith, failed_ignores, with_place-connection_at)
 
-    pub failed_never_replies : (received_at d p bs room).reply ≡ []
+    pub failed_never_replies : (received_at d p bs room).bytes ≡ []
     failed_never_replies =
-        received_by d p bs room (λ r. r.reply ≡ []) (λ n z. refl)
+        received_by d p bs room (λ r. r.bytes ≡ []) (λ e some. refl)
         (λ h s t c. ap (λ (e : Ended). e.reply) (failed_ignores d.settings d.own here phase bs))

@@ -6,10 +6,12 @@
 -- Assumes nothing.
 use Rattle.std.proofs.Common.{ℕ, ◌≤◌, ◌<◌, ◌≡◌, refl, sym, ap, ◌∙◌, true, false, List, arith, ◌==◌, ne_eqb}
 use Prim.Native.Char.{code}
+use Rattle.text.specs.Outcomes.{CallResult, number_answered}
 use Rattle.text.proofs.Choices.{if_all}
 use Rattle.record.specs.Limits.{places_count, phase_closed, phase_failed}
 use Rattle.record.specs.Legal.{is_settings, is_own, is_connection, is_legal}
 use Rattle.record.specs.Places.{connection_at, with_place, is_closed}
+use Rattle.record.specs.declared.refusal.Refusal.{Refusal}
 use Rattle.record.specs.declared.types.Settings.{Settings}
 use Rattle.record.specs.declared.types.Own.{Own}
 use Rattle.record.specs.declared.types.CollectedLine.{CollectedLine}
@@ -23,7 +25,7 @@ use Rattle.stream.specs.Machine.{Took, run_over, one_call, handed_parts, stream_
 use Rattle.stream.proofs.LegalLines.{collected_legal}
 use Rattle.stream.proofs.SameHoweverCut.{out_through, took_through, calls_run, same_however_cut}
 use Rattle.device.specs.Receiving.{line_ended, keeping_line, taken_in}
-use Rattle.device.specs.Calls.{Result, reply_room, accepted_taken, received_at}
+use Rattle.device.specs.Calls.{reply_room, accepted_taken, received_at}
 use Rattle.device.proofs.Cases.{received_taken}
 use Rattle.device.proofs.LineCases.{ended_by}
 use Rattle.device.proofs.Legal.{line_legal, is_connection-keeping_line, is_own-line_ended, is_connection-line_ended}
@@ -54,8 +56,8 @@ module _ (s : Settings) where
   ready_ends m r = grind (arith, is_own-line_ended, is_connection-line_ended, ended_live)
 
 -- on the whole record
-abbrev pub as_device_call : Result Device → Took Device
-as_device_call r = record { taken = r.taken; state = r.device; reply = r.reply }
+abbrev pub as_device_call : CallResult Refusal ℕ Device → Took Device
+as_device_call r = record { taken = number_answered r; state = r.leaves; reply = r.bytes }
 
 abbrev pub receives : ℕ → ℕ → Device → List ℕ → Took Device
 receives room p d bs = as_device_call (received_at d p bs room)

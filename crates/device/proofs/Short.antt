@@ -43,12 +43,12 @@ greeting_short s r = grind (arith, if_all, length-append, length-hex_digits)
 
 module _ (d : Device) where
   -- on any input, refused or not
-  pub receiving_short : (p : ℕ) (bs : List ℕ) (room : ℕ) → length (received_at d p bs room).reply ≤ longest_reply
+  pub receiving_short : (p : ℕ) (bs : List ℕ) (room : ℕ) → length (received_at d p bs room).bytes ≤ longest_reply
   receiving_short p bs room =
-      received_by d p bs room (λ r. length r.reply ≤ longest_reply) (λ n z. omega arith)
+      received_by d p bs room (λ r. length r.bytes ≤ longest_reply) (λ e some. omega arith)
       (λ h s t c. taken_short d.settings d.own (legal_settings d h) (legal_own d h) (connection_at d p) bs)
 
-  pub opening_short : (r room : ℕ) → length (opened_by d r room).reply ≤ longest_greeting
+  pub opening_short : (r room : ℕ) → length (opened_by d r room).bytes ≤ longest_greeting
   opening_short r room =
-      opened_by_lem d r room (λ q. length q.reply ≤ longest_greeting) (λ n z. omega arith)
+      opened_by_lem d r room (λ q. length q.bytes ≤ longest_greeting) (λ e some. omega arith)
       (λ h s c. greeting_short d.settings r)

@@ -1,36 +1,24 @@
--- What a call says beside the record and the lent memory, in numbers.
---   Told                 its number, the bytes taken, the length of the reply
---   result_told r        what `Calls` says that the call gives
---   receiving_told r, opening_told r     what the code's outcome says: a refusal takes nothing and replies nothing, and
---                        an opening takes no bytes
---   opened_place r           the place that an opening reports; 0 where it is refused
+-- What receiving and opening return in code, beside the record and the reply memory.
+--   received_said c, opened_said c   what is returned where `Calls` says that the call gives c: its answer, and the
+--                                    length of the reply
 -- Assumes nothing.
 use Rattle.std.specs.Prelude.{ℕ, length, Result, Ok, Err}
-use Rattle.record.specs.Refusals.{refusal_number}
+use Rattle.text.specs.Outcomes.{CallResult}
 use Rattle.record.specs.declared.refusal.Refusal.{Refusal}
+use Rattle.record.specs.declared.types.Device.{Device}
 use Rattle.device.specs.declared.calls.Received.{Received}
 use Rattle.device.specs.declared.calls.Opened.{Opened}
-use Rattle.device.specs.Calls.{Result as Given}
 
-pub record Told : Type 0 where
-  pub number : ℕ
-  pub taken : ℕ
-  pub length : ℕ
+abbrev pub as_received : Result ℕ Refusal → ℕ → Result Received Refusal
+as_received (Ok t) n = Ok (record { taken = t; length = n })
+as_received (Err e) n = Err e
 
-abbrev pub result_told : {D : Type 0} → Given D → Told
-result_told r = record { number = r.number; taken = r.taken; length = length r.reply }
+abbrev pub received_said : CallResult Refusal ℕ Device → Result Received Refusal
+received_said c = as_received c.says (length c.bytes)
 
-abbrev pub refusal_told : Refusal → Told
-refusal_told r = record { number = refusal_number r; taken = 0; length = 0 }
+abbrev pub as_opened : Result ℕ Refusal → ℕ → Result Opened Refusal
+as_opened (Ok p) n = Ok (record { place = p; length = n })
+as_opened (Err e) n = Err e
 
-abbrev pub receiving_told : Result Received Refusal → Told
-receiving_told (Ok r) = record { number = 0; taken = r.taken; length = r.length }
-receiving_told (Err r) = refusal_told r
-
-abbrev pub opening_told : Result Opened Refusal → Told
-opening_told (Ok o) = record { number = 0; taken = 0; length = o.length }
-opening_told (Err r) = refusal_told r
-
-abbrev pub opened_place : Result Opened Refusal → ℕ
-opened_place (Ok o) = o.place
-opened_place (Err r) = 0
+abbrev pub opened_said : CallResult Refusal ℕ Device → Result Opened Refusal
+opened_said c = as_opened c.says (length c.bytes)

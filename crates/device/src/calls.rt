@@ -2,10 +2,8 @@
 // they were where it refuses.
 ghost use Rattle.std.specs.Prelude.{◌≡◌, ◌≤◌, length};
 ghost use Rattle.text.specs.Words.{over};
-ghost use Rattle.text.specs.Outcomes.{outcome_number};
-ghost use Rattle.record.specs.Refusals.{refusal_number};
-ghost use Rattle.device.specs.Calls.{received_at, opened_by, place_taken, closed_by, greeting, new_connection};
-ghost use Rattle.device.specs.Outcomes.{result_told, receiving_told, opening_told, opened_place};
+ghost use Rattle.device.specs.Calls.{received_at, opened_by, closed_by, greeting, new_connection};
+ghost use Rattle.device.specs.Outcomes.{received_said, opened_said};
 
 use crate::{places, receiving};
 use pjlink::greeting::Greeting;
@@ -46,10 +44,9 @@ pub fn receive(
     out: &mut [u8],
 ) -> Result<Received, Refusal>
     ensures same_reference { legal.new.device.ghost_name ≡ legal.old.device.ghost_name }
-    ensures told { receiving_told result
-        ≡ result_told (received_at legal.old.device.now place bytes.now (length out.old)) }
-    ensures device { legal.new.device.now ≡ (received_at legal.old.device.now place bytes.now (length out.old)).device }
-    ensures reply { out.new ≡ over (received_at legal.old.device.now place bytes.now (length out.old)).reply
+    ensures says { result ≡ received_said (received_at legal.old.device.now place bytes.now (length out.old)) }
+    ensures device { legal.new.device.now ≡ (received_at legal.old.device.now place bytes.now (length out.old)).leaves }
+    ensures reply { out.new ≡ over (received_at legal.old.device.now place bytes.now (length out.old)).bytes
         out.old }
 {
     let device = &mut *legal.device;
@@ -116,14 +113,12 @@ fn greet(s: &Settings, random: u32, c: &mut Connection)
 
 /// Opens a connection at the lowest closed place, with the random number that the host lends. Refused: `NoRoom` for
 /// less than 136 bytes of memory, `NoPlace` where none is closed, in that order.
-#[tactic(auto, unfolding(crate::specs::Calls::opened_by, crate::specs::Calls::place_taken))]
+#[tactic(auto, unfolding(crate::specs::Calls::opened_by))]
 pub fn open(legal: &mut Legal<'_>, random: u32, out: &mut [u8]) -> Result<Opened, Refusal>
     ensures same_reference { legal.new.device.ghost_name ≡ legal.old.device.ghost_name }
-    ensures told { opening_told result ≡ result_told (opened_by legal.old.device.now random (length out.old)) }
-    ensures place { opened_place result ≡ place_taken legal.old.device.now (length out.old) }
-    ensures device { legal.new.device.now ≡ (opened_by legal.old.device.now random (length out.old)).device }
-    ensures reply { out.new ≡ over (opened_by legal.old.device.now random (length out.old)).reply
-        out.old }
+    ensures says { result ≡ opened_said (opened_by legal.old.device.now random (length out.old)) }
+    ensures device { legal.new.device.now ≡ (opened_by legal.old.device.now random (length out.old)).leaves }
+    ensures reply { out.new ≡ over (opened_by legal.old.device.now random (length out.old)).bytes out.old }
 {
     let device = &mut *legal.device;
     if out.len() < REPLY_ROOM {
@@ -142,8 +137,8 @@ pub fn open(legal: &mut Legal<'_>, random: u32, out: &mut [u8]) -> Result<Opened
 #[tactic(auto, unfolding(crate::specs::Calls::closed_by))]
 pub fn close(legal: &mut Legal<'_>, place: usize) -> Result<(), Refusal>
     ensures same_reference { legal.new.device.ghost_name ≡ legal.old.device.ghost_name }
-    ensures number { outcome_number refusal_number result ≡ (closed_by legal.old.device.now place).number }
-    ensures device { legal.new.device.now ≡ (closed_by legal.old.device.now place).device }
+    ensures says { result ≡ (closed_by legal.old.device.now place).says }
+    ensures device { legal.new.device.now ≡ (closed_by legal.old.device.now place).leaves }
 {
     let device = &mut *legal.device;
     if PLACES <= place {

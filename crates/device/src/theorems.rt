@@ -1,6 +1,6 @@
 // What is proved beside the contracts of the functions. Nothing is done here: that these functions have their contracts
 // is that the theorems stand.
-ghost use Rattle.std.specs.Prelude.{◌≡◌, ◌+◌, ◌<◌, ◌≤◌, ◌++◌, true, false, ℕ, List, [], length, codes};
+ghost use Rattle.std.specs.Prelude.{◌≡◌, ◌+◌, ◌<◌, ◌≤◌, ◌++◌, true, false, ℕ, List, [], length, codes, Result};
 ghost use Rattle.std.specs.List.{list_all};
 ghost use Rattle.words.specs.Bytes.{is_not_cr};
 ghost use Rattle.pjlink.specs.Forms.{greeting_open, greeting_secured};
@@ -15,24 +15,28 @@ ghost use Rattle.record.specs.declared.types.Device.{Device};
 ghost use Rattle.stream.specs.Collecting.{empty_line};
 ghost use Rattle.device.specs.Receiving.{begun_in, phase_start, no_reply, taken_in};
 ghost use Rattle.device.specs.Calls.{has_password, greeting, new_connection, reply_room};
-ghost use Rattle.device.specs.Calls.{opened_by, place_taken, closed_by, received_at};
-ghost use Rattle.device.specs.Outcomes.{Told, result_told};
+ghost use Rattle.device.specs.Calls.{opened_by, closed_by, received_at};
+ghost use Rattle.device.specs.Outcomes.{received_said, opened_said};
+ghost use Rattle.device.specs.declared.calls.Received.{Received};
+ghost use Rattle.device.specs.declared.calls.Opened.{Opened};
+ghost use Rattle.record.specs.declared.refusal.Refusal.{Refusal};
 ghost use Rattle.text.specs.Words.{over};
 
-/// Two results that meet the promise of a call are equal: what it says, the record and the lent memory.
+/// Two results that meet the promise of a call are equal: what is returned, the record and the reply memory.
 pub fn one_result()
-    ensures opening { (d : Device) (random : ℕ) (out : List ℕ) (r s : Told) (p q : ℕ) (x y : Device) (m n : List ℕ)
+    ensures opening { (d : Device) (random : ℕ) (out : List ℕ) (r s : Result Opened Refusal) (x y : Device)
+        (m n : List ℕ)
         → let o = opened_by d random (length out) in
-        (r ≡ result_told o) × (p ≡ place_taken d (length out)) × (x ≡ o.device) × (m ≡ over o.reply out)
-        → (s ≡ result_told o) × (q ≡ place_taken d (length out)) × (y ≡ o.device) × (n ≡ over o.reply out)
-        → (r ≡ s) × (p ≡ q) × (x ≡ y) × (m ≡ n) }
-    ensures closing { (d : Device) (p : ℕ) (r s : ℕ) (x y : Device)
-        → (r ≡ (closed_by d p).number) × (x ≡ (closed_by d p).device)
-        → (s ≡ (closed_by d p).number) × (y ≡ (closed_by d p).device) → (r ≡ s) × (x ≡ y) }
-    ensures receiving { (d : Device) (p : ℕ) (bs out : List ℕ) (r s : Told) (x y : Device) (m n : List ℕ)
+        (r ≡ opened_said o) × (x ≡ o.leaves) × (m ≡ over o.bytes out)
+        → (s ≡ opened_said o) × (y ≡ o.leaves) × (n ≡ over o.bytes out) → (r ≡ s) × (x ≡ y) × (m ≡ n) }
+    ensures closing { (d : Device) (p : ℕ) (r s : Result (Unit {0}) Refusal) (x y : Device)
+        → (r ≡ (closed_by d p).says) × (x ≡ (closed_by d p).leaves)
+        → (s ≡ (closed_by d p).says) × (y ≡ (closed_by d p).leaves) → (r ≡ s) × (x ≡ y) }
+    ensures receiving { (d : Device) (p : ℕ) (bs out : List ℕ) (r s : Result Received Refusal) (x y : Device)
+        (m n : List ℕ)
         → let t = received_at d p bs (length out) in
-        (r ≡ result_told t) × (x ≡ t.device) × (m ≡ over t.reply out)
-        → (s ≡ result_told t) × (y ≡ t.device) × (n ≡ over t.reply out) → (r ≡ s) × (x ≡ y) × (m ≡ n) }
+        (r ≡ received_said t) × (x ≡ t.leaves) × (m ≡ over t.bytes out)
+        → (s ≡ received_said t) × (y ≡ t.leaves) × (n ≡ over t.bytes out) → (r ≡ s) × (x ≡ y) × (m ≡ n) }
 {}
 
 /// The greeting and the connection that it opens, with a password and without (RULES, Passwords).
@@ -61,15 +65,15 @@ pub fn a_call_takes_one_line()
 /// (RULES, Connection).
 pub fn what_receiving_keeps()
     ensures own { (d : Device) (p : ℕ) (bytes : List ℕ) (room : ℕ)
-        → let o = (received_at d p bytes room).device.own in
+        → let o = (received_at d p bytes room).leaves.own in
         (o.lamps ≡ d.own.lamps) × (o.enabled ≡ d.own.enabled) × (o.fault ≡ d.own.fault) × (o.errors ≡ d.own.errors) }
     ensures open_between_lines { (d : Device) (p : ℕ) → p < places_count → is_legal d ≡ true
         → let c = connection_at d p in
         c.phase ≡ phase_open → c.line ≡ empty_line → phase_start c phase_open ≡ c }
     ensures failed_record { (d : Device) (p : ℕ) (bytes : List ℕ) (room : ℕ)
-        → (connection_at d p).phase ≡ phase_failed → (received_at d p bytes room).device ≡ d }
+        → (connection_at d p).phase ≡ phase_failed → (received_at d p bytes room).leaves ≡ d }
     ensures failed_reply { (d : Device) (p : ℕ) (bytes : List ℕ) (room : ℕ)
-        → (connection_at d p).phase ≡ phase_failed → (received_at d p bytes room).reply ≡ [] }
+        → (connection_at d p).phase ≡ phase_failed → (received_at d p bytes room).bytes ≡ [] }
 {}
 
 /// More lent memory than a call asks for changes nothing of what it does.
@@ -77,7 +81,6 @@ pub fn what_receiving_keeps()
 pub fn more_memory_changes_nothing()
     ensures opening { (d : Device) (random room : ℕ) → reply_room ≤ room
         → opened_by d random reply_room ≡ opened_by d random room }
-    ensures place { (d : Device) (room : ℕ) → reply_room ≤ room → place_taken d reply_room ≡ place_taken d room }
     ensures receiving { (d : Device) (p : ℕ) (bytes : List ℕ) (room : ℕ) → reply_room ≤ room
         → received_at d p bytes reply_room ≡ received_at d p bytes room }
 {}

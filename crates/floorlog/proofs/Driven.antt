@@ -48,19 +48,19 @@ module _ (d : Device) where
   pub itself_kept : Kept d
   itself_kept = set-get_or before log_place no_connection
 
-  opening_kept : (r : ℕ) → Kept (event_result d (opens r)).device
+  opening_kept : (r : ℕ) → Kept (event_result d (opens r)).leaves
   unfolding event_result
   opening_kept r =
-      log_opened_by d r (λ q. Kept q.device) (λ n z. itself_kept)
-      (λ legal free. opened_by_lem d r reply_room (λ q. Kept q.device) (λ n z. itself_kept)
+      log_opened_by d r (λ q. Kept q.leaves) (λ n z. itself_kept)
+      (λ legal free. opened_by_lem d r reply_room (λ q. Kept q.leaves) (λ n z. itself_kept)
       (λ h s c. let new = new_connection d.settings r in subst
       (λ (k : ℕ). set before log_place (slice_index_or (set before k new) log_place no_connection) ≡ set before k new)
       (sym (first_is_lowest_closed before free)) (put_there before new)))
 
-  passing_drives : (n : ℕ) → Drives n d (event_result d (passes n)).device
+  passing_drives : (n : ℕ) → Drives n d (event_result d (passes n)).leaves
   unfolding event_result
   passing_drives n =
-      passed_by (λ r. Drives n d r.device) d n
+      passed_by (λ r. Drives n d r.leaves) d n
       (λ illegal. ap (λ (t : Bool). set (places_after t n before) log_place (connection_at d log_place)) illegal
       ∙ itself_kept)
       (λ legal. let after = times second n d in
@@ -68,18 +68,18 @@ module _ (d : Device) where
       ∙ ap (λ (e : Device). set e.connections log_place (connection_at after log_place)) (sym (parts_pass n d))
       ∙ set-get_or after.connections log_place no_connection)
 
-  pub did_drives : (e : LogEvent) → Drives (seconds_of e) d (event_result d e).device
+  pub did_drives : (e : LogEvent) → Drives (seconds_of e) d (event_result d e).leaves
   unfolding event_result
-  did_drives (opens r) = none_pass (event_result d (opens r)).device (opening_kept r)
+  did_drives (opens r) = none_pass (event_result d (opens r)).leaves (opening_kept r)
   did_drives (receives bs) =
-      none_pass (event_result d (receives bs)).device
-      (received_by d log_place bs reply_room (λ q. Kept q.device) (λ n z. itself_kept)
+      none_pass (event_result d (receives bs)).leaves
+      (received_by d log_place bs reply_room (λ q. Kept q.leaves) (λ n z. itself_kept)
       (λ h s t c. put_there before _))
   did_drives (passes n) = passing_drives n
   did_drives closes =
-      none_pass (event_result d closes).device
-      (closed_by_lem d log_place (λ q. Kept q.device) (λ n z. itself_kept) (λ h t c. put_there before _))
+      none_pass (event_result d closes).leaves
+      (closed_by_lem d log_place (λ q. Kept q.leaves) (λ n z. itself_kept) (λ h t c. put_there before _))
   did_drives no_such = none_pass d itself_kept
 
-  pub driven : (e : LogEvent) {after : Device} → after ≡ (event_result d e).device → Drives (seconds_of e) d after
+  pub driven : (e : LogEvent) {after : Device} → after ≡ (event_result d e).leaves → Drives (seconds_of e) d after
   driven e left = subst (Drives (seconds_of e) d) (sym left) (did_drives e)

@@ -33,7 +33,7 @@ module _ (d : Device) where
   unfolding lines_printed state_after
   printed_none n = refl
 
-  module _ (e : LogEvent) {after : Device} (is : after ≡ (event_result d e).device) (es : List LogEvent) where
+  module _ (e : LogEvent) {after : Device} (is : after ≡ (event_result d e).leaves) (es : List LogEvent) where
     pub state_more : state_after after es ≡ state_after d (e ∷ es)
     unfolding state_after
     state_more = ap (λ (x : Device). state_after x es) is

@@ -125,7 +125,7 @@ abbrev pub answer : Device → LogEvent → Option ℕ
 answer d e = event_answer e (event_result d e)
 
 abbrev pub left_by_event : Device → LogEvent → Device
-left_by_event d e = (event_result d e).device
+left_by_event d e = (event_result d e).leaves
 
 abbrev pub unplayed_of : Device → List ℕ → Unplayed
 unplayed_of d log = unplayed_by answer left_by_event none_unplayed 0 d (map (said_line event) (lines_of log))

@@ -2,11 +2,13 @@
 // tested here.
 ghost use Rattle.std.specs.Prelude.{◌≡◌, List, [], ℕ, Some};
 ghost use Rattle.text.specs.Words.{over};
+ghost use Rattle.text.specs.Outcomes.{call_number};
+ghost use Rattle.record.specs.Refusals.{refusal_number};
 ghost use Rattle.device.specs.Calls.{reply_room, received_at, closed_by};
 ghost use Rattle.floorlog.specs.Outcomes.{outcome_text, answer_of, IsReplyWithin};
 ghost use Rattle.floorlog.specs.Events.{event_said};
-ghost use Rattle.floorlog.specs.Doing.{log_place, opened_in_log, event_result, outcome, result_text, event_answer};
-ghost use Rattle.floorlog.specs.Doing.{printed_line};
+ghost use Rattle.floorlog.specs.Doing.{log_place, with_numbers, opened_in_log, event_result, outcome, event_number};
+ghost use Rattle.floorlog.specs.Doing.{result_text, event_answer, printed_line};
 ghost use Rattle.floorlog.specs.Told.{seconds_of, Drives};
 
 use crate::outcome::{EventOutcome, Printed};
@@ -41,9 +43,9 @@ fn open(legal: &mut Legal<'_>, random: u32, reply: &mut [u8; REPLY_ROOM]) -> Eve
     ensures same_reference { legal.new.device.ghost_name ≡ legal.old.device.ghost_name }
     ensures within { IsReplyWithin result reply_room }
     ensures text { outcome_text result reply.new ≡ outcome (opened_in_log legal.old.device.now random) }
-    ensures answer { answer_of result ≡ Some (opened_in_log legal.old.device.now random).number }
-    ensures device { legal.new.device.now ≡ (opened_in_log legal.old.device.now random).device }
-    ensures reply { reply.new ≡ over (opened_in_log legal.old.device.now random).reply reply.old }
+    ensures answer { answer_of result ≡ Some (event_number (opened_in_log legal.old.device.now random)) }
+    ensures device { legal.new.device.now ≡ (opened_in_log legal.old.device.now random).leaves }
+    ensures reply { reply.new ≡ over (opened_in_log legal.old.device.now random).bytes reply.old }
 {
     if legal.device.connections[LOG_PLACE].phase != PHASE_CLOSED {
         return EventOutcome::AlreadyOpen;
@@ -58,10 +60,11 @@ fn receive(legal: &mut Legal<'_>, bytes: &[u8], reply: &mut [u8; REPLY_ROOM]) ->
     ensures same_reference { legal.new.device.ghost_name ≡ legal.old.device.ghost_name }
     ensures within { IsReplyWithin result reply_room }
     ensures text { outcome_text result reply.new
-        ≡ outcome (received_at legal.old.device.now log_place bytes.now reply_room) }
-    ensures answer { answer_of result ≡ Some (received_at legal.old.device.now log_place bytes.now reply_room).number }
-    ensures device { legal.new.device.now ≡ (received_at legal.old.device.now log_place bytes.now reply_room).device }
-    ensures reply { reply.new ≡ over (received_at legal.old.device.now log_place bytes.now reply_room).reply reply.old }
+        ≡ outcome (with_numbers (received_at legal.old.device.now log_place bytes.now reply_room)) }
+    ensures answer { answer_of result
+        ≡ Some (call_number refusal_number (received_at legal.old.device.now log_place bytes.now reply_room)) }
+    ensures device { legal.new.device.now ≡ (received_at legal.old.device.now log_place bytes.now reply_room).leaves }
+    ensures reply { reply.new ≡ over (received_at legal.old.device.now log_place bytes.now reply_room).bytes reply.old }
 {
     match calls::receive(legal, LOG_PLACE, bytes, reply) {
         Ok(received) => EventOutcome::Served(received.length),
@@ -73,9 +76,10 @@ fn receive(legal: &mut Legal<'_>, bytes: &[u8], reply: &mut [u8; REPLY_ROOM]) ->
 fn close(legal: &mut Legal<'_>) -> EventOutcome
     ensures same_reference { legal.new.device.ghost_name ≡ legal.old.device.ghost_name }
     ensures within { IsReplyWithin result reply_room }
-    ensures text { (m : List ℕ) → outcome_text result m ≡ outcome (closed_by legal.old.device.now log_place) }
-    ensures answer { answer_of result ≡ Some (closed_by legal.old.device.now log_place).number }
-    ensures device { legal.new.device.now ≡ (closed_by legal.old.device.now log_place).device }
+    ensures text { (m : List ℕ) → outcome_text result m
+        ≡ outcome (with_numbers (closed_by legal.old.device.now log_place)) }
+    ensures answer { answer_of result ≡ Some (call_number refusal_number (closed_by legal.old.device.now log_place)) }
+    ensures device { legal.new.device.now ≡ (closed_by legal.old.device.now log_place).leaves }
 {
     match calls::close(legal, LOG_PLACE) {
         Ok(()) => EventOutcome::Served(0),
@@ -96,8 +100,8 @@ fn call_legal(
         ≡ result_text (event_said event.now) (event_result legal.old.device.now (event_said event.now)) }
     ensures answer { answer_of result
         ≡ event_answer (event_said event.now) (event_result legal.old.device.now (event_said event.now)) }
-    ensures device { legal.new.device.now ≡ (event_result legal.old.device.now (event_said event.now)).device }
-    ensures reply { reply.new ≡ over (event_result legal.old.device.now (event_said event.now)).reply reply.old }
+    ensures device { legal.new.device.now ≡ (event_result legal.old.device.now (event_said event.now)).leaves }
+    ensures reply { reply.new ≡ over (event_result legal.old.device.now (event_said event.now)).bytes reply.old }
 {
     match event {
         Event::Opens(random) => open(legal, *random, reply),
@@ -119,8 +123,8 @@ pub fn call(tested: &mut Tested, event: &Event<'_>, reply: &mut [u8; REPLY_ROOM]
         ≡ result_text (event_said event.now) (event_result tested.old.device (event_said event.now)) }
     ensures answer { answer_of result
         ≡ event_answer (event_said event.now) (event_result tested.old.device (event_said event.now)) }
-    ensures device { tested.new.device ≡ (event_result tested.old.device (event_said event.now)).device }
-    ensures reply { reply.new ≡ over (event_result tested.old.device (event_said event.now)).reply reply.old }
+    ensures device { tested.new.device ≡ (event_result tested.old.device (event_said event.now)).leaves }
+    ensures reply { reply.new ≡ over (event_result tested.old.device (event_said event.now)).bytes reply.old }
     ensures places { Drives (seconds_of (event_said event.now)) tested.old.device tested.new.device }
 {
     if tested.legal {
@@ -154,7 +158,7 @@ pub fn print(tested: &mut Tested, number: u64, event: &Event<'_>, out: &mut Prin
         ≡ printed_line number (event_said event.now) (event_result tested.old.device (event_said event.now)) }
     ensures answer { result
         ≡ event_answer (event_said event.now) (event_result tested.old.device (event_said event.now)) }
-    ensures device { tested.new.device ≡ (event_result tested.old.device (event_said event.now)).device }
+    ensures device { tested.new.device ≡ (event_result tested.old.device (event_said event.now)).leaves }
 {
     let mut reply = [0; REPLY_ROOM];
     let outcome = call(tested, event, &mut reply);

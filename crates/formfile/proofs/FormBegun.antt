@@ -1,12 +1,12 @@
 -- A form that loads gives a legal record; what is read of a file is what all of it comes to.
 -- Assumes nothing.
-use Rattle.std.proofs.Common.{◌≡◌, ℕ, true, List, [], ◌++◌, take, Option, Some, None, Result, Ok, Err, sym, ap}
+use Rattle.std.proofs.Common.{arith, ◌≡◌, ℕ, true, List, [], ◌++◌, take, Option, Some, None, Result, Ok, Err, sym, ap}
 use Rattle.std.proofs.Common.{subst, ◌∙◌, IfSome, option_map}
 use Rattle.record.specs.Legal.{is_legal}
-use Rattle.record.specs.Given.{Given}
+use Rattle.text.specs.Outcomes.{CallResult, call_number, with_record}
 use Rattle.record.specs.declared.types.Device.{Device}
 use Rattle.stored.specs.Loading.{loaded_from}
-use Rattle.stored.specs.Told.{loading_told}
+use Rattle.stored.specs.Told.{load_error_number}
 use Rattle.stored.proofs.Results.{accepted_legal}
 use Rattle.stored.proofs.Fields.{Bytes}
 use Rattle.stored.proofs.FormWithin.{loaded_from-take}
@@ -17,22 +17,26 @@ use Rattle.formfile.specs.Begun.{form_room, IsBegunBy, IsReadBy}
 use Rattle.formfile.specs.declared.NotBegun.{NotBegun}
 use Rattle.formfile.specs.declared.NotBegun.TheVariants.{Unread, Refused}
 
-pub loaded_is_legal : (bytes : List ℕ) (d : Device) → loading_told (Ok d) ≡ loaded_from bytes → is_legal d ≡ true
+device_returned : (c : CallResult LoadError (Unit {0}) Device) (d : Device) → Ok d ≡ with_record c
+    → (call_number load_error_number c ≡ 0) × (d ≡ c.leaves)
+device_returned c d e = grind arith
+
+pub loaded_is_legal : (bytes : List ℕ) (d : Device) → Ok d ≡ with_record (loaded_from bytes) → is_legal d ≡ true
 loaded_is_legal bytes d e =
-    ap (λ (g : Given Device). is_legal g.device) e
-    ∙ accepted_legal bytes (sym (ap (λ (g : Given Device). g.number) e))
+    let (served, made) = device_returned (loaded_from bytes) d e in ap is_legal made ∙ accepted_legal bytes served
 
 -- as many bytes as no form has say what all of it says
 fronts_alike : (s form : List ℕ) → Bytes s → s ≡ take form_room form → loaded_from form ≡ loaded_from s
 fronts_alike s form bytes h = sym (ap loaded_from h ∙ loaded_from-take form (subst Bytes h bytes))
 
-pub begun_by_front : (s form : List ℕ) (d : Device) (sum : ℕ) → Bytes s → loading_told (Ok d) ≡ loaded_from s
+pub begun_by_front : (s form : List ℕ) (d : Device) (sum : ℕ) → Bytes s → Ok d ≡ with_record (loaded_from s)
     → sum ≡ crc32_of s → s ≡ take form_room form → IsBegunBy form (Ok (record { device = d; sum = sum }))
-begun_by_front s form d sum bytes e m h = (fronts_alike s form bytes h ∙ sym e, m ∙ ap crc32_of h)
+begun_by_front s form d sum bytes e m h =
+    (ap with_record (fronts_alike s form bytes h) ∙ sym e, m ∙ ap crc32_of h)
 
-pub refused_by_front : (s form : List ℕ) (why : LoadError) → Bytes s → loading_told (Err why) ≡ loaded_from s
+pub refused_by_front : (s form : List ℕ) (why : LoadError) → Bytes s → Err why ≡ with_record (loaded_from s)
     → s ≡ take form_room form → IsBegunBy form (Err (Refused why))
-refused_by_front s form why bytes e h = fronts_alike s form bytes h ∙ sym e
+refused_by_front s form why bytes e h = ap with_record (fronts_alike s form bytes h) ∙ sym e
 
 read_by : (form : List ℕ) (r : Result Begun NotBegun) → IsBegunBy form r → IsReadBy form r
 read_by form (Ok b) h = h

@@ -7,11 +7,9 @@
 -- Assumes nothing.
 use Rattle.std.specs.Prelude.{ℕ, List, ◌≡◌, take, true, Result, Ok, Err}
 use Rattle.crc32.specs.Crc.{crc32_of}
-use Rattle.record.specs.Record.{blank}
-use Rattle.record.specs.Given.{acceptance_of, refusal_with}
+use Rattle.text.specs.Outcomes.{with_record}
 use Rattle.record.specs.Legal.{is_legal}
 use Rattle.stored.specs.Loading.{loaded_from}
-use Rattle.stored.specs.Told.{load_error_number}
 use Rattle.formfile.specs.declared.Begun.{Begun}
 use Rattle.formfile.specs.declared.NotBegun.{NotBegun}
 use Rattle.formfile.specs.declared.NotBegun.TheVariants.{Unread, Refused}
@@ -24,9 +22,9 @@ abbrev pub form_room : ℕ
 form_room = 68867
 
 abbrev pub IsBegunBy : List ℕ → Result Begun NotBegun → Type 0
-IsBegunBy form (Ok b) = (loaded_from form ≡ acceptance_of b.device) × (b.sum ≡ crc32_of (take form_room form))
+IsBegunBy form (Ok b) = (with_record (loaded_from form) ≡ Ok b.device) × (b.sum ≡ crc32_of (take form_room form))
 IsBegunBy form (Err (Unread e)) = ⊥
-IsBegunBy form (Err (Refused e)) = loaded_from form ≡ refusal_with (load_error_number e) blank
+IsBegunBy form (Err (Refused e)) = with_record (loaded_from form) ≡ Err e
 
 abbrev pub IsReadBy : List ℕ → Result Begun NotBegun → Type 0
 IsReadBy form (Ok b) = IsBegunBy form (Ok b)

@@ -2,18 +2,19 @@
 -- Assumes nothing.
 use Rattle.std.proofs.Common.{ℕ, ◌+◌, ◌<◌, ◌^◌, ◌≡◌, Bool, true, false, List, [], ◌∷◌, ◌++◌, arith}
 use Rattle.std.proofs.Common.{refl, sym, ap, ◌∙◌, nat_lt, ◌≤◌, le-ltb}
-use Rattle.std.proofs.Common.{subst, ◌==◌, if◌then◌else◌}
-use Rattle.text.specs.Outcomes.{WrittenAs}
+use Rattle.std.proofs.Common.{subst, if◌then◌else◌}
+use Rattle.std.specs.Result.{is_ok}
+use Rattle.text.specs.Outcomes.{CallResult}
 use Rattle.text.proofs.Choices.{if_no}
 use Rattle.record.specs.Legal.{is_legal}
 use Rattle.record.specs.declared.types.Device.{Device}
+use Rattle.record.specs.declared.refusal.Refusal.{Refusal}
 use Rattle.crc32.specs.Crc.{crc32_on, crc32_of}
 use Rattle.crc32.proofs.GoesOn.{crc32_on-crc32_of}
 use Rattle.crc32.proofs.Changes.{AreBytes, crc32_on_within, crc32_of_within}
 use Rattle.history.specs.Entries.{LogEntry, is_sayable_entry, IsTypedEntry, entry_line}
 use Rattle.history.specs.Logs.{Sayable, log_text, LogPosition, begun_at, past, FitsAt, IsHistory}
-use Rattle.history.specs.Recording.{log_line_room, cannot_follow, recorded_by, advanced, recorder_after}
-use Rattle.history.specs.Recording.{stated_next, stated_by, stated_after}
+use Rattle.history.specs.Recording.{log_line_room, cannot_follow, recorded_by, advanced, stated_next, stated_by}
 use Rattle.history.specs.Shown.{device_shown}
 use Rattle.history.specs.Recording.{Asked, begins, makes, states, asked_entry, recorder_begun, entry_if_served}
 use Rattle.history.specs.Recording.{entries_recorded, bytes_recorded, IsTypedAsked, AreTyped}
@@ -67,21 +68,21 @@ module _ (r : Recorder) (p : LogPosition) (k : KeptAt r p) where
     within = crc32_on_within r.sum _ k.within (line_bytes _ e);
   }
 
--- what the recorder gave and wrote of an entry, and kept after it: served, or refused and nothing kept or written
-pub data Tried (r : Recorder) (e : LogEntry) (w : WrittenAs) (q : Recorder) : Type 0 where
+-- what the recorder gives of an entry: served, or refused and nothing written, and what was kept stays
+pub data Tried (r : Recorder) (e : LogEntry) (w : CallResult Refusal (Unit {0}) Recorder) : Type 0 where
   served : is_sayable_entry e ≡ true → cannot_follow r e ≡ false
-      → w.number ≡ 0
+      → is_ok w.says ≡ true
       → w.bytes ≡ entry_line e
-      → q ≡ advanced r e
-      → Tried r e w q
-  refused : (w.number == 0) ≡ false → w.bytes ≡ [] → q ≡ r → Tried r e w q
+      → w.leaves ≡ advanced r e
+      → Tried r e w
+  refused : is_ok w.says ≡ false → w.bytes ≡ [] → w.leaves ≡ r → Tried r e w
 
-pub tried : (r : Recorder) (e : LogEntry) (room : ℕ) → Tried r e (recorded_by r e room) (recorder_after r e room)
-unfolding recorded_by recorder_after
+pub tried : (r : Recorder) (e : LogEntry) (room : ℕ) → Tried r e (recorded_by r e room)
+unfolding recorded_by
 tried r e room = by (nat_lt room log_line_room) (is_sayable_entry e) (cannot_follow r e) refl refl refl
   where
     by : (a b c : Bool) → nat_lt room log_line_room ≡ a → is_sayable_entry e ≡ b → cannot_follow r e ≡ c
-        → Tried r e (recorded_by r e room) (recorder_after r e room)
+        → Tried r e (recorded_by r e room)
     by true b c p q s = refused (simp p) (simp p) (simp p)
     by false false c p q s = refused (simp (p, q)) (simp (p, q)) (simp (p, q))
     by false true true p q s = refused (simp (p, q, s)) (simp (p, q, s)) (simp (p, q, s))
@@ -90,22 +91,22 @@ tried r e room = by (nat_lt room log_line_room) (is_sayable_entry e) (cannot_fol
 -- what can be said, with room for a line and while lines can be counted, is recorded
 pub recorded_if : (r : Recorder) (e : LogEntry) (room : ℕ) → log_line_room ≤ room → is_sayable_entry e ≡ true
     → cannot_follow r e ≡ false
-    → (recorded_by r e room).number ≡ 0
+    → is_ok (recorded_by r e room).says ≡ true
 unfolding recorded_by
 recorded_if r e room enough h free = simp (le-ltb room log_line_room enough, h, free)
 
 -- of what a record shows
 pub stated_tried : (r : Recorder) (d : Device) (room : ℕ)
-    → Tried r (stated_next r (device_shown d)) (stated_by r d room) (stated_after r d room)
-unfolding stated_by stated_after
+    → Tried r (stated_next r (device_shown d)) (stated_by r d room)
+unfolding stated_by
 stated_tried r d room = by (is_legal d) refl
   where
     by : (a : Bool) → is_legal d ≡ a
-        → Tried r (stated_next r (device_shown d)) (stated_by r d room) (stated_after r d room)
+        → Tried r (stated_next r (device_shown d)) (stated_by r d room)
     by true p = elim (tried r (stated_next r (device_shown d)) room) [
-      | served h free number bytes next ↦
-          served h free (simp p number) (simp p bytes) (simp p next)
-      | refused number bytes next ↦ refused (simp p number) (simp p bytes) (simp p next)
+      | served h free said bytes next ↦
+          served h free (simp p said) (simp p bytes) (simp p next)
+      | refused said bytes next ↦ refused (simp p said) (simp p bytes) (simp p next)
     ]
     by false p = refused (simp p) (simp p) (simp p)
 
@@ -120,9 +121,9 @@ recorded_from [] r p k t = record { history = tt; sayable = tt; written = refl }
 recorded_from ((a, room) ∷ more) r p k (t, ts) =
     let e = asked_entry r a in
     elim (tried r e room) [
-      | served ok free number bytes after ↦
+      | served ok free said bytes after ↦
           let entries : entry_if_served (recorded_by r e room) e ≡ e ∷ []
-          = ap (λ (n : ℕ). if n == 0 then e ∷ [] else []) number in
+          = ap (λ (t : Bool). if t then e ∷ [] else []) said in
           let next : Recorded (past p e) (advanced r e) more
           = recorded_from more (advanced r e) (past p e) (kept_past r p k a ok free) ts in
           let all : entries_recorded r ((a, room) ∷ more) ≡ e ∷ entries_recorded (advanced r e) more
@@ -134,8 +135,8 @@ recorded_from ((a, room) ∷ more) r p k (t, ts) =
                 ∙ ap (λ (l : List ℕ). entry_line e ++ l) next.written
                 ∙ sym (ap log_text all);
           }
-      | refused number bytes after ↦
-          let entries : entry_if_served (recorded_by r e room) e ≡ [] = if_no _ _ number in
+      | refused said bytes after ↦
+          let entries : entry_if_served (recorded_by r e room) e ≡ [] = if_no _ _ said in
           let next : Recorded p r more = recorded_from more r p k ts in
           let all : entries_recorded r ((a, room) ∷ more) ≡ entries_recorded r more
           = (λ i. entries i ++ entries_recorded (after i) more) in

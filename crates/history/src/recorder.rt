@@ -3,15 +3,13 @@
 ghost use Rattle.std.specs.Prelude.{◌≡◌, ◌≤◌, length, true, false};
 ghost use Rattle.std.specs.Result.{is_ok};
 ghost use Rattle.text.specs.Words.{over};
-ghost use Rattle.text.specs.Outcomes.{told_written, written_told};
+ghost use Rattle.text.specs.Outcomes.{with_length};
 ghost use Rattle.record.specs.Legal.{is_legal};
-ghost use Rattle.record.specs.Refusals.{refusal_number};
 ghost use Rattle.crc32.specs.Crc.{crc32_of};
 ghost use Rattle.history.specs.Calls.{call_seen, is_sayable};
 ghost use Rattle.history.specs.Entries.{time_seen, entry_seen, is_sayable_entry, entry_line, call};
 ghost use Rattle.history.specs.Recording.{log_line_room, cannot_follow, counted, read_past};
-ghost use Rattle.history.specs.Recording.{recorded_by, recorder_after, header_next};
-ghost use Rattle.history.specs.Recording.{stated_next, stated_by, stated_after};
+ghost use Rattle.history.specs.Recording.{recorded_by, header_next, stated_next, stated_by};
 ghost use Rattle.history.specs.Shown.{device_shown};
 
 use crate::call::RecordedCall;
@@ -105,13 +103,12 @@ impl Recorder {
     }
 
     // The line of an entry that can be said, while lines can be counted.
-    #[tactic(auto, unfolding(crate::specs::Recording::recorded_by, crate::specs::Recording::recorder_after))]
+    #[tactic(auto, unfolding(crate::specs::Recording::recorded_by))]
     #[inline(always)]
     fn record(&mut self, entry: &Entry<'_>, out: &mut [u8]) -> Result<usize, Refusal>
-        ensures told { written_told refusal_number result
-            ≡ told_written (recorded_by self.old (entry_seen entry.now) (length out.old)) }
+        ensures says { result ≡ with_length (recorded_by self.old (entry_seen entry.now) (length out.old)) }
         ensures memory { out.new ≡ over (recorded_by self.old (entry_seen entry.now) (length out.old)).bytes out.old }
-        ensures kept { self.new ≡ recorder_after self.old (entry_seen entry.now) (length out.old) }
+        ensures kept { self.new ≡ (recorded_by self.old (entry_seen entry.now) (length out.old)).leaves }
     {
         if out.len() < LOG_LINE_ROOM {
             return Err(Refusal::NoRoom);
@@ -130,15 +127,15 @@ impl Recorder {
     /// Records that a file begins, with its start time, if any. Returns the length of the header line, which fills the
     /// start of `out`; the rest of `out` stays. Errors, in this order, with which the recorder and all of `out` stay:
     /// `NoRoom` under 4,097 bytes; `OutOfRange` for a time that no header can have, and past file 4,294,967,295.
-    #[tactic(auto, unfolding(crate::specs::Recording::recorded_by, crate::specs::Recording::recorder_after))]
+    #[tactic(auto, unfolding(crate::specs::Recording::recorded_by))]
     pub fn file(&mut self, time: Option<&[u8]>, out: &mut [u8]) -> Result<usize, Refusal>
-        ensures told { written_told refusal_number result ≡ told_written
-            (recorded_by self.old (header_next self.old (time_seen time.entry)) (length out.old)) }
+        ensures says { result
+            ≡ with_length (recorded_by self.old (header_next self.old (time_seen time.entry)) (length out.old)) }
         ensures memory { out.new ≡ over
             (recorded_by self.old (header_next self.old (time_seen time.entry)) (length out.old)).bytes
             out.old }
         ensures kept { self.new
-            ≡ recorder_after self.old (header_next self.old (time_seen time.entry)) (length out.old) }
+            ≡ (recorded_by self.old (header_next self.old (time_seen time.entry)) (length out.old)).leaves }
     {
         if out.len() < LOG_LINE_ROOM {
             return Err(Refusal::NoRoom);
@@ -160,11 +157,10 @@ impl Recorder {
     /// of a file.
     #[inline(always)]
     pub fn call(&mut self, made: &RecordedCall<'_>, out: &mut [u8]) -> Result<usize, Refusal>
-        ensures told { written_told refusal_number result
-            ≡ told_written (recorded_by self.old (call (call_seen made.now)) (length out.old)) }
+        ensures says { result ≡ with_length (recorded_by self.old (call (call_seen made.now)) (length out.old)) }
         ensures memory { out.new
             ≡ over (recorded_by self.old (call (call_seen made.now)) (length out.old)).bytes out.old }
-        ensures kept { self.new ≡ recorder_after self.old (call (call_seen made.now)) (length out.old) }
+        ensures kept { self.new ≡ (recorded_by self.old (call (call_seen made.now)) (length out.old)).leaves }
         ensures served { is_sayable (call_seen made.now) ≡ true → log_line_room ≤ length out.old
             → cannot_follow self.old (call (call_seen made.now)) ≡ false
             → is_ok result ≡ true }
@@ -176,12 +172,11 @@ impl Recorder {
     /// length of the line, which fills the start of `out`; the rest of `out` stays. Errors, in this order, with which
     /// the recorder and all of `out` stay: `NotLegal`; `NoRoom` under 4,097 bytes; `OutOfRange` before the first file,
     /// and past 4,294,967,295 lines of a file, and never for what a legal record shows.
-    #[tactic(auto, unfolding(crate::specs::Recording::stated_by, crate::specs::Recording::stated_after))]
+    #[tactic(auto, unfolding(crate::specs::Recording::stated_by))]
     pub fn stated(&mut self, device: &Device, out: &mut [u8]) -> Result<usize, Refusal>
-        ensures told { written_told refusal_number result
-            ≡ told_written (stated_by self.old device.now (length out.old)) }
+        ensures says { result ≡ with_length (stated_by self.old device.now (length out.old)) }
         ensures memory { out.new ≡ over (stated_by self.old device.now (length out.old)).bytes out.old }
-        ensures kept { self.new ≡ stated_after self.old device.now (length out.old) }
+        ensures kept { self.new ≡ (stated_by self.old device.now (length out.old)).leaves }
         ensures served { is_legal device.now ≡ true → log_line_room ≤ length out.old
             → cannot_follow self.old (stated_next self.old (device_shown device.now)) ≡ false
             → is_ok result ≡ true }

@@ -1,29 +1,44 @@
 -- What the product's calls give, as `Board` has it, field by field. The functions of this crate promise with these that
 -- what a call gives is what `ours` says (src/), and those of crate `board` that a host of the archive is told that.
---   lent_as t d m      what the call says, the record that it leaves, the memory that it leaves
---   lent_told r        what the call that gave r says
---   wrote_as t m       what the controller's writer says, or storing, and the memory that it leaves
---   wrote_told w       what the writing that gave w says
---   given_as n d       a number, and the record where it lies
+--   received_as r d m, opened_as r d m   what receiving and opening return, the record and the reply memory that they
+--                      leave
+--   given_as why r d   what a call returns that leaves the record d: its number, by `why`, and that record
+--   made_as why r      what a call returns that makes a record: its number, and that record, or the blank one
 -- Assumes nothing.
-use Rattle.std.specs.Prelude.{ℕ, List}
+use Rattle.std.specs.Prelude.{ℕ, List, Result, Ok, Err}
+use Rattle.text.specs.Outcomes.{outcome_number, answer_number}
+use Rattle.record.specs.Refusals.{refusal_number}
+use Rattle.record.specs.declared.refusal.Refusal.{Refusal}
 use Rattle.record.specs.declared.types.Device.{Device}
-use Rattle.text.specs.Outcomes.{WrittenTold}
-use Rattle.device.specs.Outcomes.{Told}
-use Rattle.record.specs.Given.{Given}
-use Rattle.ours.specs.Board.{Lent, Wrote}
+use Rattle.device.specs.declared.calls.Received.{Received}
+use Rattle.device.specs.declared.calls.Opened.{Opened}
+use Rattle.record.specs.Record.{blank}
+use Rattle.ours.specs.Board.{Given, Lent}
 
-abbrev pub lent_as : Told → Device → List ℕ → Lent Device
-lent_as t d m = record { number = t.number; taken = t.taken; length = t.length; memory = m; device = d }
+abbrev pub received_as : Result Received Refusal → Device → List ℕ → Lent Device
+received_as r d m = record {
+  number = outcome_number refusal_number r;
+  taken = answer_number (λ a. a.taken) r;
+  length = answer_number (λ a. a.length) r;
+  memory = m;
+  device = d;
+}
 
-abbrev pub lent_told : Lent Device → Told
-lent_told r = record { number = r.number; taken = r.taken; length = r.length }
+abbrev pub opened_as : Result Opened Refusal → Device → List ℕ → Lent Device
+opened_as r d m = record {
+  number = outcome_number refusal_number r;
+  taken = 0;
+  length = answer_number (λ a. a.length) r;
+  memory = m;
+  device = d;
+}
 
-abbrev pub wrote_as : WrittenTold → List ℕ → Wrote
-wrote_as t m = record { number = t.number; length = t.length; memory = m }
+abbrev pub given_as : {E A : Type 0} → (E → ℕ) → Result A E → Device → Given Device
+given_as why r d = record { number = outcome_number why r; device = d }
 
-abbrev pub wrote_told : Wrote → WrittenTold
-wrote_told w = record { number = w.number; length = w.length }
+abbrev pub made_by : {E : Type 0} → Result Device E → Device
+made_by (Ok d) = d
+made_by (Err e) = blank
 
-abbrev pub given_as : ℕ → Device → Given Device
-given_as n d = record { number = n; device = d }
+abbrev pub made_as : {E : Type 0} → (E → ℕ) → Result Device E → Given Device
+made_as why r = given_as why r (made_by r)

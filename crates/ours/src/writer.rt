@@ -1,9 +1,7 @@
 // `ours`'s writing of a command.
 ghost use Rattle.std.specs.Prelude.{◌≡◌};
-ghost use Rattle.text.specs.Outcomes.{written_told};
 ghost use Rattle.controller.specs.Writing.{unwritten_number};
-ghost use Rattle.ours.specs.Board.{ours};
-ghost use Rattle.ours.specs.Tied.{wrote_as};
+ghost use Rattle.ours.specs.Board.{ours, wrote_as};
 
 use controller::writing;
 use controller::writing::Unwritten;
@@ -17,7 +15,7 @@ pub fn write(
     password: &[u8],
     out: &mut [u8],
 ) -> Result<usize, Unwritten>
-    ensures { wrote_as (written_told unwritten_number result) out.new
+    ensures { wrote_as unwritten_number result out.new
         ≡ ours.write command secured random password.now out.old }
 {
     writing::write_command(command, secured, random, password, out)

@@ -22,20 +22,20 @@ module _ (p : Panel) (i : ℕ) where
   one_touched : (e : PanelEntry) → OnlyAt p i (with_entry p i e)
   one_touched e = record { count = refl; others = λ j other. get_or-set_other p.entries i j e blank_entry other }
 
-  pub step_touches_its_entry : (l : List ℕ) → OnlyAt p i (stepped_at p i l).panel
+  pub step_touches_its_entry : (l : List ℕ) → OnlyAt p i (stepped_at p i l).leaves
   step_touches_its_entry l =
-      stepped_by p i l (λ r. OnlyAt p i r.panel) (λ n z. nothing_touched) (λ legal there. one_touched _)
+      stepped_by p i l (λ r. OnlyAt p i r.leaves) (λ n z. nothing_touched) (λ legal there. one_touched _)
 
-  pub command_touches_its_entry : (k : Coded) (room : ℕ) → OnlyAt p i (command_at p i k room).panel
+  pub command_touches_its_entry : (k : Coded) (room : ℕ) → OnlyAt p i (command_at p i k room).leaves
   command_touches_its_entry k room =
-      commanded_by p i k room (λ r. OnlyAt p i r.panel) (λ n z. nothing_touched) (λ served. one_touched _)
+      commanded_by p i k room (λ r. OnlyAt p i r.leaves) (λ n z. nothing_touched) (λ served. one_touched _)
 
-  pub loss_touches_its_entry : OnlyAt p i (lost_at p i).panel
+  pub loss_touches_its_entry : OnlyAt p i (lost_at p i).leaves
   loss_touches_its_entry =
-      lost_by p i (λ r. OnlyAt p i r.panel) (λ n z. nothing_touched) (λ legal there. one_touched _)
+      lost_by p i (λ r. OnlyAt p i r.leaves) (λ n z. nothing_touched) (λ legal there. one_touched _)
 
 pub addition_keeps_others : (p : Panel) (s : List ℕ) (j : ℕ) → (j ≡ p.count → ⊥)
-    → entry_at (added_to p s).panel j ≡ entry_at p j
+    → entry_at (added_to p s).leaves j ≡ entry_at p j
 addition_keeps_others p s j other =
-    added_by p s (λ r. entry_at r.panel j ≡ entry_at p j) (λ n z. refl)
+    added_by p s (λ r. entry_at r.leaves j ≡ entry_at p j) (λ n z. refl)
     (λ legal word free. get_or-set_other p.entries p.count j _ blank_entry other)

@@ -4,6 +4,7 @@ use Rattle.std.specs.List.{list_all}
 use Rattle.std.proofs.Common.{ℕ, suc, ◌<◌, ◌≤◌, ◌≡◌, refl, sym, ap, subst, ◌∙◌, true, false, List, [], arith}
 use Rattle.std.proofs.Common.{add-one, length, slice_index_or, drop, length-set, drop-cons, drop-set-lt}
 use Rattle.std.proofs.lemmas.List.{length-replicate}
+use Rattle.text.specs.Outcomes.{CallResult}
 use Rattle.text.proofs.Choices.{both_right}
 use Rattle.text.proofs.Scanning.{list_all-set, list_all-replicate}
 use Rattle.words.specs.Texts.{is_password}
@@ -20,12 +21,13 @@ use Rattle.panel.specs.Entries.{Talk, Shown, talk_of, shown_of, entry_of, ungree
 use Rattle.panel.specs.Showing.{showing}
 use Rattle.panel.specs.Stepping.{strays_most, lost_entry, sent_entry, heard_line, is_unready}
 use Rattle.panel.specs.LegalPanels.{panel_most, is_talk, is_shown, is_entry, is_unused, is_panel}
-use Rattle.panel.specs.PanelCalls.{PanelAs, no_panel, entry_at, with_entry, grown_by, added_to, command_at, stepped_at}
+use Rattle.panel.specs.PanelCalls.{no_panel, entry_at, with_entry, grown_by, added_to, command_at, stepped_at}
 use Rattle.panel.specs.PanelCalls.{lost_at}
 use Rattle.panel.specs.StepTable.{StepTo, greets_open, greets_secured, strays, answers, refuses}
 use Rattle.panel.specs.declared.talk.Greeted.TheVariants.{NotYet, Open, Secured}
 use Rattle.panel.specs.declared.types.PanelEntry.{PanelEntry}
 use Rattle.panel.specs.declared.types.Panel.{Panel}
+use Rattle.panel.specs.declared.refusal.PanelRefusal.{PanelRefusal}
 use Rattle.panel.proofs.PanelsTold.{EntryTold, entry_told, entry_legal, PanelTold, panel_told, panel_legal}
 use Rattle.panel.proofs.PanelsTold.{entry_at_legal}
 use Rattle.panel.proofs.TalksTold.{is_talk-rested_on, is_talk-sent_on, begun_legal}
@@ -123,8 +125,8 @@ module _ (p : Panel) (legal : is_panel p ≡ true) where
             (ap (list_all is_unused) (sym (drop-cons p.entries n blank_entry inside)) ∙ known.unused));
       })
 
-  abbrev StaysLegal : PanelAs → Type 0
-  StaysLegal r = is_panel r.panel ≡ true
+  abbrev StaysLegal : {A : Type 0} → CallResult PanelRefusal A Panel → Type 0
+  StaysLegal r = is_panel r.leaves ≡ true
 
   pub added_stays_legal : (s : List ℕ) → StaysLegal (added_to p s)
   added_stays_legal s =

@@ -5,7 +5,7 @@
 --   reply_heard m l    what the line l is while the command m is under way
 --   line_heard e l     what the line l from the projector of the entry e is
 --   heard_by_code h    the code's h as a HeardAs
---   hearing_told r     what a line was by the result r of a call; none if the call is refused
+--   hearing_said r     what a line was, by what a call returns
 --   heard_bytes h      the bytes of the parameter that was read: no more than a reading has room for
 --   heard_kind h, heard_reading h     what a line was, as numbers: its kind (enum pj_heard_kind), and its reading, if
 --                      it was read as a reply
@@ -56,9 +56,9 @@ heard_by_code code.NoGreeting = no_greeting
 heard_by_code code.Late = too_late
 heard_by_code (code.Reply r) = replies (read_as r)
 
-abbrev pub hearing_told : Result Heard PanelRefusal → Option HeardAs
-hearing_told (Ok h) = Some (heard_by_code h)
-hearing_told (Err r) = None
+abbrev pub hearing_said : Result Heard PanelRefusal → Result HeardAs PanelRefusal
+hearing_said (Ok h) = Ok (heard_by_code h)
+hearing_said (Err r) = Err r
 
 abbrev pub heard_bytes : HeardAs → List ℕ
 heard_bytes (replies r) = said_bytes r.said

@@ -1,18 +1,19 @@
 -- The panel's calls (RULES, Panel; their numbers in the order of the table, with 9 after the others).
---   PanelAs                what a call gives: its number, the line to send, the panel
---   panel_kept n p         what a call gives that keeps the panel: the number n, no line, and the panel p
 --   no_panel               the panel without a projector
 --   entry_at p i, with_entry p i e   the entry of the projector i; the panel p with the entry e there
---   adding_rows, commanding_rows, projector_rows   when each call is refused, and with which number
+--   adding_rows, commanding_rows, projector_rows   when each call is refused
 --   added_to p s             adds a projector with the password s: 1, then 3
 --   command_at p i k room  sends the command k to the projector i: 1, 2, 3, 9, or its line
---   stepped_at p i l       the line l from the projector i: 1, 3, or what it does to that projector's entry
+--   stepped_at p i l       the line l from the projector i: 1, 3, or what it was, and what it
+--                          does to that projector's entry
 --   told_at p i l          what that line was, if the call is served
 --   lost_at p i            the connection of the projector i is gone: 1, 3
 -- Assumes nothing.
 use Rattle.std.specs.Prelude.{ℕ, ◌+◌, not, List, [], ◌∷◌, set, replicate, slice_index_or, nat_le, nat_lt, is_some}
-use Rattle.std.specs.Prelude.{Option, Some, None}
-use Rattle.text.specs.Rows.{NumberRow, ◌when◌, by_rows}
+use Rattle.std.specs.Prelude.{Option}
+use Rattle.std.specs.Result.{result_ok}
+use Rattle.text.specs.Rows.{RefusalRow, ◌when◌, by_rows}
+use Rattle.text.specs.Outcomes.{CallResult, served_as, refused_as}
 use Rattle.words.specs.Texts.{is_password}
 use Rattle.controller.specs.Writing.{command_room}
 use Rattle.codes.specs.Commands.{coded_command}
@@ -23,17 +24,8 @@ use Rattle.panel.specs.Hearing.{HeardAs, line_heard}
 use Rattle.panel.specs.LegalPanels.{panel_most, is_panel}
 use Rattle.panel.specs.declared.types.PanelEntry.{PanelEntry}
 use Rattle.panel.specs.declared.types.Panel.{Panel}
-
-pub record PanelAs : Type 0 where
-  pub number : ℕ
-  pub line : List ℕ
-  pub panel : Panel
-
-abbrev pub panel_kept : Panel → ℕ → PanelAs
-panel_kept p n = record { number = n; line = []; panel = p }
-
-abbrev pub panel_made : Panel → PanelAs
-panel_made p = panel_kept p 0
+use Rattle.panel.specs.declared.refusal.PanelRefusal.{PanelRefusal}
+use Rattle.panel.specs.declared.refusal.PanelRefusal.TheVariants.{NotLegal, NoRoom, OutOfRange, NotReady}
 
 abbrev pub no_panel : Panel
 no_panel = record { count = 0; entries = replicate panel_most blank_entry }
@@ -47,36 +39,41 @@ with_entry p i e = record { count = p.count; entries = set p.entries i e }
 abbrev pub grown_by : Panel → PanelEntry → Panel
 grown_by p e = record { count = p.count + 1; entries = set p.entries p.count e }
 
-abbrev pub adding_rows : Panel → List ℕ → List NumberRow
-adding_rows p s = (1 when not (is_panel p)) ∷ (3 when not (is_password s)) ∷ (3 when nat_le panel_most p.count) ∷ []
+abbrev pub adding_rows : Panel → List ℕ → List (RefusalRow PanelRefusal)
+adding_rows p s =
+    (NotLegal when not (is_panel p)) ∷ (OutOfRange when not (is_password s))
+    ∷ (OutOfRange when nat_le panel_most p.count) ∷ []
 
-abbrev pub commanding_rows : Panel → ℕ → Coded → ℕ → List NumberRow
+abbrev pub commanding_rows : Panel → ℕ → Coded → ℕ → List (RefusalRow PanelRefusal)
 commanding_rows p i k room =
-    (1 when not (is_panel p)) ∷ (2 when nat_lt room command_room) ∷ (3 when nat_le p.count i)
-    ∷ (3 when not (is_some (coded_command k))) ∷ (9 when is_unready (entry_at p i)) ∷ []
+    (NotLegal when not (is_panel p)) ∷ (NoRoom when nat_lt room command_room) ∷ (OutOfRange when nat_le p.count i)
+    ∷ (OutOfRange when not (is_some (coded_command k))) ∷ (NotReady when is_unready (entry_at p i)) ∷ []
 
-abbrev pub projector_rows : Panel → ℕ → List NumberRow
-projector_rows p i = (1 when not (is_panel p)) ∷ (3 when nat_le p.count i) ∷ []
+abbrev pub projector_rows : Panel → ℕ → List (RefusalRow PanelRefusal)
+projector_rows p i = (NotLegal when not (is_panel p)) ∷ (OutOfRange when nat_le p.count i) ∷ []
 
-unfoldable pub added_to : Panel → List ℕ → PanelAs
-added_to p s = by_rows (adding_rows p s) (panel_kept p) (panel_made (grown_by p (fresh_entry s)))
+unfoldable pub added_to : Panel → List ℕ → CallResult PanelRefusal (Unit {0}) Panel
+added_to p s = by_rows (adding_rows p s) (refused_as p) (served_as tt [] (grown_by p (fresh_entry s)))
 
-abbrev pub sent_at : Panel → ℕ → Coded → ℕ → PanelAs
-sent_at p i k room = record {
-  number = 0;
-  line = line_sent (entry_at p i) (coded_command k) room;
-  panel = with_entry p i (sent_entry (entry_at p i) k);
-}
+abbrev pub sent_at : Panel → ℕ → Coded → ℕ → CallResult PanelRefusal (Unit {0}) Panel
+sent_at p i k room =
+    let e = entry_at p i in served_as tt (line_sent e (coded_command k) room) (with_entry p i (sent_entry e k))
 
-unfoldable pub command_at : Panel → ℕ → Coded → ℕ → PanelAs
-command_at p i k room = by_rows (commanding_rows p i k room) (panel_kept p) (sent_at p i k room)
+unfoldable pub command_at : Panel → ℕ → Coded → ℕ → CallResult PanelRefusal (Unit {0}) Panel
+command_at p i k room = by_rows (commanding_rows p i k room) (refused_as p) (sent_at p i k room)
 
-unfoldable pub stepped_at : Panel → ℕ → List ℕ → PanelAs
-stepped_at p i l =
-    by_rows (projector_rows p i) (panel_kept p) (panel_made (with_entry p i (heard_line (entry_at p i) l)))
+abbrev pub heard_at : Panel → ℕ → List ℕ → CallResult PanelRefusal HeardAs Panel
+heard_at p i l =
+    let e = entry_at p i in served_as (line_heard e l) [] (with_entry p i (heard_line e l))
+
+unfoldable pub stepped_at : Panel → ℕ → List ℕ → CallResult PanelRefusal HeardAs Panel
+stepped_at p i l = by_rows (projector_rows p i) (refused_as p) (heard_at p i l)
 
 abbrev pub told_at : Panel → ℕ → List ℕ → Option HeardAs
-told_at p i l = by_rows (projector_rows p i) (λ n. None) (Some (line_heard (entry_at p i) l))
+told_at p i l = result_ok (stepped_at p i l).says
 
-unfoldable pub lost_at : Panel → ℕ → PanelAs
-lost_at p i = by_rows (projector_rows p i) (panel_kept p) (panel_made (with_entry p i (lost_entry (entry_at p i))))
+abbrev pub lost_as : Panel → ℕ → CallResult PanelRefusal (Unit {0}) Panel
+lost_as p i = served_as tt [] (with_entry p i (lost_entry (entry_at p i)))
+
+unfoldable pub lost_at : Panel → ℕ → CallResult PanelRefusal (Unit {0}) Panel
+lost_at p i = by_rows (projector_rows p i) (refused_as p) (lost_as p i)

@@ -4,10 +4,9 @@ ghost use Rattle.std.specs.Prelude.{◌≡◌, ◌≤◌, length, IfOk};
 ghost use Rattle.pjlink.specs.Said.{parameter_most};
 ghost use Rattle.text.specs.Words.{over};
 ghost use Rattle.panel.specs.Entries.{entry_of, no_talk, nothing_shown};
-ghost use Rattle.panel.specs.AnyPanel.{ours_panel};
-ghost use Rattle.text.specs.Outcomes.{outcome_number, length_written};
-ghost use Rattle.panel.specs.Refusals.{panel_refusal_number};
-ghost use Rattle.panel.specs.Hearing.{hearing_told, heard_by_code, heard_bytes};
+ghost use Rattle.text.specs.Outcomes.{with_length};
+ghost use Rattle.panel.specs.PanelCalls.{no_panel, added_to, command_at, stepped_at, lost_at};
+ghost use Rattle.panel.specs.Hearing.{hearing_said, heard_by_code, heard_bytes};
 
 use crate::heard::Heard;
 use crate::refusal::PanelRefusal;
@@ -48,7 +47,7 @@ impl PanelEntry {
 impl Panel {
     /// Returns the panel without a projector.
     pub fn new() -> Panel
-        ensures { result ≡ ours_panel.none.panel }
+        ensures { result ≡ no_panel }
     {
         Panel {
             count: 0,
@@ -60,8 +59,8 @@ impl Panel {
     /// password that is not 0 to 32 letters and digits, and for a ninth projector.
     #[tactic(auto, unfolding(crate::specs::PanelCalls::added_to), using(words::proofs::TextsTold::password_long))]
     pub fn add(&mut self, password: &[u8]) -> Result<(), PanelRefusal>
-        ensures number { outcome_number panel_refusal_number result ≡ (ours_panel.add self.old password.now).number }
-        ensures panel { self.new ≡ (ours_panel.add self.old password.now).panel }
+        ensures says { result ≡ (added_to self.old password.now).says }
+        ensures panel { self.new ≡ (added_to self.old password.now).leaves }
     {
         if !self.is_legal() {
             return Err(PanelRefusal::NotLegal);
@@ -84,13 +83,9 @@ impl Panel {
         coded: Coded,
         out: &mut [u8],
     ) -> Result<usize, PanelRefusal>
-        ensures number { outcome_number panel_refusal_number result
-            ≡ (ours_panel.command self.old projector coded (length out.old)).number }
-        ensures length { length_written result
-            ≡ length (ours_panel.command self.old projector coded (length out.old)).line }
-        ensures panel { self.new ≡ (ours_panel.command self.old projector coded (length out.old)).panel }
-        ensures line { out.new ≡ over (ours_panel.command self.old projector coded (length out.old)).line
-            out.old }
+        ensures says { result ≡ with_length (command_at self.old projector coded (length out.old)) }
+        ensures panel { self.new ≡ (command_at self.old projector coded (length out.old)).leaves }
+        ensures line { out.new ≡ over (command_at self.old projector coded (length out.old)).bytes out.old }
     {
         if !self.is_legal() {
             return Err(PanelRefusal::NotLegal);
@@ -114,10 +109,8 @@ impl Panel {
     /// `NotLegal`; `OutOfRange` for no such projector.
     #[tactic(auto, using(crate::proofs::PanelsTold::few_projectors), unfolding(crate::specs::PanelCalls::stepped_at))]
     pub fn hear<'a>(&mut self, projector: usize, line: &'a [u8]) -> Result<Heard<'a>, PanelRefusal>
-        ensures number { outcome_number panel_refusal_number result
-            ≡ (ours_panel.hear self.old projector line.now).number }
-        ensures panel { self.new ≡ (ours_panel.hear self.old projector line.now).panel }
-        ensures heard { hearing_told result ≡ ours_panel.tell self.old projector line.now }
+        ensures says { hearing_said result ≡ (stepped_at self.old projector line.now).says }
+        ensures panel { self.new ≡ (stepped_at self.old projector line.now).leaves }
         ensures short { IfOk result (λ h. length (heard_bytes (heard_by_code h)) ≤ parameter_most) }
     {
         if !self.is_legal() {
@@ -133,8 +126,8 @@ impl Panel {
     /// projector.
     #[tactic(auto, using(crate::proofs::PanelsTold::few_projectors), unfolding(crate::specs::PanelCalls::lost_at))]
     pub fn lose(&mut self, projector: usize) -> Result<(), PanelRefusal>
-        ensures number { outcome_number panel_refusal_number result ≡ (ours_panel.lose self.old projector).number }
-        ensures panel { self.new ≡ (ours_panel.lose self.old projector).panel }
+        ensures says { result ≡ (lost_at self.old projector).says }
+        ensures panel { self.new ≡ (lost_at self.old projector).leaves }
     {
         if !self.is_legal() {
             return Err(PanelRefusal::NotLegal);

@@ -1,9 +1,10 @@
 // What is proved beside the contracts of the functions. The functions here do nothing: their contracts are the
 // theorems.
-ghost use Rattle.std.specs.Prelude.{[], ◌≡◌, ◌≢◌, ◌≤◌, ◌<◌, ◌++◌, List, ℕ, Some, true, false, not, length};
+ghost use Rattle.std.specs.Prelude.{[], ◌≡◌, ◌≢◌, ◌≤◌, ◌<◌, ◌++◌, List, ℕ, Some, true, false, not, length, Result};
 ghost use Rattle.std.specs.List.{list_all};
 ghost use Rattle.text.specs.Flags.{is_raised};
-ghost use Rattle.text.specs.Rows.{first_of};
+ghost use Rattle.text.specs.Rows.{first_of, numbers_of};
+ghost use Rattle.text.specs.Outcomes.{call_number, with_length};
 ghost use Rattle.text.specs.Scans.{is_same_by, itself};
 ghost use Rattle.text.specs.Words.{over};
 ghost use Rattle.digest.specs.Hex.{leading_digest};
@@ -25,6 +26,9 @@ ghost use Rattle.panel.specs.StepTable.{IsUnderWay, IsStray, StepTo};
 ghost use Rattle.panel.specs.Talks.{Happens, is_first_led, led_in_talk};
 ghost use Rattle.panel.specs.PanelCalls.{no_panel, entry_at, adding_rows, commanding_rows, projector_rows};
 ghost use Rattle.panel.specs.PanelCalls.{added_to, command_at, stepped_at, lost_at};
+ghost use Rattle.panel.specs.Hearing.{HeardAs};
+ghost use Rattle.panel.specs.Refusals.{panel_refusal_number};
+ghost use Rattle.panel.specs.declared.refusal.PanelRefusal.{PanelRefusal};
 ghost use Rattle.panel.specs.declared.types.PanelEntry.{PanelEntry};
 ghost use Rattle.panel.specs.declared.types.Panel.{Panel};
 
@@ -94,19 +98,22 @@ pub fn only_a_reading_is_shown()
 /// table that applies (RULES, The numbers a call gives).
 pub fn a_refusal_keeps_the_panel()
     ensures adding { (p : Panel) (s : List ℕ) → let a = added_to p s in
-        a.number ≢ 0 → (a.panel ≡ p) × (a.line ≡ []) }
+        call_number panel_refusal_number a ≢ 0 → (a.leaves ≡ p) × (a.bytes ≡ []) }
     ensures sending { (p : Panel) (i : ℕ) (k : Coded) (room : ℕ) → let c = command_at p i k room in
-        c.number ≢ 0 → (c.panel ≡ p) × (c.line ≡ []) }
+        call_number panel_refusal_number c ≢ 0 → (c.leaves ≡ p) × (c.bytes ≡ []) }
     ensures hearing { (p : Panel) (i : ℕ) (l : List ℕ) → let h = stepped_at p i l in
-        h.number ≢ 0 → (h.panel ≡ p) × (h.line ≡ []) }
+        call_number panel_refusal_number h ≢ 0 → (h.leaves ≡ p) × (h.bytes ≡ []) }
     ensures losing { (p : Panel) (i : ℕ) → let l = lost_at p i in
-        l.number ≢ 0 → (l.panel ≡ p) × (l.line ≡ []) }
-    ensures adding_number { (p : Panel) (s : List ℕ) → (added_to p s).number ≡ first_of (adding_rows p s) }
+        call_number panel_refusal_number l ≢ 0 → (l.leaves ≡ p) × (l.bytes ≡ []) }
+    ensures adding_number { (p : Panel) (s : List ℕ) → call_number panel_refusal_number (added_to p s)
+        ≡ first_of (numbers_of panel_refusal_number (adding_rows p s)) }
     ensures sending_number { (p : Panel) (i : ℕ) (k : Coded) (room : ℕ)
-        → (command_at p i k room).number ≡ first_of (commanding_rows p i k room) }
-    ensures hearing_number { (p : Panel) (i : ℕ) (l : List ℕ)
-        → (stepped_at p i l).number ≡ first_of (projector_rows p i) }
-    ensures losing_number { (p : Panel) (i : ℕ) → (lost_at p i).number ≡ first_of (projector_rows p i) }
+        → call_number panel_refusal_number (command_at p i k room)
+        ≡ first_of (numbers_of panel_refusal_number (commanding_rows p i k room)) }
+    ensures hearing_number { (p : Panel) (i : ℕ) (l : List ℕ) → call_number panel_refusal_number (stepped_at p i l)
+        ≡ first_of (numbers_of panel_refusal_number (projector_rows p i)) }
+    ensures losing_number { (p : Panel) (i : ℕ) → call_number panel_refusal_number (lost_at p i)
+        ≡ first_of (numbers_of panel_refusal_number (projector_rows p i)) }
 {}
 
 /// The panel without a projector is legal. Past its count a legal panel is blank. Adding a projector leaves the others
@@ -116,24 +123,25 @@ pub fn a_panel_grows_by_one()
     ensures blank_past { (p : Panel) (i : ℕ) → is_panel p ≡ true → p.count ≤ i → i < length p.entries
         → entry_at p i ≡ blank_entry }
     ensures others_stay { (p : Panel) (s : List ℕ) (j : ℕ) → j ≢ p.count
-        → entry_at (added_to p s).panel j ≡ entry_at p j }
+        → entry_at (added_to p s).leaves j ≡ entry_at p j }
 {}
 
 /// Any two results that meet the contract of a call are equal: what it returns, the panel and the bytes written.
 #[tactic(auto, using(text::proofs::OneResult::one_result))]
 pub fn one_result()
-    ensures added { (p : Panel) (password : List ℕ) (r s : ℕ) (x y : Panel)
+    ensures added { (p : Panel) (password : List ℕ) (r s : Result (Unit {0}) PanelRefusal) (x y : Panel)
         → let a = added_to p password in
-        (r ≡ a.number) × (x ≡ a.panel) → (s ≡ a.number) × (y ≡ a.panel) → (r ≡ s) × (x ≡ y) }
-    ensures sent { (p : Panel) (i : ℕ) (k : Coded) (out : List ℕ) (r s v w : ℕ) (x y : Panel) (m n : List ℕ)
+        (r ≡ a.says) × (x ≡ a.leaves) → (s ≡ a.says) × (y ≡ a.leaves) → (r ≡ s) × (x ≡ y) }
+    ensures sent { (p : Panel) (i : ℕ) (k : Coded) (out : List ℕ) (r s : Result ℕ PanelRefusal) (x y : Panel)
+        (m n : List ℕ)
         → let c = command_at p i k (length out) in
-        (r ≡ c.number) × (v ≡ length c.line) × (x ≡ c.panel) × (m ≡ over c.line out)
-        → (s ≡ c.number) × (w ≡ length c.line) × (y ≡ c.panel) × (n ≡ over c.line out)
-        → (r ≡ s) × (v ≡ w) × (x ≡ y) × (m ≡ n) }
-    ensures heard { (p : Panel) (i : ℕ) (l : List ℕ) (r s : ℕ) (x y : Panel)
+        (r ≡ with_length c) × (x ≡ c.leaves) × (m ≡ over c.bytes out)
+        → (s ≡ with_length c) × (y ≡ c.leaves) × (n ≡ over c.bytes out)
+        → (r ≡ s) × (x ≡ y) × (m ≡ n) }
+    ensures heard { (p : Panel) (i : ℕ) (l : List ℕ) (r s : Result HeardAs PanelRefusal) (x y : Panel)
         → let h = stepped_at p i l in
-        (r ≡ h.number) × (x ≡ h.panel) → (s ≡ h.number) × (y ≡ h.panel) → (r ≡ s) × (x ≡ y) }
-    ensures lost { (p : Panel) (i : ℕ) (r s : ℕ) (x y : Panel)
+        (r ≡ h.says) × (x ≡ h.leaves) → (s ≡ h.says) × (y ≡ h.leaves) → (r ≡ s) × (x ≡ y) }
+    ensures lost { (p : Panel) (i : ℕ) (r s : Result (Unit {0}) PanelRefusal) (x y : Panel)
         → let l = lost_at p i in
-        (r ≡ l.number) × (x ≡ l.panel) → (s ≡ l.number) × (y ≡ l.panel) → (r ≡ s) × (x ≡ y) }
+        (r ≡ l.says) × (x ≡ l.leaves) → (s ≡ l.says) × (y ≡ l.leaves) → (r ≡ s) × (x ≡ y) }
 {}

@@ -5,7 +5,6 @@ use Rattle.text.specs.Flags.{flag_of}
 use Rattle.text.proofs.FlagsTold.{flag_within}
 use Rattle.record.specs.Legal.{is_legal}
 use Rattle.record.specs.Updates.{with_own, with_fault, with_errors, with_marks}
-use Rattle.record.specs.Given.{given_by}
 use Rattle.record.specs.HostCalls.{fault_set, errors_set, mark_set, is_none_left}
 use Rattle.record.specs.Rules.{is_error_list}
 use Rattle.record.specs.declared.types.Own.{Own}
@@ -37,12 +36,12 @@ module _ (d : Device) (h : is_legal d ≡ true) where
       is_legal-with_own (with_marks d.own (set d.own.enabled k (flag_of m)))
       (assumption (t.own, marked_legal d.settings.lamp_count d.own.enabled k m t.own.marks inside left))
 
-  pub fault_legal : (m : Bool) → is_legal (given_by d (fault_set d m)).device ≡ true
-  fault_legal m = fault_set_by d (λ r. is_legal r.device ≡ true) m h (λ l. fault_kept m)
+  pub fault_legal : (m : Bool) → is_legal (fault_set d m).leaves ≡ true
+  fault_legal m = fault_set_by d (λ r. is_legal r.leaves ≡ true) m h (λ l. fault_kept m)
 
-  pub errors_legal : (ds : List ℕ) → is_legal (given_by d (errors_set d ds)).device ≡ true
-  errors_legal ds = errors_set_by d (λ r. is_legal r.device ≡ true) ds h h (λ l e. errors_kept ds e)
+  pub errors_legal : (ds : List ℕ) → is_legal (errors_set d ds).leaves ≡ true
+  errors_legal ds = errors_set_by d (λ r. is_legal r.leaves ≡ true) ds h h (λ l e. errors_kept ds e)
 
-  pub mark_legal : (k : ℕ) (m : Bool) → is_legal (given_by d (mark_set d k m)).device ≡ true
+  pub mark_legal : (k : ℕ) (m : Bool) → is_legal (mark_set d k m).leaves ≡ true
   mark_legal k m =
-      mark_set_by d (λ r. is_legal r.device ≡ true) k m (λ n z. h) (λ l inside left idle. mark_kept k m inside left)
+      mark_set_by d (λ r. is_legal r.leaves ≡ true) k m (λ e some. h) (λ l inside left idle. mark_kept k m inside left)

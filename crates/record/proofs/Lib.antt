@@ -28,4 +28,3 @@ pub mod Started
 pub mod HostKept
 pub mod Results
 pub mod Samples
-pub mod GivenTold

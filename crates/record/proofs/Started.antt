@@ -3,6 +3,7 @@
 use Rattle.std.proofs.Common.{ℕ, ◌-◌, ◌*◌, ◌/◌, ◌<◌, ◌≡◌, refl, sym, subst, true, false, List, arith, length}
 use Rattle.std.proofs.Common.{slice_index_or}
 use Rattle.std.proofs.Math.ListN.{get_or-append}
+use Rattle.text.specs.Outcomes.{call_number}
 use Rattle.text.proofs.Choices.{by_not}
 use Rattle.words.specs.Texts.{is_text, is_name, is_info, is_password, info_most}
 use Rattle.record.specs.Limits.{text_room, input_room, lamps_most, places_count, only_in_2}
@@ -14,7 +15,7 @@ use Rattle.record.specs.Legal.{is_settings, is_own, is_legal}
 use Rattle.record.specs.Facts.{Fills, IsNames}
 use Rattle.record.specs.Places.{connection_at}
 use Rattle.record.specs.SetUp.{is_setting_in_range, is_set_up, set_up}
-use Rattle.record.specs.Given.{set_up_given}
+use Rattle.record.specs.SetUpErrors.{set_up_error_number}
 use Rattle.record.specs.declared.types.Setting.{Setting}
 use Rattle.record.specs.declared.types.Setting.TheVariants.{Name, Maker, Model, Other, Password, Inputs, Lamps, WarmUp}
 use Rattle.record.specs.declared.types.Setting.TheVariants.{Cooling, Serial, Version, Names}
@@ -135,12 +136,12 @@ module _ (w : Wanted) where
   connection_at-start_device p there = all_closed_at p there
 
   -- an accepted set-up is legal, and gives the started device
-  pub set_up_legal : (set_up_given (set_up w)).number ≡ 0 → is_legal (set_up_given (set_up w)).device ≡ true
+  pub set_up_legal : call_number set_up_error_number (set_up w) ≡ 0 → is_legal (set_up w).leaves ≡ true
   set_up_legal =
-      set_up_by w (λ r. r.number ≡ 0 → is_legal r.device ≡ true) (λ e. absurd (omega arith))
-      (λ e. absurd (omega arith)) (λ h e. started_legal h)
+      set_up_by w (λ r. call_number set_up_error_number r ≡ 0 → is_legal r.leaves ≡ true)
+      (λ s e. absurd (omega arith)) (λ e. absurd (omega arith)) (λ h e. started_legal h)
 
-  pub set_up_started : (set_up_given (set_up w)).number ≡ 0 → (set_up_given (set_up w)).device ≡ start_device w
+  pub set_up_started : call_number set_up_error_number (set_up w) ≡ 0 → (set_up w).leaves ≡ start_device w
   set_up_started =
-      set_up_by w (λ r. r.number ≡ 0 → r.device ≡ start_device w) (λ e. absurd (omega arith))
-      (λ e. absurd (omega arith)) (λ h e. refl)
+      set_up_by w (λ r. call_number set_up_error_number r ≡ 0 → r.leaves ≡ start_device w)
+      (λ s e. absurd (omega arith)) (λ e. absurd (omega arith)) (λ h e. refl)

@@ -12,7 +12,6 @@ pub mod OutOfRange
 pub mod HostCalls
 pub mod Refusals
 pub mod SetUpErrors
-pub mod Given
 pub mod Computing
 pub mod Lending
 pub mod Worked

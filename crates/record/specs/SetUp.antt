@@ -8,17 +8,19 @@
 --   first_out_of_range w      the first setting out of its range, or none
 --   unless_out m r            refused for the setting m; r where m is none
 --   set_up w                  the started device; refused for the first setting out of its range, else for a short
---                             password
+--                             password, and the record is then the blank one
 -- An odd number of characters is no list of inputs, and so out of range.
 -- Assumes nothing.
-use Rattle.std.specs.Prelude.{Bool, not, ◌&&◌, List, [], ◌∷◌, ◌/◌, length, if◌then◌else◌}
-use Rattle.std.specs.Prelude.{Option, Some, None, Result, Ok, Err}
+use Rattle.std.specs.Prelude.{Bool, not, ◌&&◌, List, [], ◌∷◌, ◌/◌, length}
+use Rattle.std.specs.Prelude.{Option, Some, None}
 use Rattle.std.specs.List.{find, list_all}
+use Rattle.text.specs.Rows.{◌when◌, by_rows}
+use Rattle.text.specs.Outcomes.{CallResult, served_as, refused_as}
 use Rattle.words.specs.Texts.{is_text, is_name, is_info, is_password, info_most}
 use Rattle.record.specs.Limits.{only_in_2}
 use Rattle.record.specs.Wanted.{Wanted}
 use Rattle.record.specs.Rules.{is_long_enough, is_inputs, is_lamps, is_transition, are_names}
-use Rattle.record.specs.Record.{start_device}
+use Rattle.record.specs.Record.{start_device, blank}
 use Rattle.record.specs.declared.types.Device.{Device}
 use Rattle.record.specs.declared.set_up_error.SetUpError.{SetUpError}
 use Rattle.record.specs.declared.set_up_error.SetUpError.TheVariants.{OutOfRange, ShortPassword}
@@ -56,11 +58,13 @@ first_failing f l = find (λ s. not (f s)) l
 abbrev pub first_out_of_range : Wanted → Option Setting
 first_out_of_range w = first_failing (is_setting_in_range w) settings_in_order
 
-abbrev pub unless_out : Option Setting → Result Device SetUpError → Result Device SetUpError
-unless_out (Some s) r = Err (OutOfRange s)
+abbrev pub unless_out : Option Setting → CallResult SetUpError (Unit {0}) Device
+    → CallResult SetUpError (Unit {0}) Device
+unless_out (Some s) r = refused_as blank (OutOfRange s)
 unless_out None r = r
 
-unfoldable pub set_up : Wanted → Result Device SetUpError
+unfoldable pub set_up : Wanted → CallResult SetUpError (Unit {0}) Device
 set_up w =
     unless_out (first_out_of_range w)
-    (if is_long_enough (length w.password) then Ok (start_device w) else Err ShortPassword)
+    (by_rows ((ShortPassword when not (is_long_enough (length w.password))) ∷ []) (refused_as blank)
+    (served_as tt [] (start_device w)))

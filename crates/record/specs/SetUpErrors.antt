@@ -1,8 +1,7 @@
 -- Why set-up refuses (RULES, The numbers a call gives and Passwords).
 --   set_up_error_number e    3 where a setting is out of its range, 8 where the password is too short
 --   setting_of e             the setting for which it refuses
---   setting_told r           the same of what set-up gives, or none
---   check_of r               what set-up gives, but for the device
+--   setting_told r           the same of what set-up says, or none
 -- Assumes nothing.
 use Rattle.std.specs.Prelude.{ℕ, Option, Some, None, Result, Ok, Err}
 use Rattle.record.specs.declared.types.Setting.{Setting}
@@ -21,7 +20,3 @@ setting_of ShortPassword = Password
 abbrev pub setting_told : {A : Type 0} → Result A SetUpError → Option Setting
 setting_told (Ok x) = None
 setting_told (Err e) = Some (setting_of e)
-
-abbrev pub check_of : {A : Type 0} → Result A SetUpError → Result (Unit {0}) SetUpError
-check_of (Ok x) = Ok tt
-check_of (Err e) = Err e

@@ -15,11 +15,11 @@
 use Prim.Native.String.{String}
 use Prim.Native.Char.{code}
 use Rattle.std.specs.Prelude.{ℕ, ◌≡◌, List, [], ◌∷◌, Option, replicate, codes}
+use Rattle.text.specs.Outcomes.{call_number}
 use Rattle.record.specs.Limits.{lamp_limit}
 use Rattle.record.specs.Wanted.{Wanted, wanted_of, wanted_of_2}
 use Rattle.record.specs.SetUp.{set_up}
-use Rattle.record.specs.SetUpErrors.{setting_told}
-use Rattle.record.specs.Given.{set_up_given}
+use Rattle.record.specs.SetUpErrors.{set_up_error_number, setting_told}
 use Rattle.record.specs.declared.types.Setting.{Setting}
 use Rattle.record.specs.declared.types.Setting.TheVariants.{Name, Maker, Model, Other, Password, Inputs, Lamps, WarmUp}
 use Rattle.record.specs.declared.types.Setting.TheVariants.{Cooling}
@@ -122,7 +122,7 @@ class_2_set_up_rows =
 
 abbrev pub AreNumbered : List NumberedSetUp → Type 0
 AreNumbered [] = Unit {0}
-AreNumbered (row ∷ rows) = ((set_up_given (set_up row.wanted)).number ≡ row.number) × AreNumbered rows
+AreNumbered (row ∷ rows) = (call_number set_up_error_number (set_up row.wanted) ≡ row.number) × AreNumbered rows
 
 abbrev pub set_up_refuses : Wanted → Option Setting
-set_up_refuses w = setting_told (set_up w)
+set_up_refuses w = setting_told (set_up w).says

@@ -1,8 +1,8 @@
 // The host's calls (RULES, Time and Lamps) on a legal record: each replaces the fault mark, the six error digits or a
 // lamp's enabled mark where the record lies, and nothing else; a refused one leaves the record as it was.
-ghost use Rattle.std.specs.Prelude.{◌≡◌, Ok, OnErr};
+ghost use Rattle.std.specs.Prelude.{◌≡◌, []};
+ghost use Rattle.text.specs.Outcomes.{served_as};
 ghost use Rattle.record.specs.HostCalls.{fault_set, errors_set, mark_set};
-ghost use Rattle.record.specs.Given.{gives};
 
 use crate::legality::Legal;
 use crate::own;
@@ -15,7 +15,7 @@ impl Legal<'_> {
     #[tactic(auto, unfolding(crate::specs::HostCalls::fault_set), using(crate::proofs::HostKept::fault_kept))]
     pub fn set_fault(&mut self, mark: bool)
         ensures same_reference { self.new.device.ghost_name ≡ self.old.device.ghost_name }
-        ensures given { Ok self.new.device.now ≡ fault_set self.old.device.now mark }
+        ensures served { served_as tt [] self.new.device.now ≡ fault_set self.old.device.now mark }
     {
         let device = &mut *self.device;
         device.own.fault = flag::of(mark);
@@ -26,8 +26,8 @@ impl Legal<'_> {
     #[tactic(auto, unfolding(crate::specs::HostCalls::errors_set), using(crate::proofs::HostKept::errors_kept))]
     pub fn set_errors(&mut self, digits: &[u8]) -> Result<(), Refusal>
         ensures same_reference { self.new.device.ghost_name ≡ self.old.device.ghost_name }
-        ensures given { gives result self.new.device.now ≡ errors_set self.old.device.now digits.now }
-        ensures kept { OnErr result (self.new.device.now ≡ self.old.device.now) }
+        ensures says { result ≡ (errors_set self.old.device.now digits.now).says }
+        ensures device { self.new.device.now ≡ (errors_set self.old.device.now digits.now).leaves }
     {
         if !own::is_error_list(digits) {
             return Err(Refusal::OutOfRange);
@@ -42,8 +42,8 @@ impl Legal<'_> {
     #[tactic(auto, unfolding(crate::specs::HostCalls::mark_set), using(crate::proofs::HostKept::mark_kept))]
     pub fn set_mark(&mut self, lamp: usize, mark: bool) -> Result<(), Refusal>
         ensures same_reference { self.new.device.ghost_name ≡ self.old.device.ghost_name }
-        ensures given { gives result self.new.device.now ≡ mark_set self.old.device.now lamp mark }
-        ensures kept { OnErr result (self.new.device.now ≡ self.old.device.now) }
+        ensures says { result ≡ (mark_set self.old.device.now lamp mark).says }
+        ensures device { self.new.device.now ≡ (mark_set self.old.device.now lamp mark).leaves }
     {
         let device = &mut *self.device;
         if device.settings.lamp_count <= lamp {

@@ -1,8 +1,7 @@
 // The legality of the whole record (RULES, The legal record): a factor a part.
-ghost use Rattle.std.specs.Prelude.{◌≡◌, true, IfOk, if◌then◌else◌};
+ghost use Rattle.std.specs.Prelude.{◌≡◌, true, false, IfOk, IfErr};
 ghost use Rattle.record.specs.Legal.{is_legal};
-ghost use Rattle.record.specs.Refusals.{refusal_number};
-ghost use Rattle.text.specs.Outcomes.{outcome_number};
+ghost use Rattle.record.specs.declared.refusal.Refusal.TheVariants.{NotLegal};
 
 use crate::connections;
 use crate::refusal::Refusal;
@@ -56,7 +55,7 @@ impl<'a> Legal<'a> {
     /// Tests the record and borrows it. Refused: `NotLegal`.
     pub fn of(device: &'a mut Device) -> Result<Legal<'a>, Refusal>
         ensures* kept { sem 𝓛 (rests_if_refused device.entry result) }
-        ensures number { outcome_number refusal_number result ≡ (if is_legal device.old then 0 else 1) }
+        ensures refused { IfErr result (λ why. (why ≡ NotLegal) × (is_legal device.old ≡ false)) }
         ensures lent { IfOk result
             (λ l. (l.device.now ≡ device.old) × (l.device.ghost_name ≡ device.entry.ghost_name)) }
     {

@@ -1,8 +1,9 @@
 // What is proved beside the contracts of the functions. Nothing is done here: that these functions have their contracts
 // is that the theorems stand.
 ghost use Rattle.std.specs.Prelude.{◌≡◌, ◌≢◌, ◌+◌, ◌*◌, ◌<◌, ◌≤◌, Bool, IsTrue, true, false, List, ℕ, Option};
-ghost use Rattle.std.specs.Prelude.{Some, None, Result, OnErr, length, map, [], ◌∷◌, codes};
+ghost use Rattle.std.specs.Prelude.{Some, None, Result, length, map, [], ◌∷◌, codes};
 ghost use Rattle.text.specs.Flags.{is_flag, is_raised, flag_of};
+ghost use Rattle.text.specs.Outcomes.{call_number};
 ghost use Rattle.words.specs.Bytes.{◌at◌};
 ghost use Rattle.words.specs.Texts.{password_most};
 ghost use Rattle.record.specs.Limits.{age_end, errors_count, error_most, lamp_limit};
@@ -15,8 +16,7 @@ ghost use Rattle.record.specs.declared.types.Setting.{Setting};
 ghost use Rattle.record.specs.OutOfRange.{SettingHolds};
 ghost use Rattle.record.specs.SetUp.{settings_in_order, is_setting_in_range, is_in_range};
 ghost use Rattle.record.specs.SetUp.{first_failing, first_out_of_range, set_up};
-ghost use Rattle.record.specs.SetUpErrors.{setting_told};
-ghost use Rattle.record.specs.Given.{gives, set_up_given};
+ghost use Rattle.record.specs.SetUpErrors.{set_up_error_number, setting_told};
 ghost use Rattle.record.specs.Wanted.{Wanted, names_in};
 ghost use Rattle.record.specs.Worked.{named_set_up, secured_set_up, class_2_set_up, whole_set_up, texts_set_up};
 ghost use Rattle.record.specs.Worked.{AreNumbered, input_rows, most_input_rows, password_rows, class_2_set_up_rows};
@@ -42,33 +42,38 @@ pub fn the_setting_told_holds()
 /// Which setting set-up refused, by the number that a host is given: 3 where one is out of its range, 8 where none is
 /// and the password is short.
 pub fn the_number_tells_the_setting()
-    ensures out { (w : Wanted) → (set_up_given (set_up w)).number ≡ 3 → is_in_range w ≡ false }
-    ensures short { (w : Wanted) → (set_up_given (set_up w)).number ≡ 8
+    ensures out { (w : Wanted) → call_number set_up_error_number (set_up w) ≡ 3 → is_in_range w ≡ false }
+    ensures short { (w : Wanted) → call_number set_up_error_number (set_up w) ≡ 8
         → (is_in_range w ≡ true) × (is_long_enough (length w.password) ≡ false) }
-    ensures out_of_range { (w : Wanted) → (set_up_given (set_up w)).number ≡ 3
-        → setting_told (set_up w) ≡ first_out_of_range w }
-    ensures too_short { (w : Wanted) → (set_up_given (set_up w)).number ≡ 8
-        → setting_told (set_up w) ≡ Some Password }
-    ensures none_where_accepted { (w : Wanted) → (set_up_given (set_up w)).number ≡ 0
-        → setting_told (set_up w) ≡ None }
-    ensures accepted_where_none { (w : Wanted) → setting_told (set_up w) ≡ None
-        → (set_up_given (set_up w)).number ≡ 0 }
+    ensures out_of_range { (w : Wanted) → call_number set_up_error_number (set_up w) ≡ 3
+        → setting_told (set_up w).says ≡ first_out_of_range w }
+    ensures too_short { (w : Wanted) → call_number set_up_error_number (set_up w) ≡ 8
+        → setting_told (set_up w).says ≡ Some Password }
+    ensures none_where_accepted { (w : Wanted) → call_number set_up_error_number (set_up w) ≡ 0
+        → setting_told (set_up w).says ≡ None }
+    ensures accepted_where_none { (w : Wanted) → setting_told (set_up w).says ≡ None
+        → call_number set_up_error_number (set_up w) ≡ 0 }
 {}
 
 /// Two results that meet the promise of a call are equal, the record that it leaves included.
 pub fn one_result()
-    ensures set_up { (w : Wanted) (r s : Result Device SetUpError) → r ≡ set_up w → s ≡ set_up w → r ≡ s }
+    ensures set_up { (w : Wanted) (r s : Result (Unit {0}) SetUpError) (x y : Device)
+        → (r ≡ (set_up w).says) × (x ≡ (set_up w).leaves) → (s ≡ (set_up w).says) × (y ≡ (set_up w).leaves)
+        → (r ≡ s) × (x ≡ y) }
     ensures setting { (w : Wanted) (r s : Option Setting)
         → r ≡ first_out_of_range w → s ≡ first_out_of_range w → r ≡ s }
     ensures legality { (d : Device) (r s : Bool) → r ≡ is_legal d → s ≡ is_legal d → r ≡ s }
     ensures fault { (d : Device) (mark : Bool) (r s : Result (Unit {0}) Refusal) (x y : Device)
-        → (gives r x ≡ fault_set d mark) × OnErr r (x ≡ d) → (gives s y ≡ fault_set d mark) × OnErr s (y ≡ d)
+        → (r ≡ (fault_set d mark).says) × (x ≡ (fault_set d mark).leaves)
+        → (s ≡ (fault_set d mark).says) × (y ≡ (fault_set d mark).leaves)
         → (r ≡ s) × (x ≡ y) }
     ensures errors { (d : Device) (digits : List ℕ) (r s : Result (Unit {0}) Refusal) (x y : Device)
-        → (gives r x ≡ errors_set d digits) × OnErr r (x ≡ d) → (gives s y ≡ errors_set d digits) × OnErr s (y ≡ d)
+        → (r ≡ (errors_set d digits).says) × (x ≡ (errors_set d digits).leaves)
+        → (s ≡ (errors_set d digits).says) × (y ≡ (errors_set d digits).leaves)
         → (r ≡ s) × (x ≡ y) }
     ensures mark { (d : Device) (lamp : ℕ) (mark : Bool) (r s : Result (Unit {0}) Refusal) (x y : Device)
-        → (gives r x ≡ mark_set d lamp mark) × OnErr r (x ≡ d) → (gives s y ≡ mark_set d lamp mark) × OnErr s (y ≡ d)
+        → (r ≡ (mark_set d lamp mark).says) × (x ≡ (mark_set d lamp mark).leaves)
+        → (s ≡ (mark_set d lamp mark).says) × (y ≡ (mark_set d lamp mark).leaves)
         → (r ≡ s) × (x ≡ y) }
 {}
 

@@ -10,10 +10,11 @@ use Rattle.std.proofs.Common.{append_assoc, map}
 use Rattle.std.proofs.lemmas.Bool.Decides.{nat_tests}
 use Prim.Native.Char.{code}
 use Rattle.text.specs.Scans.{is_same_by, itself}
-use Rattle.text.specs.Outcomes.{WrittenAs}
+use Rattle.text.specs.Outcomes.{CallResult, served_as}
 use Rattle.text.proofs.Choices.{if_yes, if_no, both}
 use Rattle.words.specs.Codec.{◌>>=◌}
 use Rattle.record.specs.declared.types.Device.{Device}
+use Rattle.record.specs.declared.refusal.Refusal.{Refusal}
 use Rattle.crc32.proofs.Changes.{crc32_on_within}
 use Rattle.ours.specs.Board.{ours}
 use Rattle.demands.specs.Calls.{Call, after, run}
@@ -22,7 +23,7 @@ use Rattle.history.specs.Entries.{LogEntry, header, call, stated, is_sayable_ent
 use Rattle.history.specs.Entries.{entry_line, entry_in}
 use Rattle.history.specs.Shown.{device_shown}
 use Rattle.textio.specs.Lines.{lines_ended}
-use Rattle.history.specs.Recording.{cannot_follow, advanced, recorded_by, recorder_after, header_next, stated_next}
+use Rattle.history.specs.Recording.{cannot_follow, advanced, recorded_by, header_next, stated_next}
 use Rattle.history.specs.declared.recorder.Recorder.{Recorder}
 use Rattle.history.proofs.Chain.{served, refused, tried, stated_tried}
 use Rattle.history.proofs.EntriesBack.{entry_back}
@@ -32,7 +33,7 @@ use Rattle.recorded.specs.Recorded.{is_served, recorded_call, recorded, replied_
 use Rattle.recorded.specs.Playing.{belongs, entry_calls, all_said, PlaysAs}
 use Rattle.recorded.specs.Played.{call_told}
 use Rattle.recorded.specs.Chain.{Misfit, misfit, unless, said_there, entry_told, made_told, device_made, log_made}
-use Rattle.recorded.specs.Hosts.{HostStep, begins, makes, states, step_written, recorder_by, device_by, host_log}
+use Rattle.recorded.specs.Hosts.{HostStep, begins, makes, states, step_written, device_by, host_log}
 use Rattle.recorded.specs.Hosts.{recorder_left, step_calls, IsKept, AreKept, IsTypedStep, AreTypedSteps}
 use Rattle.recorded.specs.Hosts.{host_left}
 use Rattle.recorded.specs.Chain.{Followed, and_reply, followed}
@@ -101,7 +102,7 @@ record Believes (r : Recorder) (d : Device) (ls : List (List ℕ)) (ts : List (H
 
 module _ (r : Recorder) (d : Device) (s : HostStep) (n : ℕ) where
   abbrev recorder : Recorder
-  recorder = recorder_by r d s n
+  recorder = (step_written r d s n).leaves
 
   abbrev GoesOn : List (List ℕ) → List (List ℕ) → Type 0
   GoesOn all ls = (ts : List (HostStep × ℕ))
@@ -120,12 +121,12 @@ still : (r : Recorder) (d : Device) (e : LogEntry) (s : HostStep) (n : ℕ) → 
     → misfit r d e ≡ None
     → is_sayable_entry e ≡ true
     → (step_written r d s n).bytes ≡ entry_line e
-    → Small (recorder_by r d s n)
+    → Small (step_written r d s n).leaves
     → made_told d e ≡ Ok 0
-    → log_made r d e (entry_text e) ≡ recorder_by r d s n
+    → log_made r d e (entry_text e) ≡ (step_written r d s n).leaves
     → device_made d e ≡ device_by d s
     → ((ts : List (HostStep × ℕ))
-    → and_reply d e (host_left (recorder_by r d s n) (device_by d s) ts) ≡ host_left r d ((s, n) ∷ ts))
+    → and_reply d e (host_left (step_written r d s n).leaves (device_by d s) ts) ≡ host_left r d ((s, n) ∷ ts))
     → ((ts : List (HostStep × ℕ)) (es : List LogEntry) → entry_calls es ≡ recorded (device_by d s) (step_calls ts)
     → entry_calls (e ∷ es) ≡ recorded d (step_calls ((s, n) ∷ ts)))
     → Done r d s n
@@ -134,8 +135,9 @@ still r d e s n small t fits h bytes next made log device left said =
     (λ ls ts rest.
     let (es, all, calls) = rest.says in
     record {
-      stands = line_made r d e (entry_text e) ls 0 (recorder_by r d s n) (device_by d s)
-          (host_left (recorder_by r d s n) (device_by d s) ts) (told_again r d e t h fits) made log device rest.stands
+      stands = line_made r d e (entry_text e) ls 0 (step_written r d s n).leaves (device_by d s)
+          (host_left (step_written r d s n).leaves (device_by d s) ts) (told_again r d e t h fits) made log device
+          rest.stands
           ∙ ap Some (left ts);
       says = (e ∷ es, (λ i. entry_back e t h i ∷ all i), said ts es calls);
     })
@@ -144,10 +146,10 @@ begun : (r : Recorder) (d : Device) (t : Option (List ℕ)) (n : ℕ) → Small 
 begun r d t n k =
     let e = header_next r t in
     elim (tried r e n) [
-      | served h free number bytes next ↦
+      | served h free said bytes next ↦
           still r d e (begins t) n k k.sum (header_stands r d t) h bytes
           (subst Small (sym next) (small_next r e k h free)) refl (sym next) refl (λ ts. refl) (λ ts es same. same)
-      | refused number bytes next ↦
+      | refused said bytes next ↦
           silent bytes (subst Small (sym next) k)
           (λ ls ts rest. record {
             stands = ap (λ (q : Recorder). followed q d ls) (sym next) ∙ rest.stands;
@@ -159,10 +161,10 @@ stated_there : (r : Recorder) (d : Device) (n : ℕ) → Small r → Done r d st
 stated_there r d n k =
     let e = stated_next r (device_shown d) in
     elim (stated_tried r d n) [
-      | served h free number bytes next ↦
+      | served h free said bytes next ↦
           still r d e states n k (k.lines, k.sum) (stated_stands r d free) h bytes
           (subst Small (sym next) (small_next r e k h free)) refl (sym next) refl (λ ts. refl) (λ ts es same. same)
-      | refused number bytes next ↦
+      | refused said bytes next ↦
           silent bytes (subst Small (sym next) k)
           (λ ls ts rest. record {
             stands = ap (λ (q : Recorder). followed q d ls) (sym next) ∙ rest.stands;
@@ -175,17 +177,20 @@ module _ (r : Recorder) (d : Device) (c : Call) (n : ℕ) (k : Small r) (t : IsT
   entry = call (recorded_call d c)
 
   abbrev recorder_then : Recorder
-  recorder_then = recorder_by r d (makes c) n
+  recorder_then = (step_written r d (makes c) n).leaves
 
   was_recorded : is_served d c ≡ true → is_sayable_entry entry ≡ true → cannot_follow r entry ≡ false
       → (recorded_by r entry n).bytes ≡ entry_line entry
-      → recorder_after r entry n ≡ advanced r entry
+      → (recorded_by r entry n).leaves ≡ advanced r entry
       → Done r d (makes c) n
   was_recorded done h free bytes next =
       let s : IsPlayedSame d c = played_same d c done in
       let b : belongs d (recorded_call d c) ≡ true = both s.served s.there in
-      let same : recorder_then ≡ advanced r entry = if_yes _ _ done ∙ next in
-      wrote (entry_text entry) (entry_no_lf entry h) (ap (λ (w : WrittenAs). w.bytes) (if_yes _ _ done) ∙ bytes)
+      let one : step_written r d (makes c) n ≡ recorded_by r entry n = if_yes _ _ done in
+      let same : recorder_then ≡ advanced r entry
+      = ap (λ (w : CallResult Refusal (Unit {0}) Recorder). w.leaves) one ∙ next in
+      wrote (entry_text entry) (entry_no_lf entry h)
+      (ap (λ (w : CallResult Refusal (Unit {0}) Recorder). w.bytes) one ∙ bytes)
       (subst Small (sym same) (small_next r entry k h free))
       (λ ls ts rest.
       let (es, all, calls) = rest.says in
@@ -214,9 +219,10 @@ module _ (r : Recorder) (d : Device) (c : Call) (n : ℕ) (k : Small r) (t : IsT
 
   unrecorded : is_served d c ≡ false → Done r d (makes c) n
   unrecorded h =
-      let same : recorder_then ≡ r = if_no _ _ h in
+      let none : step_written r d (makes c) n ≡ served_as tt [] r = if_no _ _ h in
+      let same : recorder_then ≡ r = ap (λ (w : CallResult Refusal (Unit {0}) Recorder). w.leaves) none in
       let leaves : after ours d c ≡ d = refused_leaves d c h in
-      silent (ap (λ (w : WrittenAs). w.bytes) (if_no _ _ h)) (subst Small (sym same) k)
+      silent (ap (λ (w : CallResult Refusal (Unit {0}) Recorder). w.bytes) none) (subst Small (sym same) k)
       (λ ls ts rest.
       let (es, all, calls) = rest.says in
       record {
@@ -242,9 +248,9 @@ module _ (r : Recorder) (d : Device) (c : Call) (n : ℕ) (k : Small r) (t : IsT
   made : (s : Bool) → is_served d c ≡ s → IsKept r d (makes c) n → Done r d (makes c) n
   made true h kept =
       elim (tried r entry n) [
-        | served s free number bytes next ↦ was_recorded h s free bytes next
-        | refused number bytes next ↦
-            absurd (grind (arith, kept h, number))
+        | served s free said bytes next ↦ was_recorded h s free bytes next
+        | refused said bytes next ↦
+            absurd (grind (arith, kept h, said))
       ]
   made false h kept = unrecorded h
 
@@ -263,7 +269,7 @@ believed_from : (ss : List (HostStep × ℕ)) (r : Recorder) (d : Device) → Sm
     → Believes r d (lines_ended [] (host_log r d ss)) ss
 believed_from [] r d k t h = none_believed r d (lines_ended [] []) no_lines
 believed_from ((s, n) ∷ ss) r d k (t, ts) (h, hs) =
-    let more = host_log (recorder_by r d s n) (device_by d s) ss in
+    let more = host_log (step_written r d s n).leaves (device_by d s) ss in
     elim (step_done r d s n k t h) [
       | wrote l no_lf bytes next on ↦
           let lines : lines_ended [] (host_log r d ((s, n) ∷ ss)) ≡ l ∷ lines_ended [] more
@@ -271,10 +277,10 @@ believed_from ((s, n) ∷ ss) r d k (t, ts) (h, hs) =
           ∙ ap (lines_ended []) (append_assoc l (codes "\n") more)
           ∙ line_ended l more no_lf in
           subst (λ (ls : List (List ℕ)). Believes r d ls ((s, n) ∷ ss)) (sym lines)
-          (on (lines_ended [] more) ss (believed_from ss (recorder_by r d s n) (device_by d s) next ts hs))
+          (on (lines_ended [] more) ss (believed_from ss (step_written r d s n).leaves (device_by d s) next ts hs))
       | silent bytes next on ↦
           subst (λ (b : List ℕ). Believes r d (lines_ended [] (b ++ more)) ((s, n) ∷ ss)) (sym bytes)
-          (on (lines_ended [] more) ss (believed_from ss (recorder_by r d s n) (device_by d s) next ts hs))
+          (on (lines_ended [] more) ss (believed_from ss (step_written r d s n).leaves (device_by d s) next ts hs))
     ]
 
 abbrev FrontBelieved : Recorder → Device → List (HostStep × ℕ) → List ℕ → Type 0
@@ -286,7 +292,7 @@ front_from : (ss : List (HostStep × ℕ)) (r : Recorder) (d : Device) → Small
 front_from [] r d k t h zero = (0, omega arith, none_believed r d (lines_ended [] []) no_lines)
 front_from [] r d k t h (suc i) = (0, omega arith, none_believed r d (lines_ended [] []) no_lines)
 front_from ((s, n) ∷ ss) r d k (t, ts) (h, hs) i =
-    let q = recorder_by r d s n in
+    let q = (step_written r d s n).leaves in
     let more = host_log q (device_by d s) ss in
     elim (step_done r d s n k t h) [
       | wrote l no_lf bytes next on ↦

@@ -3,15 +3,17 @@
 use Rattle.std.proofs.Common.{ℕ, ◌≡◌, Bool, true, false, List, [], ◌∷◌, ◌++◌, length, take, refl, sym, ap, ◌∙◌}
 use Rattle.std.proofs.Common.{map, ◌==◌}
 use Rattle.std.proofs.Common.{if◌then◌else◌, eqb-true, take-take, le_refl}
+use Rattle.text.specs.Outcomes.{call_number, number_answered}
 use Rattle.text.proofs.Choices.{if_no}
+use Rattle.record.specs.Refusals.{refusal_number}
 use Rattle.record.specs.declared.types.Device.{Device}
-use Rattle.device.specs.Calls.{Result as Came, reply_room, received_at}
-use Rattle.ours.specs.Board.{ours, reply, lent_by}
+use Rattle.device.specs.Calls.{reply_room, received_at}
+use Rattle.ours.specs.Board.{ours, reply, received_in}
 use Rattle.demands.specs.Calls.{Call, opens, closes, receives, passes, faults, reports, enables, after}
 use Rattle.demands.specs.History.{HistoryEvent, Streams, going_on_at, power_set, streams_after, seen, history}
 use Rattle.recorded.specs.Recorded.{is_served, recorded_call, recorded}
 use Rattle.recorded.specs.Playing.{reply_memory, played_call}
-use Rattle.recorded.proofs.Same.{played_same, refused_leaves, reply_told, received_same}
+use Rattle.recorded.proofs.Same.{Came, played_same, refused_leaves, reply_told, received_same}
 
 module _ (d : Device) (w : Streams) where
   streams_same : (c : Call) → is_served d c ≡ true
@@ -19,28 +21,34 @@ module _ (d : Device) (w : Streams) where
   streams_same (opens r m) h = refl
   streams_same (closes p) h = refl
   streams_same (receives p bs m) h =
-      let t = (received_at d p bs (length m)).taken in
-      ap (λ (q : Came Device). if q.number == 0 then going_on_at w p (take q.taken (take t bs)) else w)
+      let t = number_answered (received_at d p bs (length m)) in
+      ap
+      (λ (q : Came). if call_number refusal_number q == 0 then going_on_at w p (take (number_answered q) (take t bs))
+      else w)
       (received_same d p bs (length m) (eqb-true _ 0 h))
-      ∙ ap (λ (l : List ℕ). if (received_at d p bs (length m)).number == 0 then going_on_at w p l else w)
+      ∙ ap
+      (λ (l : List ℕ). if call_number refusal_number (received_at d p bs (length m)) == 0 then going_on_at w p l
+      else w)
       (take-take t t bs (le_refl t))
   streams_same (passes n) h = refl
   streams_same (faults m) h = refl
   streams_same (reports ds) h = refl
   streams_same (enables k m) h = refl
 
-  power_set_seen : (p : ℕ) (r : Came Device) (m : List ℕ)
-      → (if r.number == 0 then power_set (w p) (reply (lent_by r m)) else [])
-      ≡ (if r.number == 0 then power_set (w p) r.reply else [])
-  power_set_seen p r m = ap (λ (l : List ℕ). if r.number == 0 then power_set (w p) l else []) (reply_told d r m)
+  power_set_seen : (p : ℕ) (r : Came) (m : List ℕ) → let n = call_number refusal_number r in
+      (if n == 0 then power_set (w p) (reply (received_in r m)) else [])
+      ≡ (if n == 0 then power_set (w p) r.bytes else [])
+  power_set_seen p r m =
+      ap (λ (l : List ℕ). if call_number refusal_number r == 0 then power_set (w p) l else []) (reply_told d r m)
 
   seen_same : (c : Call) → is_served d c ≡ true
       → seen ours d w (played_call (recorded_call d c)) ≡ seen ours d w c
   seen_same (opens r m) h = refl
   seen_same (closes p) h = refl
   seen_same (receives p bs m) h =
-      power_set_seen p (received_at d p (take (received_at d p bs (length m)).taken bs) reply_room) reply_memory
-      ∙ ap (λ (q : Came Device). if q.number == 0 then power_set (w p) q.reply else [])
+      power_set_seen p (received_at d p (take (number_answered (received_at d p bs (length m))) bs) reply_room)
+      reply_memory
+      ∙ ap (λ (q : Came). if call_number refusal_number q == 0 then power_set (w p) q.bytes else [])
       (received_same d p bs (length m) (eqb-true _ 0 h))
       ∙ sym (power_set_seen p (received_at d p bs (length m)) m)
   seen_same (passes n) h = refl

@@ -1,35 +1,39 @@
 -- What is recorded of a call that is served, played, does what the call did; a call that is refused leaves the record.
 -- Assumes nothing.
 use Rattle.std.proofs.Common.{ℕ, ◌≡◌, true, false, List, arith, length, take, refl, sym, ap, ◌∙◌}
-use Rattle.std.proofs.Common.{◌==◌, eqb-true}
+use Rattle.std.proofs.Common.{◌==◌, eqb-true, eq-eqb}
 use Rattle.std.proofs.Math.Seq.{take-append_seam}
+use Rattle.text.specs.Outcomes.{CallResult, call_number, number_answered}
+use Rattle.record.specs.declared.refusal.Refusal.{Refusal}
+use Rattle.record.specs.Refusals.{refusal_number}
 use Rattle.record.specs.declared.types.Device.{Device}
-use Rattle.device.specs.Calls.{Result as Came, reply_room, received_at, opened_by, place_taken}
-use Rattle.device.proofs.Cases.{opened_placed_by, opened_greeted, opened_lowest}
-use Rattle.ours.specs.Board.{ours, lent_by, reply}
+use Rattle.device.specs.Calls.{reply_room, received_at, opened_by}
+use Rattle.device.proofs.Cases.{opened_by_lem, opened_greeted}
+use Rattle.ours.specs.Board.{ours, received_in, reply}
 use Rattle.demands.specs.Calls.{Call, opens, closes, receives, passes, faults, reports, enables, after}
 use Rattle.demands.proofs.CallsDo.{call_by}
 use Rattle.recorded.specs.Recorded.{is_served, recorded_call, replied_by}
 use Rattle.recorded.specs.Playing.{reply_memory, played_call, is_at_its_place}
 use Rattle.recorded.proofs.Taken.{received_alone}
 
-module _ (d : Device) where
-  opened_same : (r room : ℕ) → (opened_by d r room).number ≡ 0
-      → (opened_by d r reply_room ≡ opened_by d r room) × (place_taken d reply_room ≡ place_taken d room)
-  opened_same r room =
-      opened_placed_by d r room
-      (λ p q. q.number ≡ 0 → (opened_by d r reply_room ≡ q) × (place_taken d reply_room ≡ p))
-      (λ n some h. absurd (some h))
-      (λ legal enough free h.
-      (opened_greeted d r reply_room legal (omega arith) free, opened_lowest d r reply_room legal (omega arith) free))
+-- what receiving and opening give
+abbrev pub Came : Type 0
+Came = CallResult Refusal ℕ Device
 
-  pub received_same : (p : ℕ) (bs : List ℕ) (room : ℕ) → (received_at d p bs room).number ≡ 0
-      → received_at d p (take (received_at d p bs room).taken bs) reply_room ≡ received_at d p bs room
+module _ (d : Device) where
+  opened_same : (r room : ℕ) → call_number refusal_number (opened_by d r room) ≡ 0
+      → opened_by d r reply_room ≡ opened_by d r room
+  opened_same r room =
+      opened_by_lem d r room (λ c. call_number refusal_number c ≡ 0 → opened_by d r reply_room ≡ c)
+      (λ e some h. absurd (some h)) (λ legal enough free h. opened_greeted d r reply_room legal (omega arith) free)
+
+  pub received_same : (p : ℕ) (bs : List ℕ) (room : ℕ) → call_number refusal_number (received_at d p bs room) ≡ 0
+      → received_at d p (take (number_answered (received_at d p bs room)) bs) reply_room ≡ received_at d p bs room
   received_same p bs room h = received_alone d p bs room reply_room (omega arith) h
 
   -- the reply that is told is the reply
-  pub reply_told : (r : Came Device) (m : List ℕ) → reply (lent_by r m) ≡ r.reply
-  reply_told r m = take-append_seam r.reply _
+  pub reply_told : (r : Came) (m : List ℕ) → reply (received_in r m) ≡ r.bytes
+  reply_told r m = take-append_seam r.bytes _
 
   pub record IsPlayedSame (c : Call) : Type 0 where
     pub served : is_served d (played_call (recorded_call d c)) ≡ true
@@ -41,20 +45,20 @@ module _ (d : Device) where
   played_same (opens r m) h =
       let s = opened_same r (length m) (eqb-true _ 0 h) in
       record {
-        served = ap (λ (q : Came Device). q.number == 0) s.0 ∙ h;
-        there = grind (arith, s.1);
-        device = ap (λ (q : Came Device). q.device) s.0;
-        replied = reply_told (opened_by d r reply_room) reply_memory ∙ ap (λ (q : Came Device). q.reply) s.0
+        served = ap (λ (q : Came). call_number refusal_number q == 0) s ∙ h;
+        there = eq-eqb _ _ (ap (λ (q : Came). number_answered q) s);
+        device = ap (λ (q : Came). q.leaves) s;
+        replied = reply_told (opened_by d r reply_room) reply_memory ∙ ap (λ (q : Came). q.bytes) s
             ∙ sym (reply_told (opened_by d r (length m)) m);
       }
   played_same (receives p bs m) h =
-      let taken = take (received_at d p bs (length m)).taken bs in
+      let taken = take (number_answered (received_at d p bs (length m))) bs in
       let s = received_same p bs (length m) (eqb-true _ 0 h) in
       record {
-        served = ap (λ (q : Came Device). q.number == 0) s ∙ h;
+        served = ap (λ (q : Came). call_number refusal_number q == 0) s ∙ h;
         there = refl;
-        device = ap (λ (q : Came Device). q.device) s;
-        replied = reply_told (received_at d p taken reply_room) reply_memory ∙ ap (λ (q : Came Device). q.reply) s
+        device = ap (λ (q : Came). q.leaves) s;
+        replied = reply_told (received_at d p taken reply_room) reply_memory ∙ ap (λ (q : Came). q.bytes) s
             ∙ sym (reply_told (received_at d p bs (length m)) m);
       }
   played_same (closes p) h = record { served = h; there = refl; device = refl; replied = refl }

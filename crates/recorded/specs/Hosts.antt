@@ -1,8 +1,9 @@
 -- A host that records (RULES, History of a board): it makes calls on its board, records each that is served, after it
 -- is made, and at will begins files and states what the record shows, each line into memory of its own.
 --   HostStep              what a host does: it begins a file, with a start time or none; makes a call; states
---   step_written r d s n    what the recorder gives and writes of the step s, made on d, in n bytes of memory
---   recorder_by r d s n   the recorder then;    device_by d s   the record then
+--   step_written r d s n    what the recorder gives of the step s, made on d, in n bytes of memory: it is not called
+--                         for a call that is refused
+--   device_by d s         the record then
 --   host_log r d ss       all that is written of the steps ss
 --   recorder_left r d ss  the recorder then
 --   step_calls ss         the calls among them
@@ -14,12 +15,14 @@
 --                         replies
 -- Assumes nothing.
 use Rattle.std.specs.Prelude.{ℕ, ◌≡◌, ◌≤◌, true, List, [], ◌∷◌, ◌++◌, Option, if◌then◌else◌}
-use Rattle.text.specs.Outcomes.{WrittenAs, nothing_written}
+use Rattle.std.specs.Result.{is_ok}
+use Rattle.text.specs.Outcomes.{CallResult, served_as}
 use Rattle.record.specs.declared.types.Device.{Device}
+use Rattle.record.specs.declared.refusal.Refusal.{Refusal}
 use Rattle.ours.specs.Board.{ours}
 use Rattle.demands.specs.Calls.{Call, after, run}
 use Rattle.history.specs.Entries.{call}
-use Rattle.history.specs.Recording.{log_line_room, recorded_by, recorder_after, header_next, stated_by, stated_after}
+use Rattle.history.specs.Recording.{log_line_room, recorded_by, header_next, stated_by}
 use Rattle.history.specs.declared.recorder.Recorder.{Recorder}
 use Rattle.recorded.specs.Recorded.{is_served, recorded_call, recorded, replies_of, IsTypedCall}
 use Rattle.recorded.specs.Chain.{Followed}
@@ -29,15 +32,11 @@ pub data HostStep : Type 0 where
   makes : Call → HostStep
   states : HostStep
 
-abbrev pub step_written : Recorder → Device → HostStep → ℕ → WrittenAs
+abbrev pub step_written : Recorder → Device → HostStep → ℕ → CallResult Refusal (Unit {0}) Recorder
 step_written r d (begins t) n = recorded_by r (header_next r t) n
-step_written r d (makes c) n = if is_served d c then recorded_by r (call (recorded_call d c)) n else nothing_written 0
+step_written r d (makes c) n =
+    if is_served d c then recorded_by r (call (recorded_call d c)) n else served_as tt [] r
 step_written r d states n = stated_by r d n
-
-abbrev pub recorder_by : Recorder → Device → HostStep → ℕ → Recorder
-recorder_by r d (begins t) n = recorder_after r (header_next r t) n
-recorder_by r d (makes c) n = if is_served d c then recorder_after r (call (recorded_call d c)) n else r
-recorder_by r d states n = stated_after r d n
 
 abbrev pub device_by : Device → HostStep → Device
 device_by d (makes c) = after ours d c
@@ -45,11 +44,12 @@ device_by d s = d
 
 abbrev pub host_log : Recorder → Device → List (HostStep × ℕ) → List ℕ
 host_log r d [] = []
-host_log r d (s ∷ ss) = (step_written r d s.0 s.1).bytes ++ host_log (recorder_by r d s.0 s.1) (device_by d s.0) ss
+host_log r d (s ∷ ss) =
+    let w = step_written r d s.0 s.1 in w.bytes ++ host_log w.leaves (device_by d s.0) ss
 
 abbrev pub recorder_left : Recorder → Device → List (HostStep × ℕ) → Recorder
 recorder_left r d [] = r
-recorder_left r d (s ∷ ss) = recorder_left (recorder_by r d s.0 s.1) (device_by d s.0) ss
+recorder_left r d (s ∷ ss) = recorder_left (step_written r d s.0 s.1).leaves (device_by d s.0) ss
 
 abbrev pub step_calls : List (HostStep × ℕ) → List Call
 step_calls [] = []
@@ -57,12 +57,12 @@ step_calls ((makes c, n) ∷ ss) = c ∷ step_calls ss
 step_calls (s ∷ ss) = step_calls ss
 
 abbrev pub IsKept : Recorder → Device → HostStep → ℕ → Type 0
-IsKept r d (makes c) n = is_served d c ≡ true → (recorded_by r (call (recorded_call d c)) n).number ≡ 0
+IsKept r d (makes c) n = is_served d c ≡ true → is_ok (recorded_by r (call (recorded_call d c)) n).says ≡ true
 IsKept r d s n = Unit {0}
 
 abbrev pub AreKept : Recorder → Device → List (HostStep × ℕ) → Type 0
 AreKept r d [] = Unit {0}
-AreKept r d (s ∷ ss) = IsKept r d s.0 s.1 × AreKept (recorder_by r d s.0 s.1) (device_by d s.0) ss
+AreKept r d (s ∷ ss) = IsKept r d s.0 s.1 × AreKept (step_written r d s.0 s.1).leaves (device_by d s.0) ss
 
 abbrev pub HaveRoom : List (HostStep × ℕ) → Type 0
 HaveRoom [] = Unit {0}

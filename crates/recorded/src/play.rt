@@ -55,8 +55,8 @@ fn open(
 ) -> Result<usize, Stray>
     ensures same_reference { legal.new.device.ghost_name ≡ legal.old.device.ghost_name }
     ensures told { play_told result ≡ call_told legal.old.device.now (opens place random) }
-    ensures device { legal.new.device.now ≡ (opened_by legal.old.device.now random reply_room).device }
-    ensures reply { reply.new ≡ over (opened_by legal.old.device.now random reply_room).reply reply.old }
+    ensures device { legal.new.device.now ≡ (opened_by legal.old.device.now random reply_room).leaves }
+    ensures reply { reply.new ≡ over (opened_by legal.old.device.now random reply_room).bytes reply.old }
 {
     match calls::open(legal, random, reply) {
         Ok(opened) if is_recorded(opened.place, place) => Ok(opened.length),
@@ -73,8 +73,8 @@ fn receive(
 ) -> Result<usize, Stray>
     ensures same_reference { legal.new.device.ghost_name ≡ legal.old.device.ghost_name }
     ensures told { play_told result ≡ call_told legal.old.device.now (receives place bytes.now) }
-    ensures device { legal.new.device.now ≡ (received_at legal.old.device.now place bytes.now reply_room).device }
-    ensures reply { reply.new ≡ over (received_at legal.old.device.now place bytes.now reply_room).reply reply.old }
+    ensures device { legal.new.device.now ≡ (received_at legal.old.device.now place bytes.now reply_room).leaves }
+    ensures reply { reply.new ≡ over (received_at legal.old.device.now place bytes.now reply_room).bytes reply.old }
 {
     match calls::receive(legal, place as usize, bytes, reply) {
         Ok(received) => Ok(received.length),

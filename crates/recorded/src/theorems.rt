@@ -1,6 +1,7 @@
 // What is proved of recorded calls. Nothing is done here: that these functions have their contracts is that the
 // theorems stand.
 ghost use Rattle.std.specs.Prelude.{◌≡◌, ◌≤◌, ◌<◌, ◌+◌, ◌^◌, ℕ, true, List, [], ◌∷◌, Option, Some, map, length, take};
+ghost use Rattle.std.specs.Result.{is_ok};
 ghost use Rattle.record.specs.declared.types.Device.{Device};
 ghost use Rattle.ours.specs.Board.{ours};
 ghost use Rattle.demands.specs.Calls.{Call, run, gave_by};
@@ -41,7 +42,7 @@ pub fn served_calls_can_be_said()
         → Sayable (map call (recorded d cs)) }
     ensures one_recorded { (d : Device) (c : Call) → is_served d c ≡ true → (gave_by ours d c).taken ≤ received_most
         → (r : Recorder) → 1 ≤ r.file → r.lines < number_most
-        → (n : ℕ) → log_line_room ≤ n → (recorded_by r (call (recorded_call d c)) n).number ≡ 0 }
+        → (n : ℕ) → log_line_room ≤ n → is_ok (recorded_by r (call (recorded_call d c)) n).says ≡ true }
     ensures all_recorded { (d : Device) (ss : List (HostStep × ℕ)) → HaveRoom ss → TakeFew d (step_calls ss)
         → (r : Recorder) → 1 ≤ r.file → r.lines + length ss < number_most → AreKept r d ss }
     ensures all_from_a_header { (d : Device) (ss : List (HostStep × ℕ)) (t : Option (List ℕ)) (n : ℕ)

@@ -5,9 +5,10 @@
 use Rattle.std.proofs.Common.{ℕ, suc, zero, ◌≤◌, ◌≡◌, refl, sym, ap, subst, ◌∙◌, Bool, true, false, List, [], ◌∷◌, ◌++◌}
 use Rattle.std.proofs.Common.{arith, codes, map, take, append-nil, Option, None, ◌+◌, if◌then◌else◌}
 use Rattle.std.proofs.Math.Seq.{take-nil}
-use Rattle.text.specs.Outcomes.{WrittenAs}
+use Rattle.text.specs.Outcomes.{CallResult}
 use Rattle.text.proofs.Choices.{if_yes, if_no}
 use Rattle.record.specs.declared.types.Device.{Device}
+use Rattle.record.specs.declared.refusal.Refusal.{Refusal}
 use Rattle.textio.specs.Lines.{LogLine, texts_of}
 use Rattle.textio.proofs.LinesEnded.{lines_none}
 use Rattle.floorlog.specs.Kept.{kept, kept_lines}
@@ -24,7 +25,7 @@ use Rattle.history.proofs.Chain.{served, refused, tried, stated_tried}
 use Rattle.history.proofs.HeaderWord.{header_word}
 use Rattle.recorded.specs.Recorded.{is_served, recorded_call}
 use Rattle.recorded.specs.Following.{chain_begun, stray_from}
-use Rattle.recorded.specs.Hosts.{HostStep, begins, makes, states, step_written, recorder_by, device_by, host_log}
+use Rattle.recorded.specs.Hosts.{HostStep, begins, makes, states, step_written, device_by, host_log}
 use Rattle.recorded.specs.Hosts.{IsKept, AreKept}
 use Rattle.recorded.proofs.Followed.{stray_none}
 use Rattle.replay.specs.HistoryText.{recorded_text, recorded_stray, history_text}
@@ -43,35 +44,37 @@ header_begins f s t more =
 
 -- no line is recorded before a header is
 step_begins : (r : Recorder) (d : Device) (s : HostStep) (n : ℕ) (more : List ℕ) → r.file ≡ 0 → IsKept r d s n
-    → (recorder_by r d s n ≡ r → LogBegun more)
+    → ((step_written r d s n).leaves ≡ r → LogBegun more)
     → LogBegun ((step_written r d s n).bytes ++ more)
 step_begins r d (begins t) n more none kept later =
     elim (tried r (header_next r t) n) [
-      | served h free number bytes next ↦
+      | served h free said bytes next ↦
           subst LogBegun (sym (ap (λ (b : List ℕ). b ++ more) bytes)) (header_begins (r.file + 1) r.sum t more)
-      | refused number bytes next ↦ subst LogBegun (sym (ap (λ (b : List ℕ). b ++ more) bytes)) (later next)
+      | refused said bytes next ↦ subst LogBegun (sym (ap (λ (b : List ℕ). b ++ more) bytes)) (later next)
     ]
 step_begins r d states n more none kept later =
     elim (stated_tried r d n) [
-      | served h free number bytes next ↦ absurd (grind (arith, free, none))
-      | refused number bytes next ↦ subst LogBegun (sym (ap (λ (b : List ℕ). b ++ more) bytes)) (later next)
+      | served h free said bytes next ↦ absurd (grind (arith, free, none))
+      | refused said bytes next ↦ subst LogBegun (sym (ap (λ (b : List ℕ). b ++ more) bytes)) (later next)
     ]
 step_begins r d (makes c) n more none kept later = by (is_served d c) refl
   where
     by : (t : Bool) → is_served d c ≡ t → LogBegun ((step_written r d (makes c) n).bytes ++ more)
     by true e = elim (tried r (call (recorded_call d c)) n) [
-      | served h free number bytes next ↦ absurd (grind (arith, free, none))
-      | refused number bytes next ↦ absurd (grind (arith, kept e, number))
+      | served h free said bytes next ↦ absurd (grind (arith, free, none))
+      | refused said bytes next ↦ absurd (grind (arith, kept e, said))
     ]
     by false e =
-        subst LogBegun (sym (ap (λ (w : WrittenAs). w.bytes ++ more) (if_no _ _ e))) (later (if_no _ _ e))
+        subst LogBegun (sym (ap (λ (w : CallResult Refusal (Unit {0}) Recorder). w.bytes ++ more) (if_no _ _ e)))
+        (later (ap (λ (w : CallResult Refusal (Unit {0}) Recorder). w.leaves) (if_no _ _ e)))
 
 pub host_log_begins : (ss : List (HostStep × ℕ)) (r : Recorder) (d : Device) → r.file ≡ 0 → AreKept r d ss
     → LogBegun (host_log r d ss)
 host_log_begins [] r d none kept = nothing refl
 host_log_begins ((s, n) ∷ ss) r d none (one, kept) =
-    step_begins r d s n (host_log (recorder_by r d s n) (device_by d s) ss) none one
-    (λ same. host_log_begins ss (recorder_by r d s n) (device_by d s) (ap (λ (q : Recorder). q.file) same ∙ none) kept)
+    step_begins r d s n (host_log (step_written r d s n).leaves (device_by d s) ss) none one
+    (λ same.
+    host_log_begins ss (step_written r d s n).leaves (device_by d s) (ap (λ (q : Recorder). q.file) same ∙ none) kept)
 
 -- cut behind its first word, or later
 take_word : (n : ℕ) → 4 ≤ n → (rest : List ℕ)

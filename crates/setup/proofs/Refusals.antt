@@ -4,21 +4,20 @@ use Rattle.std.proofs.Common.{◌≡◌, true, false, length, Some, None, Ok, Er
 use Rattle.record.specs.Wanted.{Wanted}
 use Rattle.record.specs.Rules.{is_long_enough}
 use Rattle.record.specs.SetUp.{first_out_of_range, set_up}
-use Rattle.record.specs.SetUpErrors.{check_of}
 use Rattle.record.specs.declared.types.Setting.{Setting}
 use Rattle.record.specs.declared.set_up_error.SetUpError.TheVariants.{OutOfRange, ShortPassword}
 use Rattle.record.proofs.Calls.{refused_out, refused_short, none_refused, checked_set_up, checked_refused}
 
 module _ (w : Wanted) where
-  pub out_checked : (s : Setting) → Some s ≡ first_out_of_range w → Err (OutOfRange s) ≡ check_of (set_up w)
-  out_checked s e = sym (ap check_of (refused_out w s (sym e)))
+  pub out_checked : (s : Setting) → Some s ≡ first_out_of_range w → Err (OutOfRange s) ≡ (set_up w).says
+  out_checked s e = sym (ap (λ r. r.says) (refused_out w s (sym e)))
 
   module _ (e : None ≡ first_out_of_range w) where
-    pub short_checked : is_long_enough (length w.password) ≡ false → Err ShortPassword ≡ check_of (set_up w)
-    short_checked h = sym (ap check_of (refused_short w (sym e) h))
+    pub short_checked : is_long_enough (length w.password) ≡ false → Err ShortPassword ≡ (set_up w).says
+    short_checked h = sym (ap (λ r. r.says) (refused_short w (sym e) h))
 
-    pub all_checked : is_long_enough (length w.password) ≡ true → Ok tt ≡ check_of (set_up w)
-    all_checked h = sym (ap check_of (none_refused w (sym e) h))
+    pub all_checked : is_long_enough (length w.password) ≡ true → Ok tt ≡ (set_up w).says
+    all_checked h = sym (ap (λ r. r.says) (none_refused w (sym e) h))
 
 pub ruleset reasons = (short_checked, all_checked)
 

@@ -6,9 +6,9 @@ pub mod names;
 pub mod theorems;
 pub mod wanted;
 
-ghost use Rattle.std.specs.Prelude.{◌≡◌, true, OnErr, Ok};
-ghost use Rattle.record.specs.Record.{settings_of, blank};
-ghost use Rattle.record.specs.Given.{gives};
+ghost use Rattle.std.specs.Prelude.{◌≡◌, true, []};
+ghost use Rattle.text.specs.Outcomes.{served_as, with_record};
+ghost use Rattle.record.specs.Record.{settings_of};
 ghost use Rattle.record.specs.SetUp.{is_set_up, set_up};
 ghost use Rattle.setup.specs.Lent.{wanted_settings};
 
@@ -49,7 +49,7 @@ fn keep_settings(settings: &mut Settings, wanted: &Wanted<'_>)
 #[tactic(auto, using(crate::proofs::Fits::lamps_fit, record::proofs::Calls::set_up_made))]
 pub fn start_in(device: &mut Device, wanted: &Wanted<'_>)
     requires { is_set_up (wanted_settings wanted.now) ≡ true }
-    ensures { Ok device.new ≡ set_up (wanted_settings wanted.now) }
+    ensures { served_as tt [] device.new ≡ set_up (wanted_settings wanted.now) }
 {
     keep_settings(&mut device.settings, wanted);
     device.own = fill::start_own(wanted.lamps);
@@ -60,8 +60,8 @@ pub fn start_in(device: &mut Device, wanted: &Wanted<'_>)
 /// range; the password is too short. Then the record is the blank one (RULES, The numbers a call gives and Passwords).
 #[tactic(auto, using(crate::proofs::Refusals::outcomes))]
 pub fn set_up_in(device: &mut Device, wanted: &Wanted<'_>) -> Result<(), SetUpError>
-    ensures made { gives result device.new ≡ set_up (wanted_settings wanted.now) }
-    ensures refused { OnErr result (device.new ≡ blank) }
+    ensures says { result ≡ (set_up (wanted_settings wanted.now)).says }
+    ensures device { device.new ≡ (set_up (wanted_settings wanted.now)).leaves }
 {
     if let Err(error) = wanted.check() {
         fresh::clear(device);
@@ -73,7 +73,7 @@ pub fn set_up_in(device: &mut Device, wanted: &Wanted<'_>) -> Result<(), SetUpEr
 
 /// Returns a new record that is set up. Errors as for `set_up_in`.
 pub fn set_up(wanted: &Wanted<'_>) -> Result<Device, SetUpError>
-    ensures { result ≡ set_up (wanted_settings wanted.now) }
+    ensures { result ≡ with_record (set_up (wanted_settings wanted.now)) }
 {
     let mut device = fresh::blank();
     set_up_in(&mut device, wanted)?;

@@ -1,7 +1,6 @@
 // The settings that set-up is given, and whether they can be set up (RULES, The legal record).
 ghost use Rattle.std.specs.Prelude.{◌≡◌};
 ghost use Rattle.record.specs.SetUp.{is_setting_in_range, first_out_of_range, set_up};
-ghost use Rattle.record.specs.SetUpErrors.{check_of};
 ghost use Rattle.record.specs.Limits.{only_in_2};
 ghost use Rattle.record.specs.Rules.{are_names};
 ghost use Rattle.record.specs.Wanted.{wanted_of, names_in};
@@ -214,7 +213,7 @@ impl<'a> Wanted<'a> {
     /// is too short.
     #[tactic(auto, using(crate::proofs::Refusals::reasons))]
     pub fn check(&self) -> Result<(), SetUpError>
-        ensures { result ≡ check_of (set_up (wanted_settings self.now)) }
+        ensures { result ≡ (set_up (wanted_settings self.now)).says }
     {
         if let Some(setting) = self.first_out_of_range() {
             return Err(SetUpError::OutOfRange(setting));

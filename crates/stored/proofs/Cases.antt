@@ -1,13 +1,13 @@
 -- Loading by its cases: what it gives by the version, by what the form says and leaves, and by what set-up gave.
 -- Assumes nothing.
-use Rattle.std.proofs.Common.{ℕ, ◌<◌, ◌≡◌, Bool, true, false, ◌&&◌, ◌==◌, if◌then◌else◌, List, length, map, replicate}
+use Rattle.std.proofs.Common.{ℕ, ◌<◌, ◌≡◌, Bool, true, false, ◌&&◌, ◌==◌, if◌then◌else◌, List, [], length, map, replicate}
 use Rattle.std.proofs.Common.{Some, None, Result, Ok, Err, sym, ap, ◌∙◌, arith, OnOk}
 use Rattle.std.specs.Result.{is_ok}
 use Rattle.text.proofs.Choices.{if_yes, by_not}
 use Rattle.record.specs.Limits.{lamps_most, is_class_number}
 use Rattle.record.specs.Wanted.{Wanted}
 use Rattle.record.specs.Record.{start_device, blank}
-use Rattle.record.specs.Given.{Given, acceptance_of, refusal_with, gives}
+use Rattle.text.specs.Outcomes.{CallResult, served_as, refused_as}
 use Rattle.record.specs.SetUp.{is_set_up, set_up}
 use Rattle.record.specs.declared.types.Device.{Device}
 use Rattle.record.specs.declared.set_up_error.SetUpError.{SetUpError}
@@ -20,24 +20,25 @@ use Rattle.stored.proofs.Fields.{length-seconds_in}
 use Rattle.text.specs.Flags.{is_raised, flag_of}
 use Rattle.text.proofs.FlagsTold.{flags_replicate, flags_told}
 use Rattle.stored.specs.Form.{FormSaid, form}
-use Rattle.stored.specs.declared.error.LoadError.TheVariants.{LeftOver}
+use Rattle.stored.specs.declared.error.LoadError.{LoadError}
+use Rattle.stored.specs.declared.error.LoadError.TheVariants.{OtherVersion, CutShort, LeftOver, NotLegal}
 use Rattle.stored.specs.Loading.{is_other_version, contents, loaded_from, is_marks_of, are_marks}
 use Rattle.stored.specs.Loading.{started_with}
 use Rattle.stored.proofs.Marks.{are_marks-map, all_are_marks, started_with-replicate}
 
 -- by the version, and by what reading gives
 module _ (s : List ℕ) where
-  pub loaded_other : is_other_version s ≡ true → loaded_from s ≡ refusal_with 20 blank
+  pub loaded_other : is_other_version s ≡ true → loaded_from s ≡ refused_as blank OtherVersion
   unfolding loaded_from
   loaded_other v = grind (arith, v)
 
   module _ (v : is_other_version s ≡ false) where
-    pub loaded_cut : form s ≡ None → loaded_from s ≡ refusal_with 21 blank
+    pub loaded_cut : form s ≡ None → loaded_from s ≡ refused_as blank CutShort
     unfolding loaded_from
     loaded_cut e = grind (arith, v, e)
 
     module _ {f : FormSaid} {rest : List ℕ} (e : form s ≡ Some (f, rest)) where
-      pub loaded_over : (length rest == 0) ≡ false → loaded_from s ≡ refusal_with 22 blank
+      pub loaded_over : (length rest == 0) ≡ false → loaded_from s ≡ refused_as blank LeftOver
       unfolding loaded_from
       loaded_over h = rw (v, e, h)
 
@@ -63,15 +64,16 @@ module _ (w : Wanted) where
     pub taken : is_ok r ≡ is_set_up w
     pub made : OnOk r (d ≡ start_device w)
 
-  pub set_up_sets : (r : Result (Unit {0}) SetUpError) (d : Device) → gives r d ≡ set_up w → Sets r d
-  set_up_sets r d h = grind (arith, set_up_in_range, set_up_accepted)
+  pub set_up_sets : (r : Result (Unit {0}) SetUpError) (d : Device) → r ≡ (set_up w).says → d ≡ (set_up w).leaves
+      → Sets r d
+  set_up_sets r d h g = grind (arith, set_up_in_range, set_up_accepted)
 
   -- what a form says of it with these marks, and what a load of it gives where they may stand there
   abbrev pub saying : List ℕ → FormSaid
   saying marks = record { settings = w; marks = marks }
 
-  abbrev pub started_if : Bool → List Bool → Given Device
-  started_if t ms = if t then acceptance_of (started_with w ms) else refusal_with 23 blank
+  abbrev pub started_if : Bool → List Bool → CallResult LoadError (Unit {0}) Device
+  started_if t ms = if t then served_as tt [] (started_with w ms) else refused_as blank NotLegal
 
   module _ (ok : is_set_up w ≡ true) where
     abbrev n : ℕ
@@ -89,12 +91,12 @@ module _ (w : Wanted) where
     contents_tested made {m} {s} same e = grind (arith, started_parts)
 
     -- in the version that has none, each of its lamps is enabled
-    pub contents_unmarked : contents (saying (replicate n 1)) ≡ acceptance_of (start_device w)
+    pub contents_unmarked : contents (saying (replicate n 1)) ≡ served_as tt [] (start_device w)
     contents_unmarked =
         ap (λ (s : List ℕ). contents (saying s)) (sym (flags_replicate n))
         ∙ contents_of (replicate n true)
         ∙ if_yes _ _ (all_are_marks n (lamps_few w.lamps (each_in_range w ok Lamps)))
-        ∙ ap acceptance_of (started_with-replicate w ok)
+        ∙ ap (λ (d : Device). served_as tt [] d) (started_with-replicate w ok)
 
 pub ruleset said_contents = (contents_unmarked)
 

@@ -9,7 +9,8 @@ use Rattle.std.proofs.Common.{length-append, length-drop, length-take-le, le-ltb
 use Rattle.std.proofs.lemmas.Grind.{common_steps}
 use Rattle.std.proofs.lemmas.List.{take_all, take-append-le, drop-append-le}
 use Rattle.text.proofs.Choices.{if_no}
-use Rattle.record.specs.Given.{refusal_with}
+use Rattle.text.specs.Outcomes.{refused_as}
+use Rattle.stored.specs.declared.error.LoadError.TheVariants.{OtherVersion, LeftOver}
 use Rattle.record.specs.Record.{blank}
 use Rattle.stored.specs.Sections.{Field, field_and_then, ◌giving◌, given, byte, bytes, number, section_of, text, texts}
 use Rattle.stored.specs.Sections.{lamps_seconds}
@@ -178,7 +179,7 @@ within_form =
 
 -- what has bytes left over is told so, whatever they are
 left_over_told : (s : List ℕ) (f : FormSaid) (x : ℕ) (xs : List ℕ) → form s ≡ Some (f, x ∷ xs)
-    → loaded_from s ≡ (if is_other_version s then refusal_with 20 blank else refusal_with 22 blank)
+    → loaded_from s ≡ refused_as blank (if is_other_version s then OtherVersion else LeftOver)
 unfolding loaded_from
 left_over_told s f x xs e = grind arith
 

@@ -8,9 +8,10 @@ use Rattle.std.proofs.Common.{ℕ, ◌*◌, ◌/◌, ◌<◌, ◌≡◌, Bool, t
 use Rattle.std.proofs.Common.{map, take, refl, sym, ap, ◌∙◌, arith, append-nil, length-take-le}
 use Rattle.text.proofs.Choices.{if_yes, if_no}
 use Rattle.record.specs.Wanted.{Wanted}
-use Rattle.record.specs.Given.{acceptance_of, set_up_given}
-use Rattle.record.specs.SetUp.{is_set_up, set_up, is_setting_in_range}
-use Rattle.record.proofs.Calls.{set_up_accepted, set_up_shown}
+use Rattle.text.specs.Outcomes.{served_as, call_number}
+use Rattle.stored.specs.Told.{load_error_number}
+use Rattle.record.specs.SetUp.{is_set_up, is_setting_in_range}
+use Rattle.record.proofs.Calls.{set_up_shown}
 use Rattle.stored.specs.Form.{form_version, marked_version, old_version, form_bytes, form_of, marked_form_of}
 use Rattle.stored.specs.Form.{old_form_of, version_form, name_stored, stored_of, marks_stored, stored_form, form}
 use Rattle.stored.specs.Loading.{is_other_version, is_marks_of, contents, started_with, loaded_from, mark_room}
@@ -52,11 +53,11 @@ module _ (v : ℕ) (known : is_other_version (v ∷ []) ≡ false) (w : Wanted) 
   written : IsForm form (says v w ok older ms) s
   written = form_written v w ok older ms
 
-  pub version_over : (x : ℕ) (xs : List ℕ) → (loaded_from (s ++ x ∷ xs)).number ≡ 22
+  pub version_over : (x : ℕ) (xs : List ℕ) → call_number load_error_number (loaded_from (s ++ x ∷ xs)) ≡ 22
   unfolding form_bytes
   version_over x xs = grind (arith, loaded_over (s ++ x ∷ xs) known (written.again (x ∷ xs)))
 
-  pub version_cut : (k : ℕ) → k < length s → (loaded_from (take k s)).number ≡ 21
+  pub version_cut : (k : ℕ) → k < length s → call_number load_error_number (loaded_from (take k s)) ≡ 21
   unfolding form_bytes
   version_cut k l = grind (arith, loaded_cut (take k s) (is_other_version-take k s known) (written.cut k l))
 
@@ -73,33 +74,34 @@ module _ (v : ℕ) (known : is_other_version (v ∷ []) ≡ false) (marked : (v 
       ∙ ap (λ (s : List ℕ). contents (saying w s)) (if_no _ _ marked)
       ∙ contents_of w ok ms
 
-  marked_marks : (loaded_from (version_form v w ms)).number ≡ 0 → is_marks_of (length w.lamps) ms ≡ true
+  marked_marks : call_number load_error_number (loaded_from (version_form v w ms)) ≡ 0
+      → is_marks_of (length w.lamps) ms ≡ true
   marked_marks e = grind (arith, marked_loads, e)
 
 module _ (w : Wanted) (ok : is_set_up w ≡ true) where
   -- the newest
   module _ (ms : List Bool) where
     pub form_loads : is_marks_of (length w.lamps) ms ≡ true
-        → loaded_from (form_of w ms) ≡ acceptance_of (started_with w ms)
+        → loaded_from (form_of w ms) ≡ served_as tt [] (started_with w ms)
     form_loads h = marked_loads form_version refl refl w ok (λ e. absurd (cc)) ms ∙ if_yes _ _ h
 
-    pub form_marks : (loaded_from (form_of w ms)).number ≡ 0 → is_marks_of (length w.lamps) ms ≡ true
+    pub form_marks : call_number load_error_number (loaded_from (form_of w ms)) ≡ 0
+        → is_marks_of (length w.lamps) ms ≡ true
     form_marks = marked_marks form_version refl refl w ok (λ e. absurd (cc)) ms
 
   -- the two before it
   module _ (one : w.class ≡ 1) where
     module _ (ms : List Bool) where
       pub marked_form_loads : is_marks_of (length w.lamps) ms ≡ true
-          → loaded_from (marked_form_of w ms) ≡ acceptance_of (started_with w ms)
+          → loaded_from (marked_form_of w ms) ≡ served_as tt [] (started_with w ms)
       marked_form_loads h = marked_loads marked_version refl refl w ok (λ e. one) ms ∙ if_yes _ _ h
 
-      pub marked_form_marks : (loaded_from (marked_form_of w ms)).number ≡ 0 → is_marks_of (length w.lamps) ms ≡ true
+      pub marked_form_marks : call_number load_error_number (loaded_from (marked_form_of w ms)) ≡ 0
+          → is_marks_of (length w.lamps) ms ≡ true
       marked_form_marks = marked_marks marked_version refl refl w ok (λ e. one) ms
 
-    pub old_form_loads : loaded_from (old_form_of w) ≡ set_up_given (set_up w)
-    old_form_loads =
-        version_loads old_version refl w ok (λ e. one) [] ∙ contents_unmarked w ok
-        ∙ sym (ap set_up_given (set_up_accepted w ok))
+    pub old_form_loads : loaded_from (old_form_of w) ≡ served_as tt [] (start_device w)
+    old_form_loads = version_loads old_version refl w ok (λ e. one) [] ∙ contents_unmarked w ok
 
 -- ---- a board swap
 
@@ -163,12 +165,12 @@ module _ (d : Device) (h : is_legal d ≡ true) where
   stored_marks =
       grind (arith, front_seen _ _ own.marks told.lamps, lamps_many, mark_room-marks_stored, own.marks)
 
-  pub stored_loads : loaded_from (stored_form d) ≡ acceptance_of (started_with (stored_of d) (marks_stored d))
+  pub stored_loads : loaded_from (stored_form d) ≡ served_as tt [] (started_with (stored_of d) (marks_stored d))
   stored_loads = form_loads (stored_of d) stored_in_range (marks_stored d) stored_marks
 
   -- in the words of the record
   pub stored_loads_as : loaded_from (stored_form d)
-      ≡ acceptance_of
+      ≡ served_as tt []
       (with_own (start_device (stored_of d)) (with_marks (start_device (stored_of d)).own d.own.enabled))
   stored_loads_as = grind (arith, stored_loads, mark_room-marks_stored)
 

@@ -8,7 +8,9 @@ use Rattle.std.proofs.lemmas.List.{length-map}
 use Rattle.words.specs.Bytes.{◌at◌}
 use Rattle.record.specs.Wanted.{Wanted}
 use Rattle.record.specs.declared.types.Device.{Device}
-use Rattle.record.specs.Given.{Given}
+use Rattle.text.specs.Outcomes.{CallResult, call_number}
+use Rattle.stored.specs.Told.{load_error_number}
+use Rattle.stored.specs.declared.error.LoadError.{LoadError}
 use Rattle.text.specs.Flags.{is_raised}
 use Rattle.text.proofs.FlagsTold.{flags_replicate, flags_told, flags_again}
 use Rattle.stored.specs.Form.{form_bytes, form_version, old_version, version_form, old_form_of, stored_of}
@@ -21,9 +23,9 @@ use Rattle.stored.proofs.Fields.{Bytes}
 use Rattle.stored.proofs.Grammar.{ReadAs, form_read}
 
 -- what a load gives, stored: the settings and the marks in the bytes
-module _ (s : List ℕ) (e : (loaded_from s).number ≡ 0) where
+module _ (s : List ℕ) (e : call_number load_error_number (loaded_from s) ≡ 0) where
   abbrev d : Device
-  d = (loaded_from s).device
+  d = (loaded_from s).leaves
 
   told : IsAccepted s
   told = accepted_told s e
@@ -35,7 +37,7 @@ module _ (s : List ℕ) (e : (loaded_from s).number ≡ 0) where
   marks = (marks_are _ (mark_bytes_in s)).0 told.marks
 
   gave : d ≡ started_with (settings_in s) (marks_read s)
-  gave = ap (λ (c : Given Device). c.device) (accepted_set_up s e)
+  gave = ap (λ (c : CallResult LoadError (Unit {0}) Device). c.leaves) (accepted_set_up s e)
 
   settings_stored : stored_of d ≡ settings_in s
   settings_stored = ap stored_of gave ∙ started_stored (settings_in s) told.contents
@@ -65,7 +67,7 @@ unfolding form_bytes
 old_unmarked w ms = refl
 
 -- each lamp of an old form is enabled
-pub old_enabled : (s : List ℕ) (e : (loaded_from s).number ≡ 0) → s at 0 ≡ old_version
+pub old_enabled : (s : List ℕ) (e : call_number load_error_number (loaded_from s) ≡ 0) → s at 0 ≡ old_version
     → marks_stored (d s e) ≡ replicate (length (stored_of (d s e)).lamps) true
 old_enabled s e o =
     let n = length (settings_in s).lamps in
@@ -76,8 +78,8 @@ old_enabled s e o =
     ∙ ap (λ (w : Wanted). replicate (length w.lamps) true) (sym (settings_stored s e))
 
 -- bytes of one version that load as one record are one
-pub forms_apart : (s t : List ℕ) → Bytes s → Bytes t → (loaded_from s).number ≡ 0 → (loaded_from t).number ≡ 0
-    → s at 0 ≡ t at 0
-    → (loaded_from s).device ≡ (loaded_from t).device → s ≡ t
+pub forms_apart : (s t : List ℕ) → Bytes s → Bytes t → call_number load_error_number (loaded_from s) ≡ 0
+    → call_number load_error_number (loaded_from t) ≡ 0 → s at 0 ≡ t at 0
+    → (loaded_from s).leaves ≡ (loaded_from t).leaves → s ≡ t
 unfolding form_bytes loaded_from
 forms_apart s t b c e f version same = grind (arith, stored_as_it_was)

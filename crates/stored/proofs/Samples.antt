@@ -1,12 +1,13 @@
 -- The printed forms of specs/Printed.antt are stored and loaded, and bytes that are none are refused, by computing.
 -- Assumes nothing.
-use Rattle.std.proofs.Common.{◌≡◌, length, refl}
+use Rattle.std.proofs.Common.{◌≡◌, [], length, refl}
 use Rattle.numbers.specs.Computing.{computing as number-computing}
 use Rattle.record.specs.Record.{start_device}
-use Rattle.record.specs.Given.{acceptance_of}
+use Rattle.text.specs.Outcomes.{served_as, call_number}
 use Rattle.record.specs.Computing.{computing as record-computing}
 use Rattle.stored.specs.Form.{form_of, marked_form_of, old_form_of, form_most}
 use Rattle.stored.specs.Loading.{started_with, loaded_from}
+use Rattle.stored.specs.Told.{load_error_number}
 use Rattle.stored.specs.Printed.{cutting_room, class_room, only_first, printed_form, printed_class_2, printed_marked}
 use Rattle.stored.specs.Printed.{printed_old, AreLoadedAs, refused_rows, class_rows, old_rows, marks_rows, widest_form}
 use Rattle.stored.specs.Computing.{computing}
@@ -15,7 +16,7 @@ pub printed_stored : form_of cutting_room only_first ≡ printed_form
 unfolding computing number-computing
 printed_stored = refl
 
-pub printed_loads : loaded_from printed_form ≡ acceptance_of (started_with cutting_room only_first)
+pub printed_loads : loaded_from printed_form ≡ served_as tt [] (started_with cutting_room only_first)
 unfolding computing number-computing record-computing
 printed_loads = refl
 
@@ -23,7 +24,7 @@ pub class_printed_lem : form_of class_room only_first ≡ printed_class_2
 unfolding computing number-computing
 class_printed_lem = refl
 
-pub class_printed_loaded : loaded_from printed_class_2 ≡ acceptance_of (started_with class_room only_first)
+pub class_printed_loaded : loaded_from printed_class_2 ≡ served_as tt [] (started_with class_room only_first)
 unfolding computing number-computing record-computing
 class_printed_loaded = refl
 
@@ -31,7 +32,7 @@ pub marked_printed_lem : marked_form_of cutting_room only_first ≡ printed_mark
 unfolding computing number-computing
 marked_printed_lem = refl
 
-pub marked_printed_loaded : loaded_from printed_marked ≡ acceptance_of (started_with cutting_room only_first)
+pub marked_printed_loaded : loaded_from printed_marked ≡ served_as tt [] (started_with cutting_room only_first)
 unfolding computing number-computing record-computing
 marked_printed_loaded = refl
 
@@ -39,7 +40,7 @@ pub old_printed_lem : old_form_of cutting_room ≡ printed_old
 unfolding computing number-computing
 old_printed_lem = refl
 
-pub old_printed_loaded : loaded_from printed_old ≡ acceptance_of (start_device cutting_room)
+pub old_printed_loaded : loaded_from printed_old ≡ served_as tt [] (start_device cutting_room)
 unfolding computing number-computing record-computing
 old_printed_loaded = refl
 
@@ -60,7 +61,7 @@ pub each_marked : AreLoadedAs marks_rows
 unfolding computing number-computing record-computing
 each_marked = (refl, (refl, (refl, (refl, (refl, tt)))))
 
-pub widest_loads : (loaded_from widest_form).number ≡ 0
+pub widest_loads : call_number load_error_number (loaded_from widest_form) ≡ 0
 unfolding computing number-computing record-computing
 widest_loads = refl
 

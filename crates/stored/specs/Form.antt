@@ -29,15 +29,15 @@
 --   stored_of d                what is stored of a record: its settings, and each lamp's seconds as they are now
 --   marks_stored d             and each lamp's mark
 --   said_stored d              a form says both;    stored_form d    the form of both
---   storing_rows d room        when it is refused, and with which number: memory is short by this form's own length
---   stored_by d room           refused with no byte, or the form
+--   storing_rows d room        when it is refused: memory is short by this form's own length
+--   stored_by d room           refused, or the form
 -- Assumes nothing.
 use Rattle.std.specs.Prelude.{ℕ, ◌*◌, ◌/◌, Bool, not, List, [], ◌∷◌, map, length, take, replicate}
 use Rattle.std.specs.Prelude.{if◌then◌else◌, nat_lt, ◌==◌}
 use Rattle.text.specs.Flags.{flag_of}
 use Rattle.text.specs.InTurn.{each_in_turn}
-use Rattle.text.specs.Rows.{NumberRow, ◌when◌, by_rows}
-use Rattle.text.specs.Outcomes.{WrittenAs, nothing_written}
+use Rattle.text.specs.Rows.{RefusalRow, ◌when◌, by_rows}
+use Rattle.text.specs.Outcomes.{CallResult, served_as, refused_as}
 use Rattle.record.specs.Limits.{only_in_2}
 use Rattle.record.specs.Wanted.{Wanted, wanted_of}
 use Rattle.record.specs.Legal.{is_legal}
@@ -45,6 +45,8 @@ use Rattle.record.specs.Views.{marks_seen}
 use Rattle.record.specs.declared.types.Text.{Text}
 use Rattle.record.specs.declared.types.InputName.{InputName}
 use Rattle.record.specs.declared.types.Device.{Device}
+use Rattle.record.specs.declared.refusal.Refusal.{Refusal}
+use Rattle.record.specs.declared.refusal.Refusal.TheVariants.{NotLegal, NoRoom}
 use Rattle.stored.specs.Sections.{Field, ◌giving◌, given, byte, Format, in_byte, in_two_bytes, a_text, a_list}
 use Rattle.stored.specs.Sections.{lamps_seconds, many_texts}
 
@@ -198,8 +200,8 @@ said_stored d = settings_marked (stored_of d) (marks_stored d)
 abbrev pub stored_form : Device → List ℕ
 stored_form d = form_of (stored_of d) (marks_stored d)
 
-abbrev pub storing_rows : Device → ℕ → List NumberRow
-storing_rows d room = (1 when not (is_legal d)) ∷ (2 when nat_lt room (length (stored_form d))) ∷ []
+abbrev pub storing_rows : Device → ℕ → List (RefusalRow Refusal)
+storing_rows d room = (NotLegal when not (is_legal d)) ∷ (NoRoom when nat_lt room (length (stored_form d))) ∷ []
 
-unfoldable pub stored_by : Device → ℕ → WrittenAs
-stored_by d room = by_rows (storing_rows d room) nothing_written (record { number = 0; bytes = stored_form d })
+unfoldable pub stored_by : Device → ℕ → CallResult Refusal (Unit {0}) (Unit {0})
+stored_by d room = by_rows (storing_rows d room) (refused_as tt) (served_as tt (stored_form d) tt)

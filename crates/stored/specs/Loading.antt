@@ -12,7 +12,7 @@
 --   started_with w ms         the device that a set-up of w gives, the lamps with the marks ms
 --   is_legal_said f           what is said can be set up, and the marks are those of its lamps
 --   contents f                what loading gives by what is said, where that is all that stands there
---   load_rows s               when a load is refused, and with which number
+--   load_rows s               when a load is refused
 --   loaded_from s             refused with the blank record, or the set-up of the settings in s with the marks in s
 -- Assumes nothing.
 use Rattle.std.specs.Prelude.{ℕ, Bool, true, false, not, ◌&&◌, List, [], ◌∷◌, map, length, Option, Some, None}
@@ -20,16 +20,18 @@ use Rattle.std.specs.Prelude.{if◌then◌else◌, ◌==◌}
 use Rattle.std.specs.List.{list_all}
 use Rattle.text.specs.Flags.{is_flag, is_raised, flag_of}
 use Rattle.text.specs.Rooms.{filled_room}
-use Rattle.text.specs.Rows.{NumberRow, ◌when◌, by_rows}
+use Rattle.text.specs.Rows.{RefusalRow, ◌when◌, by_rows}
+use Rattle.text.specs.Outcomes.{CallResult, served_as, refused_as}
 use Rattle.record.specs.Limits.{lamps_most}
 use Rattle.record.specs.Wanted.{Wanted}
 use Rattle.record.specs.Rules.{is_marks}
 use Rattle.record.specs.Updates.{with_own, with_marks}
 use Rattle.record.specs.Record.{start_device, blank}
-use Rattle.record.specs.Given.{Given, acceptance_of, refusal_with}
 use Rattle.record.specs.SetUp.{is_set_up}
 use Rattle.record.specs.declared.types.Device.{Device}
 use Rattle.stored.specs.Form.{form_version, marked_version, old_version, FormSaid, nothing_said, form}
+use Rattle.stored.specs.declared.error.LoadError.{LoadError}
+use Rattle.stored.specs.declared.error.LoadError.TheVariants.{OtherVersion, CutShort, LeftOver, NotLegal}
 
 abbrev pub is_other_version : List ℕ → Bool
 is_other_version [] = false
@@ -81,15 +83,16 @@ started_with w ms = with_own (start_device w) (with_marks (start_device w).own (
 abbrev pub is_legal_said : FormSaid → Bool
 is_legal_said f = is_set_up f.settings && are_marks (length f.settings.lamps) f.marks
 
-abbrev pub contents : FormSaid → Given Device
+abbrev pub contents : FormSaid → CallResult LoadError (Unit {0}) Device
 contents f =
-    if is_legal_said f then acceptance_of (started_with f.settings (map is_raised f.marks)) else refusal_with 23 blank
+    if is_legal_said f then served_as tt [] (started_with f.settings (map is_raised f.marks))
+    else refused_as blank NotLegal
 
-abbrev pub load_rows : List ℕ → List NumberRow
+abbrev pub load_rows : List ℕ → List (RefusalRow LoadError)
 load_rows s =
-    (20 when is_other_version s) ∷ (21 when is_cut_short s) ∷ (22 when is_left_over s)
-    ∷ (23 when not (is_legal_said (said_in s))) ∷ []
+    (OtherVersion when is_other_version s) ∷ (CutShort when is_cut_short s) ∷ (LeftOver when is_left_over s)
+    ∷ (NotLegal when not (is_legal_said (said_in s))) ∷ []
 
-unfoldable pub loaded_from : List ℕ → Given Device
+unfoldable pub loaded_from : List ℕ → CallResult LoadError (Unit {0}) Device
 loaded_from s =
-    by_rows (load_rows s) (λ n. refusal_with n blank) (acceptance_of (started_with (settings_in s) (marks_read s)))
+    by_rows (load_rows s) (refused_as blank) (served_as tt [] (started_with (settings_in s) (marks_read s)))

@@ -18,6 +18,8 @@ use Rattle.record.specs.Limits.{lamp_limit}
 use Rattle.record.specs.Wanted.{Wanted, wanted_of, wanted_of_2, with_password}
 use Rattle.record.specs.Record.{zeros}
 use Rattle.stored.specs.Form.{form_version, form_bytes, form_of}
+use Rattle.text.specs.Outcomes.{call_number}
+use Rattle.stored.specs.Told.{load_error_number}
 use Rattle.stored.specs.Loading.{loaded_from}
 
 infix 30 ◌is_loaded_as◌
@@ -148,7 +150,7 @@ marks_rows =
 
 abbrev pub AreLoadedAs : List LoadedRow → Type 0
 AreLoadedAs [] = Unit {0}
-AreLoadedAs (row ∷ rows) = ((loaded_from row.bytes).number ≡ row.number) × AreLoadedAs rows
+AreLoadedAs (row ∷ rows) = (call_number load_error_number (loaded_from row.bytes) ≡ row.number) × AreLoadedAs rows
 
 -- the longest form there is: every text, the inputs and the lamps as many as are allowed
 abbrev pub widest_form : List ℕ

@@ -1,19 +1,18 @@
 // Loading a stored form (RULES, Stored form and Lamps): the version, then whether the bytes end with the form, then
 // what it says. The record is made where it lies, so that no copy of it is on the stack.
-ghost use Rattle.std.specs.Prelude.{◌≡◌, ◌/◌, ◌==◌, ◌&&◌, ◌≤◌, true, map, length, IfErr, OnOk, OnErr};
+ghost use Rattle.std.specs.Prelude.{◌≡◌, ◌/◌, ◌==◌, ◌&&◌, ◌≤◌, true, map, length, IfErr, OnOk};
 ghost use Rattle.std.specs.List.{list_all};
 ghost use Rattle.std.specs.Result.{is_ok};
 ghost use Rattle.text.specs.Flags.{is_flag, is_raised};
+ghost use Rattle.text.specs.Outcomes.{with_record};
 ghost use Rattle.record.specs.Limits.{lamps_most};
-ghost use Rattle.record.specs.Record.{in_room, start_device, blank};
+ghost use Rattle.record.specs.Record.{in_room, start_device};
 ghost use Rattle.record.specs.Updates.{with_own, with_marks};
 ghost use Rattle.record.specs.Facts.{IsLegal};
 ghost use Rattle.record.specs.SetUp.{is_set_up};
-ghost use Rattle.record.specs.Given.{gives};
 ghost use Rattle.stored.specs.Sections.{seconds_in};
 ghost use Rattle.stored.specs.Loading.{is_other_version, mark_room, are_marks};
 ghost use Rattle.stored.specs.Loading.{contents, loaded_from};
-ghost use Rattle.stored.specs.Told.{loading_told};
 ghost use Rattle.stored.specs.Views.{said_of};
 ghost use Rattle.stored.specs.declared.error.LoadError.TheVariants.{NotLegal};
 
@@ -119,7 +118,8 @@ impl<'a> Form<'a> {
     // And with its marks: all set where it has none.
     #[tactic(auto, using(crate::proofs::Cases::said_contents))]
     fn load_in(&self, device: &mut Device) -> Result<(), LoadError>
-        ensures { loading_told (gives result device.new) ≡ contents (said_of self.now) }
+        ensures says { result ≡ (contents (said_of self.now)).says }
+        ensures device { OnOk result (device.new ≡ (contents (said_of self.now)).leaves) }
     {
         self.start(device)?;
         let Some(marks) = self.marks else {
@@ -135,7 +135,8 @@ impl<'a> Form<'a> {
 // Where it is refused, what the record is then is not said.
 #[tactic(auto, using(crate::proofs::Cases::loaded_early))]
 fn read_in(device: &mut Device, bytes: &[u8]) -> Result<(), LoadError>
-    ensures { loading_told (gives result device.new) ≡ loaded_from bytes.now }
+    ensures says { result ≡ (loaded_from bytes.now).says }
+    ensures device { OnOk result (device.new ≡ (loaded_from bytes.now).leaves) }
 {
     if is_other_version(bytes) {
         return Err(LoadError::OtherVersion);
@@ -149,9 +150,10 @@ fn read_in(device: &mut Device, bytes: &[u8]) -> Result<(), LoadError>
 /// The record as a stored form has it, freshly set up: its lamps' seconds and marks are those of the form. The version
 /// is tested first, then what is cut short, then what is left over, then the contents; where it is refused, the record
 /// is the blank one (RULES, Stored form).
+#[tactic(auto, using(crate::proofs::Results::load_refused))]
 pub fn load_in(device: &mut Device, bytes: &[u8]) -> Result<(), LoadError>
-    ensures made { loading_told (gives result device.new) ≡ loaded_from bytes.now }
-    ensures refused { OnErr result (device.new ≡ blank) }
+    ensures says { result ≡ (loaded_from bytes.now).says }
+    ensures device { device.new ≡ (loaded_from bytes.now).leaves }
 {
     let Err(error) = read_in(device, bytes) else {
         return Ok(());
@@ -162,7 +164,7 @@ pub fn load_in(device: &mut Device, bytes: &[u8]) -> Result<(), LoadError>
 
 /// The same, of a record of its own.
 pub fn load(bytes: &[u8]) -> Result<Device, LoadError>
-    ensures { loading_told result ≡ loaded_from bytes.now }
+    ensures { result ≡ with_record (loaded_from bytes.now) }
 {
     let mut device = fresh::blank();
     load_in(&mut device, bytes)?;

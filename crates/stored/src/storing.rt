@@ -2,9 +2,8 @@
 // enabled mark. The parts stand in the order of the form.
 ghost use Rattle.std.specs.Prelude.{◌≡◌, ◌+◌, ◌^◌, ◌<◌, ◌≤◌, length};
 ghost use Rattle.text.specs.Words.{over};
-ghost use Rattle.text.specs.Outcomes.{told_written, written_told};
+ghost use Rattle.text.specs.Outcomes.{with_length};
 ghost use Rattle.lent.specs.Puts.{Puts};
-ghost use Rattle.record.specs.Refusals.{refusal_number};
 ghost use Rattle.record.specs.Legal.{is_legal};
 ghost use Rattle.record.specs.Facts.{IsSettings, IsLegal};
 ghost use Rattle.stored.specs.Form.{parts_written, parts_with_class, said_stored, stored_form, stored_by};
@@ -86,7 +85,7 @@ pub fn put_form(device: &Device, out: &mut [u8]) -> usize
 /// for memory shorter than the form; then nothing is written.
 #[tactic(auto, using(crate::proofs::FormMost::stored_fits), unfolding(crate::specs::Form::stored_by))]
 pub fn store(device: &Device, out: &mut [u8]) -> Result<usize, Refusal>
-    ensures told { written_told refusal_number result ≡ told_written (stored_by device.now (length out.old)) }
+    ensures says { result ≡ with_length (stored_by device.now (length out.old)) }
     ensures written { out.new ≡ over (stored_by device.now (length out.old)).bytes out.old }
 {
     if !device.is_legal() {

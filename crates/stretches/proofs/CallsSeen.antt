@@ -6,15 +6,14 @@
 use Rattle.std.proofs.Common.{ℕ, ◌≡◌, refl, sym, ap, subst, ◌∙◌, Bool, true, false, List, [], ◌∷◌, arith, replicate}
 use Rattle.std.proofs.Common.{◌==◌}
 use Rattle.std.proofs.Common.{ne_eqb}
-use Rattle.std.specs.Prelude.{Result as Outcome, if◌then◌else◌}
-use Rattle.text.specs.Outcomes.{outcome_number}
+use Rattle.std.specs.Prelude.{if◌then◌else◌}
+use Rattle.text.specs.Outcomes.{CallResult, call_number}
 use Rattle.text.proofs.Choices.{if_yes, if_no, if_all}
 use Rattle.record.specs.Refusals.{refusal_number}
 use Rattle.record.specs.declared.refusal.Refusal.{Refusal}
 use Rattle.record.specs.Limits.{off}
 use Rattle.record.specs.Legal.{is_legal}
 use Rattle.record.specs.Wanted.{Wanted}
-use Rattle.record.specs.Given.{Given}
 use Rattle.record.specs.declared.types.Device.{Device}
 use Rattle.record.proofs.Calls.{mark_set_by}
 use Rattle.clock.proofs.Cases.{passed_accepted}
@@ -46,8 +45,10 @@ module _ (w : Wanted) (g : Stage) (ms : List Bool) (n : ℕ → ℕ) (stream : S
       if_all (Seen g 0) _ (one_or_none (Seen g 0) _ _ (nothing refl) (λ wanted. power wanted refl)) (nothing refl)
   seen_of_call (passes k) =
       subst (Seen g k) (sym (if_yes _ _
-      (ap (λ (r : Outcome Device Refusal). outcome_number refusal_number r == 0) (passed_accepted d k legal)))) time
+      (ap (λ (r : CallResult Refusal (Unit {0}) Device). call_number refusal_number r == 0) (passed_accepted d k legal))))
+      time
   seen_of_call (enables lamp to) =
-      mark_set_by d (λ (r : Given Device). Seen g 0 (if r.number == 0 then mark_switched lamp to ∷ [] else [])) lamp to
-      (λ m z. subst (Seen g 0) (sym (if_no _ _ (ne_eqb m 0 z))) (nothing refl))
+      mark_set_by d
+      (λ c. Seen g 0 (if call_number refusal_number c == 0 then mark_switched lamp to ∷ [] else [])) lamp to
+      (λ e z. subst (Seen g 0) (sym (if_no _ _ (ne_eqb (refusal_number e) 0 z))) (nothing refl))
       (λ h there left idle. mark lamp to (is_off g (sym a.power ∙ idle)) refl)

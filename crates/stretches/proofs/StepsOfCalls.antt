@@ -8,9 +8,9 @@ use Rattle.text.proofs.Choices.{if_yes, if_no}
 use Rattle.record.specs.Legal.{is_legal}
 use Rattle.record.specs.Places.{connection_at, is_closed}
 use Rattle.record.specs.declared.types.Device.{Device}
-use Rattle.device.specs.Calls.{Result, reply_room, received_at, opened_by}
+use Rattle.device.specs.Calls.{reply_room, received_at, opened_by}
 use Rattle.floorlog.specs.Events.{opens, receives, passes, closes, no_such}
-use Rattle.floorlog.specs.Doing.{log_place}
+use Rattle.floorlog.specs.Doing.{EventResult, log_place}
 use Rattle.floorlog.proofs.LogOpenings.{log_opened_again, log_opened_closed}
 use Rattle.ours.specs.Board.{ours}
 use Rattle.demands.specs.Calls.{Call, after, run, opens as opens_at}
@@ -103,15 +103,15 @@ event_step d legal {es} {cs} (logged (opens r)) more = by (is_closed (connection
     by : (t : Bool) → is_closed (connection_at d log_place) ≡ t → Here d (logged (opens r)) more
     by true e =
         called d (logged (opens r)) more (opens_at r reply_memory) (if_yes _ _ e)
-        (ap (λ (n : ℕ). (opened_by d r n).device) memory_long
-        ∙ sym (done_opening d r ∙ ap (λ (q : Result Device). q.device) (log_opened_closed d r legal e)))
+        (ap (λ (n : ℕ). (opened_by d r n).leaves) memory_long
+        ∙ sym (done_opening d r ∙ ap (λ (q : EventResult). q.leaves) (log_opened_closed d r legal e)))
         refl
     by false e =
         quiet d (logged (opens r)) more (if_no _ _ e)
-        (done_opening d r ∙ ap (λ (q : Result Device). q.device) (log_opened_again d r legal e)) refl
+        (done_opening d r ∙ ap (λ (q : EventResult). q.leaves) (log_opened_again d r legal e)) refl
 event_step d legal (logged (receives bs)) more =
     called d (logged (receives bs)) more _ refl
-    (ap (λ (n : ℕ). (received_at d log_place bs n).device) memory_long ∙ sym (done_receiving d bs)) refl
+    (ap (λ (n : ℕ). (received_at d log_place bs n).leaves) memory_long ∙ sym (done_receiving d bs)) refl
 event_step d legal (logged (passes k)) more = called d (logged (passes k)) more _ refl (sym (done_passing d k)) refl
 event_step d legal (logged closes) more = called d (logged closes) more _ refl (sym (done_closing d)) refl
 event_step d legal (logged no_such) more = quiet d (logged no_such) more refl (done_nothing d) refl

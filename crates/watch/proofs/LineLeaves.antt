@@ -4,7 +4,6 @@ use Rattle.std.proofs.Common.{ℕ, ◌≤◌, ◌≡◌, refl, ◌∙◌, true, 
 use Rattle.record.specs.Legal.{is_legal}
 use Rattle.record.specs.Places.{connection_at}
 use Rattle.record.specs.declared.types.Device.{Device}
-use Rattle.record.specs.Given.{Given}
 use Rattle.record.proofs.Calls.{mark_set_by, mark_not_legal}
 use Rattle.record.proofs.HostKept.{mark_legal}
 use Rattle.clock.specs.Passing.{seconds_most}
@@ -20,7 +19,7 @@ module _ (d : Device) where
   unfolding done_by
   done_settings (logged e) = event_result-settings d e
   done_settings (marked lamp mark) =
-      mark_set_by d (λ (r : Given Device). r.device.settings ≡ d.settings) lamp mark (λ n z. refl) (λ h i l p. refl)
+      mark_set_by d (λ c. c.leaves.settings ≡ d.settings) lamp mark (λ e z. refl) (λ h i l p. refl)
 
   pub done_legality : (e : WatchedLogEvent) → is_legal (done_by d e) ≡ is_legal d
   unfolding done_by
@@ -34,7 +33,7 @@ module _ (d : Device) where
   done_drives (logged e) = did_drives d e
   done_drives (marked lamp mark) =
       none_pass d (done_by d (marked lamp mark))
-      (mark_set_by d (λ (r : Given Device). Stays r.device) lamp mark (λ n z. itself_kept d) (λ h i l p. itself_kept d))
+      (mark_set_by d (λ c. Stays c.leaves) lamp mark (λ e z. itself_kept d) (λ h i l p. itself_kept d))
     where
       Stays : Device → Type 0
       Stays after = set d.connections log_place (connection_at after log_place) ≡ after.connections

@@ -13,10 +13,9 @@
 -- Assumes nothing.
 use Rattle.std.specs.Prelude.{ℕ, ◌-◌, Bool, ◌&&◌, List, [], ◌∷◌, length, if◌then◌else◌, ◌==◌, Option, Some, None}
 use Prim.Native.Char.{code}
-use Rattle.text.specs.Outcomes.{outcome_number}
+use Rattle.text.specs.Outcomes.{call_number}
 use Rattle.text.specs.Words.{◌is◌, ◌from◌to◌}
 use Rattle.words.specs.Bytes.{◌at◌}
-use Rattle.record.specs.Given.{left_by}
 use Rattle.record.specs.HostCalls.{mark_set}
 use Rattle.record.specs.Refusals.{refusal_number}
 use Rattle.record.specs.declared.types.Device.{Device}
@@ -52,12 +51,12 @@ watched_said (Logged e) = logged (event_said e)
 watched_said (Marked lamp mark) = marked lamp mark
 
 unfoldable pub done_by : Device → WatchedLogEvent → Device
-done_by d (logged e) = (event_result d e).device
-done_by d (marked lamp mark) = (left_by d (mark_set d lamp mark))
+done_by d (logged e) = (event_result d e).leaves
+done_by d (marked lamp mark) = (mark_set d lamp mark).leaves
 
 abbrev pub watched_answer : Device → WatchedLogEvent → Option ℕ
 watched_answer d (logged e) = answer d e
-watched_answer d (marked lamp mark) = Some (outcome_number refusal_number (mark_set d lamp mark))
+watched_answer d (marked lamp mark) = Some (call_number refusal_number (mark_set d lamp mark))
 
 abbrev pub seconds_by : WatchedLogEvent → ℕ
 seconds_by (logged e) = seconds_of e

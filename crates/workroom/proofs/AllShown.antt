@@ -11,8 +11,9 @@ use Rattle.record.specs.declared.types.Settings.{Settings}
 use Rattle.record.specs.declared.types.Own.{Own}
 use Rattle.record.specs.declared.types.Connection.{Connection}
 use Rattle.record.specs.declared.types.Device.{Device}
-use Rattle.record.specs.Given.{left_by}
 use Rattle.record.proofs.Spelt.{closed_spelt}
+use Rattle.text.specs.Outcomes.{CallResult}
+use Rattle.record.specs.declared.refusal.Refusal.{Refusal}
 use Rattle.stream.specs.Collecting.{empty_line}
 use Rattle.clock.specs.After.{parts_after}
 use Rattle.clock.specs.Second.{times, connection_second}
@@ -68,12 +69,13 @@ module _ (i p : ℕ) (w : Workroom) (j : IsJoined i p w) where
   abbrev connection : Connection
   connection = connection_at device p
 
-  time_keeps : (n : ℕ) → is_closed (connection_at (left_by device (time_passed device n)) p) ≡ false
+  time_keeps : (n : ℕ) → is_closed (connection_at (time_passed device n).leaves p) ≡ false
       → ShownAs i p w (shown_of entry) (own_at device.settings device.own (waits n))
       (happened ours_panel i p w (waits n))
   time_keeps n live =
-      let then : (left_by device (time_passed device n)) ≡ parts_after n device
-      = ap (left_by device) (passed_accepted device n j.acquainted.device) ∙ parts_pass n device in
+      let then : (time_passed device n).leaves ≡ parts_after n device
+      = ap (λ (c : CallResult Refusal (Unit {0}) Device). c.leaves) (passed_accepted device n j.acquainted.device)
+      ∙ parts_pass n device in
       let here : connection_at (parts_after n device) p ≡ times connection_second n connection
       = ap (λ (d : Device). connection_at d p) (sym (parts_pass n device)) ∙ place_passes n device p in
       let still = seconds_fit (talk_of entry) n connection (record { fit = j.fit; between = j.between })
@@ -131,16 +133,16 @@ module _ (i p : ℕ) where
   abbrev phase : Workroom → ℕ
   phase w = (our_connection p w).phase
 
-  connection_at-left_by : (w : Workroom) (n : ℕ) → phase w ≡ phase_open
-      → connection_at (left_by w.device (time_passed w.device n)) p ≡ our_connection p w
-  connection_at-left_by w n stands = (passed_leaves w.device n).connection p (ap is_timed stands)
+  connection_later : (w : Workroom) (n : ℕ) → phase w ≡ phase_open
+      → connection_at (time_passed w.device n).leaves p ≡ our_connection p w
+  connection_later w n stands = (passed_leaves w.device n).connection p (ap is_timed stands)
 
   open_kept_up : (w : Workroom) (h : RoomMove) → phase w ≡ phase_open → IsOther i p w h → IsKeptUp i p w h
-  open_kept_up w h stands other = grind (arith, connection_at-left_by)
+  open_kept_up w h stands other = grind (arith, connection_later)
 
   still_open : (w : Workroom) (h : RoomMove) → IsJoined i p w → phase w ≡ phase_open → IsOther i p w h
       → phase (happened ours_panel i p w h) ≡ phase_open
-  still_open w h j stands other = grind (arith, open_asked, connection_at-left_by)
+  still_open w h j stands other = grind (arith, open_asked, connection_later)
 
   pub open_throughout : (w : Workroom) (hs : List RoomMove) → IsJoined i p w → phase w ≡ phase_open
       → AllOther i p ours_panel w hs → AllKeptUp i p ours_panel w hs

@@ -25,7 +25,9 @@ use Rattle.stream.proofs.LinesSpelt.{empty_spelt}
 use Rattle.meaning.specs.Meaning.{answer_for, after_request}
 use Rattle.meaning.proofs.CanBeSaid.{meant_fits, meant_can_be_said}
 use Rattle.device.specs.Receiving.{set_up_password, phase_start}
-use Rattle.device.specs.Calls.{Result, reply_room, received_at}
+use Rattle.text.specs.Outcomes.{CallResult, number_answered}
+use Rattle.record.specs.declared.refusal.Refusal.{Refusal}
+use Rattle.device.specs.Calls.{reply_room, received_at}
 use Rattle.device.proofs.CommandsReceived.{reply_to, command_result, command_received, command_received_secured}
 use Rattle.device.proofs.CommandsReceived.{swallowed_at, higher_received, higher_received_secured}
 use Rattle.device.proofs.Legal.{receiving_legal}
@@ -40,9 +42,10 @@ use Rattle.panel.specs.Entries.{Talk, talk_of, shown_of, password_in, ungreeted,
 use Rattle.panel.specs.Showing.{showing}
 use Rattle.panel.specs.Stepping.{answered_entry, sent_entry, heard_line, is_unready, line_sent}
 use Rattle.panel.specs.StepTable.{IsUnderWay, answers}
-use Rattle.panel.specs.PanelCalls.{PanelAs, entry_at, sent_at, command_at, stepped_at}
+use Rattle.panel.specs.PanelCalls.{entry_at, sent_at, command_at, stepped_at}
 use Rattle.panel.specs.declared.types.PanelEntry.{PanelEntry}
 use Rattle.panel.specs.declared.types.Panel.{Panel}
+use Rattle.panel.specs.declared.refusal.PanelRefusal.{PanelRefusal}
 use Rattle.panel.proofs.Cases.{Commands, commanded_by, commanded_done}
 use Rattle.panel.proofs.LinesSent.{line_sent_whole}
 use Rattle.panel.proofs.StepsByTable.{row_steps}
@@ -100,7 +103,7 @@ module _ (i p : ℕ) (w : Workroom) (j : IsJoined i p w) where
         ∙ line_sent_whole entry c command_room (entry_legal_there w.panel i (joined_served j)) writable (omega arith)
 
     -- how the device takes a line
-    abbrev Answers : (ℕ → Result Device) → List ℕ → Type 0
+    abbrev Answers : (ℕ → CallResult Refusal ℕ Device) → List ℕ → Type 0
     Answers r l = received_at device p l reply_room ≡ r (length l)
 
     unmarked : is_raised connection.line.overlong ≡ false
@@ -141,7 +144,7 @@ module _ (i p : ℕ) (w : Workroom) (j : IsJoined i p w) where
         c higher)
         j.fit
 
-    abbrev sending : PanelAs
+    abbrev sending : CallResult PanelRefusal (Unit {0}) Panel
     sending = command_at w.panel i k command_room
 
     done_sending : sending ≡ sent_at w.panel i k command_room
@@ -155,10 +158,10 @@ module _ (i p : ℕ) (w : Workroom) (j : IsJoined i p w) where
         let short = fits.short in
         reply_read c (meant_can_be_said device.settings device.own settings own c) (omega arith) fits.has_no_cr
 
-    sent_there : IsServed sending.panel i
+    sent_there : IsServed sending.leaves i
     sent_there = sent_served w.panel i (joined_served j) k command_room
 
-    entry_sent : entry_at sending.panel i ≡ sent_entry entry k
+    entry_sent : entry_at sending.leaves i ≡ sent_entry entry k
     entry_sent = entry_at-command_at w.panel i (joined_served j) k command_room can_command
 
     under_way : IsUnderWay (sent_entry entry k) c
@@ -176,9 +179,9 @@ module _ (i p : ℕ) (w : Workroom) (j : IsJoined i p w) where
       asking = happened ours_panel i p w (asks k there back)
 
       -- a line that is taken whole, and what comes back of it
-      asked_as_lem : (r : ℕ → Result Device) → Answers r sent → (r (length sent)).taken ≡ length sent
+      asked_as_lem : (r : ℕ → Result Device) → Answers r sent → number_answered (r (length sent)) ≡ length sent
           → asking
-          ≡ room_of (delivered ours_panel i sending.panel back (r (length sent)).reply) (r (length sent)).device
+          ≡ room_of (delivered ours_panel i sending.leaves back (r (length sent)).bytes) (r (length sent)).leaves
       asked_as_lem r taken whole = grind (arith, done_sending, handed_in_cuts, fit_live)
 
       phase_then : {o : Own} {q : Panel} → asking ≡ room_of q (left o) → (our_connection p asking).phase ≡ phase_open
@@ -187,7 +190,7 @@ module _ (i p : ℕ) (w : Workroom) (j : IsJoined i p w) where
 
       -- of a class higher than the device's
       module _ (higher : device.settings.class_number < command_class c) where
-        swallowed_so : asking ≡ room_of sending.panel (left device.own)
+        swallowed_so : asking ≡ room_of sending.leaves (left device.own)
         swallowed_so = asked_as_lem (swallowed_at device p) (higher_taken higher) refl
 
         pub gets_no_reply : UnansweredAs i w c asking
@@ -196,7 +199,7 @@ module _ (i p : ℕ) (w : Workroom) (j : IsJoined i p w) where
       -- of one no higher
       module _ (within : command_class c ≤ device.settings.class_number) where
         abbrev after : Panel
-        after = (stepped_at sending.panel i (reply_to c told)).panel
+        after = (stepped_at sending.leaves i (reply_to c told)).leaves
 
         abbrev own : Own
         own = after_request device.settings device.own (Ok c)
@@ -204,11 +207,11 @@ module _ (i p : ℕ) (w : Workroom) (j : IsJoined i p w) where
         asked_so : asking ≡ room_of after (left own)
         asked_so =
             asked_as_lem (command_result device p c) (command_taken within) refl
-            ∙ ap (λ (q : Panel). room_of q (left own)) (delivered-cons i sending.panel back _ _)
+            ∙ ap (λ (q : Panel). room_of q (left own)) (delivered-cons i sending.leaves back _ _)
 
         entry_then : entry_at after i ≡ answered_entry (sent_entry entry k) told
         entry_then =
-            entry_at-stepped_at sending.panel i sent_there (reply_to c told)
+            entry_at-stepped_at sending.leaves i sent_there (reply_to c told)
             ∙ ap (λ (e : PanelEntry). heard_line e (reply_to c told)) entry_sent
             ∙ row_steps (sent_entry entry k) (reply_to c told) (answers c told under_way told_back)
 
@@ -217,14 +220,14 @@ module _ (i p : ℕ) (w : Workroom) (j : IsJoined i p w) where
             subst (ShownAs i p w (showing (shown_of entry) told) own) (sym asked_so)
             (shown_as_it_stands j.acquainted
             (record {
-              served = heard_served sending.panel i sent_there (reply_to c told);
+              served = heard_served sending.leaves i sent_there (reply_to c told);
               stands = entry_then;
               password = refl;
               strays = refl;
             })
             j.place
             (record {
-              legal = ap (λ (r : Result Device). is_legal r.device) (sym (command_taken within))
+              legal = ap (λ (r : CallResult Refusal ℕ Device). is_legal r.leaves) (sym (command_taken within))
                   ∙ receiving_legal device j.acquainted.device p _ reply_room;
               settings = refl;
               stands = left_open own;

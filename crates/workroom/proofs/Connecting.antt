@@ -21,8 +21,10 @@ use Rattle.record.proofs.ConnectionsTold.{placed_here, placed_legal}
 use Rattle.record.proofs.Spelt.{closed_spelt}
 use Rattle.stream.specs.Collecting.{empty_line}
 use Rattle.device.specs.Receiving.{begun_in, set_up_password}
-use Rattle.device.specs.Calls.{Result, reply_room, place_taken, closed_by}
-use Rattle.device.proofs.Cases.{opened_greeted, opened_lowest, greeted_by_lem, closed_by_lem, closed_at_place}
+use Rattle.text.specs.Outcomes.{CallResult, call_number, number_answered}
+use Rattle.record.specs.declared.refusal.Refusal.{Refusal}
+use Rattle.device.specs.Calls.{reply_room, opened_by, closed_by}
+use Rattle.device.proofs.Cases.{opened_greeted, greeted_by_lem, closed_by_lem, closed_at_place}
 use Rattle.device.proofs.Legal.{greeted_legal, closing_legal}
 use Rattle.device.proofs.Untouched.{closing_keeps_settings, closing_keeps_own}
 use Rattle.record.proofs.LowestClosed.{below_lowest}
@@ -33,9 +35,11 @@ use Rattle.panel.specs.Entries.{Talk, shown_of, password_in, greeted_open, greet
 use Rattle.panel.specs.Passwords.{password_room}
 use Rattle.panel.specs.LegalPanels.{panel_most, is_panel}
 use Rattle.panel.specs.Stepping.{with_talk, greeted_as}
-use Rattle.panel.specs.PanelCalls.{PanelAs, entry_at, grown_by, added_to, stepped_at}
+use Rattle.panel.specs.PanelCalls.{entry_at, grown_by, added_to, stepped_at}
 use Rattle.panel.specs.declared.types.PanelEntry.{PanelEntry}
+use Rattle.panel.specs.Refusals.{panel_refusal_number}
 use Rattle.panel.specs.declared.types.Panel.{Panel}
+use Rattle.panel.specs.declared.refusal.PanelRefusal.{PanelRefusal}
 use Rattle.panel.proofs.Cases.{added_by, added_done}
 use Rattle.panel.proofs.PanelsLegal.{added_stays_legal}
 use Rattle.panel.proofs.PanelsTold.{panel_told}
@@ -78,7 +82,7 @@ module _ (i : ℕ) (w : Workroom) where
         (between : c.line ≡ empty_line) (rests : is_raised t.under_way ≡ false)
         (heard : greeted_as entry (read_greeting l) ≡ with_talk entry t) where
       abbrev after : Panel
-      after = (stepped_at w.panel i l).panel
+      after = (stepped_at w.panel i l).leaves
 
       entry_then : entry_at after i ≡ with_talk entry t
       entry_then = grind (arith, entry_at-stepped_at, known_served, step_greets)
@@ -110,7 +114,7 @@ module _ (i : ℕ) (w : Workroom) where
 
     -- a greeting, which the panel hears whole, as the talk t
     joins : (g : List ℕ) (c : Connection) (t : Talk)
-        → delivered ours_panel i w.panel back g ≡ (stepped_at w.panel i g).panel → Fit t c
+        → delivered ours_panel i w.panel back g ≡ (stepped_at w.panel i g).leaves → Fit t c
         → c.line ≡ empty_line → is_raised t.under_way ≡ false → greeted_as entry (read_greeting g) ≡ with_talk entry t
         → JoinsBy g c
     joins g c t whole fits between rests heard legal =
@@ -128,15 +132,14 @@ module _ (i : ℕ) (w : Workroom) where
         (both_open refl (λ none. omega arith) refl) refl refl (ap (greeted_as entry) open_heard)
 
     pub greeted_joined : (r : ℕ) → r < 2 ^ 32
-        → ShownAs i (place_taken device reply_room) w (shown_of entry) device.own (connected ours_panel i w r back)
+        → ShownAs i (number_answered (opened_by device r reply_room)) w (shown_of entry) device.own
+        (connected ours_panel i w r back)
     greeted_joined r word =
-        subst (λ (p : ℕ). ShownAs i p w (shown_of entry) device.own (connected ours_panel i w r back))
-        (sym (opened_lowest device r reply_room known.device (omega arith) apart.free))
-        (subst (λ (q : Result Device). ShownAs i lowest w (shown_of entry) device.own
+        subst (λ (q : CallResult Refusal ℕ Device). ShownAs i (number_answered q) w (shown_of entry) device.own
         (connected_as ours_panel i w.panel back q))
         (sym (opened_greeted device r reply_room known.device (omega arith) apart.free))
         (greeted_by_lem device.settings r JoinsBy (secured_joins r word) (open_joins r)
-        (greeted_legal device.settings r)))
+        (greeted_legal device.settings r))
 
 -- the connection is gone
 module _ (i p : ℕ) (w : Workroom) (known : IsAcquainted i w) (place : p < places_count) where
@@ -144,7 +147,7 @@ module _ (i p : ℕ) (w : Workroom) (known : IsAcquainted i w) (place : p < plac
   before = w.device
 
   abbrev gone : Device
-  gone = (closed_by before p).device
+  gone = (closed_by before p).leaves
 
   closed_there : is_closed (connection_at gone p) ≡ true
   closed_there = by (is_closed (connection_at before p)) refl
@@ -154,10 +157,10 @@ module _ (i p : ℕ) (w : Workroom) (known : IsAcquainted i w) (place : p < plac
 
       by : (t : Bool) → is_closed (connection_at before p) ≡ t → is_closed (connection_at gone p) ≡ true
       by true e =
-          closed_by_lem before p (λ r. is_closed (connection_at r.device p) ≡ true) (λ n other. e)
+          closed_by_lem before p (λ r. is_closed (connection_at r.leaves p) ≡ true) (λ n other. e)
           (λ legal there live. ap is_closed (closes ∙ closed_spelt))
       by false e =
-          ap (λ (r : Result Device). is_closed (connection_at r.device p)) (closed_at_place before p known.device place
+          ap (λ (r : CallResult Refusal (Unit {0}) Device). is_closed (connection_at r.leaves p)) (closed_at_place before p known.device place
           e)
           ∙ ap is_closed (closes ∙ closed_spelt)
 
@@ -182,10 +185,10 @@ module _ (i p : ℕ) (w : Workroom) (known : IsAcquainted i w) (place : p < plac
 
 -- a projector just added
 module _ (p : Panel) (s : List ℕ) (d : Device) where
-  abbrev Begun : PanelAs → Type 0
-  Begun r = r.number ≡ 0 → is_legal d ≡ true → lowest_closed d.connections < places_count → set_up_password d.settings
-      ≡ s
-      → BegunAs p.count (room_of r.panel d)
+  abbrev Begun : CallResult PanelRefusal (Unit {0}) Panel → Type 0
+  Begun r = call_number panel_refusal_number r ≡ 0 → is_legal d ≡ true → lowest_closed d.connections < places_count
+      → set_up_password d.settings ≡ s
+      → BegunAs p.count (room_of r.leaves d)
 
   module _ (legal : is_panel p ≡ true) (word : is_password s ≡ true) (free : p.count < panel_most) where
     abbrev grown : Panel
@@ -196,7 +199,8 @@ module _ (p : Panel) (s : List ℕ) (d : Device) where
 
     grown_legal : is_panel grown ≡ true
     grown_legal =
-        ap (λ (r : PanelAs). is_panel r.panel) (sym (added_done p s legal word free)) ∙ added_stays_legal p legal s
+        ap (λ (r : CallResult PanelRefusal (Unit {0}) Panel). is_panel r.leaves) (sym (added_done p s legal word free))
+        ∙ added_stays_legal p legal s
 
     password_in-fresh_entry : password_in (fresh_entry s) ≡ s
     password_in-fresh_entry = take-append_seam s (replicate (password_room - length s) 0)

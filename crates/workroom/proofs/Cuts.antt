@@ -10,6 +10,7 @@ use Rattle.record.specs.Places.{connection_at, is_closed}
 use Rattle.record.specs.declared.types.Device.{Device}
 use Rattle.stream.specs.Machine.{stream_of}
 use Rattle.stream.proofs.WholeParts.{uncut_none, uncut_more, handed_parts-cons}
+use Rattle.text.specs.Outcomes.{number_answered}
 use Rattle.device.specs.Calls.{reply_room, received_at}
 use Rattle.device.proofs.SameCuts.{receives, received_however_cut}
 use Rattle.workroom.specs.Workroom.{cut_at, handed_there}
@@ -33,7 +34,7 @@ list_all_cutting p (q ∷ ps) = grind (arith, uncut_more, take-append_seam, drop
 pub handed_in_cuts : (d : Device) (p : ℕ) (there l : List ℕ) → p < places_count → is_legal d ≡ true
     → is_closed (connection_at d p) ≡ false
     → let r = received_at d p l reply_room in
-    r.taken ≡ length l → handed_there d p there l ≡ record { state = r.device; reply = r.reply }
+    number_answered r ≡ length l → handed_there d p there l ≡ record { state = r.leaves; reply = r.bytes }
 handed_in_cuts d p there l place legal live all =
     received_however_cut reply_room (omega arith) p place d legal live (cut_at there l) (l ∷ [])
     (stream_of-cut_at there l ∙ sym (one_part l))

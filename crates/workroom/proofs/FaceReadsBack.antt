@@ -14,9 +14,12 @@ use Rattle.record.specs.declared.types.Device.{Device}
 use Rattle.stream.specs.Collecting.{empty_line}
 use Rattle.meaning.specs.Meaning.{answer_for}
 use Rattle.device.specs.Receiving.{set_up_password}
-use Rattle.device.specs.Calls.{Result, reply_room, received_at, opened_by, place_taken}
-use Rattle.text.specs.Outcomes.{WrittenAs}
+use Rattle.record.specs.declared.refusal.Refusal.{Refusal}
+use Rattle.device.specs.Calls.{reply_room, received_at, opened_by}
+use Rattle.text.specs.Outcomes.{CallResult, number_answered}
+use Rattle.std.specs.Result.{is_ok}
 use Rattle.controller.specs.Writing.{command_room}
+use Rattle.controller.specs.declared.writing.Unwritten.{Unwritten}
 use Rattle.pjlink.specs.Greetings.{read_greeting}
 use Rattle.demands.specs.Greeted.{greeted_on}
 use Rattle.demands.proofs.WrittenAndRead.{TakenAndRead, written_reads_back, written_reads_back_secured}
@@ -27,11 +30,11 @@ use Rattle.codes.specs.ByCode.{written_by, read_by}
 use Rattle.codes.specs.declared.command.Coded.{Coded}
 use Rattle.codes.proofs.CodesBack.{command_writable}
 
-pub record Told (d : Device) (p : ℕ) (m : Option Command) (c : Command) (w : WrittenAs) (r : Result Device)
-    : Type 0 where
-  pub written : w.number ≡ 0
+pub record Told (d : Device) (p : ℕ) (m : Option Command) (c : Command) (w : CallResult Unwritten (Unit {0}) (Unit {0}))
+    (r : CallResult Refusal ℕ Device) : Type 0 where
+  pub written : is_ok w.says ≡ true
   pub taken : TakenAndRead d p c w.bytes r
-  pub read : read_by m r.reply ≡ said_flat (answer_for d.settings d.own (Ok c))
+  pub read : read_by m r.bytes ≡ said_flat (answer_for d.settings d.own (Ok c))
 
 module _ (d : Device) (p : ℕ) (there : p < places_count) (legal : is_legal d ≡ true)
     (between : (connection_at d p).line ≡ empty_line)
@@ -39,11 +42,11 @@ module _ (d : Device) (p : ℕ) (there : p < places_count) (legal : is_legal d �
     (within : command_class c ≤ d.settings.class_number)
     (room : ℕ) (enough : reply_room ≤ room) (memory : ℕ) (lent : command_room ≤ memory) where
   -- of the command itself, and so of its code
-  abbrev ToldBy : (Option Command → WrittenAs) → Option Command → Type 0
+  abbrev ToldBy : (Option Command → CallResult Unwritten (Unit {0}) (Unit {0})) → Option Command → Type 0
   ToldBy write m = Told d p m c (write m) (received_at d p (write m).bytes room)
 
-  told : (write : Option Command → WrittenAs)
-      → ((write (Some c)).number ≡ 0) × TakenAndRead d p c (write (Some c)).bytes
+  told : (write : Option Command → CallResult Unwritten (Unit {0}) (Unit {0}))
+      → (is_ok (write (Some c)).says ≡ true) × TakenAndRead d p c (write (Some c)).bytes
       (received_at d p (write (Some c)).bytes room)
       → ToldBy write (coded_command k)
   told write through = grind arith
@@ -66,5 +69,5 @@ module _ (d : Device) (p : ℕ) (there : p < places_count) (legal : is_legal d �
 pub face_greets_back : (d : Device) (r room : ℕ) → is_legal d ≡ true → lowest_closed d.connections < places_count
     → reply_room ≤ room → r < 2 ^ 32
     → let o = opened_by d r room in
-    flat_greeting (read_greeting o.reply) ≡ flat_greeting (greeted_on (connection_at o.device (place_taken d room)))
+    flat_greeting (read_greeting o.bytes) ≡ flat_greeting (greeted_on (connection_at o.leaves (number_answered o)))
 face_greets_back d r room legal free enough word = grind (arith, opening_greets_back)

@@ -25,9 +25,9 @@ module _ (p : ℕ) (d : Device) (legal : is_legal d ≡ true) where
   other_place live free same = grind (arith, lowest_is_closed, legal_places)
 
   opening_elsewhere : (random room : ℕ) → is_closed (connection_at d p) ≡ false
-      → connection_at (opened_by d random room).device p ≡ connection_at d p
+      → connection_at (opened_by d random room).leaves p ≡ connection_at d p
   opening_elsewhere random room live =
-      opened_by_lem d random room (λ r. connection_at r.device p ≡ connection_at d p) (λ n other. refl)
+      opened_by_lem d random room (λ r. connection_at r.leaves p ≡ connection_at d p) (λ n other. refl)
       (λ known enough free. placed_elsewhere d d.own _ _ p (other_place live free))
 
   pub others_aside : OthersAside p d
@@ -48,20 +48,20 @@ module _ (p : ℕ) (d : Device) (legal : is_legal d ≡ true) where
       connection = opening_elsewhere random room live;
     };
     fault = λ mark. record {
-      settings = fault_set_by d (λ r. r.device.settings ≡ d.settings) mark refl (λ known. refl);
+      settings = fault_set_by d (λ r. r.leaves.settings ≡ d.settings) mark refl (λ known. refl);
       device = fault_legal d legal mark;
-      connection = fault_set_by d (λ r. connection_at r.device p ≡ connection_at d p) mark refl (λ known. refl);
+      connection = fault_set_by d (λ r. connection_at r.leaves p ≡ connection_at d p) mark refl (λ known. refl);
     };
     errors = λ digits. record {
-      settings = errors_set_by d (λ r. r.device.settings ≡ d.settings) digits refl refl (λ known six. refl);
+      settings = errors_set_by d (λ r. r.leaves.settings ≡ d.settings) digits refl refl (λ known six. refl);
       device = errors_legal d legal digits;
-      connection = errors_set_by d (λ r. connection_at r.device p ≡ connection_at d p) digits refl refl
+      connection = errors_set_by d (λ r. connection_at r.leaves p ≡ connection_at d p) digits refl refl
           (λ known six. refl);
     };
     marks = λ lamp mark. record {
-      settings = mark_set_by d (λ r. r.device.settings ≡ d.settings) lamp mark (λ n z. refl) (λ h i l k. refl);
+      settings = mark_set_by d (λ r. r.leaves.settings ≡ d.settings) lamp mark (λ n z. refl) (λ h i l k. refl);
       device = mark_legal d legal lamp mark;
-      connection = mark_set_by d (λ r. connection_at r.device p ≡ connection_at d p) lamp mark (λ n z. refl)
+      connection = mark_set_by d (λ r. connection_at r.leaves p ≡ connection_at d p) lamp mark (λ n z. refl)
           (λ h i l k. refl);
     };
   }

@@ -3,26 +3,27 @@
 use Rattle.std.proofs.Common.{arith, ℕ, ◌<◌, ◌≡◌, refl, sym, ap, ◌∙◌, true, List, [], get_or-set_same}
 use Rattle.std.proofs.Common.{get_or-set_other, Option, Some, None, is_some}
 use Rattle.std.proofs.lemmas.Bool.{false≢true}
-use Rattle.text.specs.Rows.{NumberRow, first_of}
+use Rattle.text.specs.Rows.{RefusalRow}
 use Rattle.pjlink.specs.declared.command.Command.{Command}
 use Rattle.codes.specs.Commands.{coded_command}
 use Rattle.codes.specs.declared.command.Coded.{Coded}
 use Rattle.codes.proofs.CodesBack.{command_writable}
-use Rattle.panel.specs.AnyPanel.{ours_panel}
+use Rattle.panel.specs.AnyPanel.{PanelAs, panel_in, ours_panel}
 use Rattle.panel.specs.Entries.{fresh_entry, blank_entry}
 use Rattle.panel.specs.Stepping.{lost_entry, sent_entry, line_sent}
 use Rattle.panel.specs.LegalPanels.{panel_most, is_panel}
-use Rattle.panel.specs.PanelCalls.{PanelAs, entry_at, with_entry, grown_by, adding_rows, commanding_rows}
+use Rattle.panel.specs.PanelCalls.{entry_at, with_entry, grown_by, adding_rows, commanding_rows}
 use Rattle.panel.specs.PanelCalls.{projector_rows, added_to, command_at, stepped_at, lost_at}
 use Rattle.panel.specs.declared.types.PanelEntry.{PanelEntry}
 use Rattle.panel.specs.declared.types.Panel.{Panel}
+use Rattle.panel.specs.declared.refusal.PanelRefusal.{PanelRefusal}
 use Rattle.panel.proofs.Cases.{Refusals, Commands, added_by, commanded_by, stepped_by, told_refused, lost_by}
 use Rattle.panel.proofs.LinesSent.{line_sent_whole}
 use Rattle.panel.proofs.PanelsLegal.{none_legal, added_stays_legal, commanded_stays_legal, stepped_stays_legal}
 use Rattle.panel.proofs.PanelsLegal.{lost_stays_legal}
 use Rattle.panel.proofs.PanelsTold.{panel_told, entry_at_legal}
 use Rattle.panel.proofs.Refusals.{adding_number, commanding_number, hearing_number, losing_number}
-use Rattle.workroom.specs.PanelCallsDone.{OnlyThere, GrownBy, line_due, CallDone, PanelCallsDone}
+use Rattle.workroom.specs.PanelCallsDone.{OnlyThere, GrownBy, line_due, number_due, CallDone, PanelCallsDone}
 
 module _ (p : Panel) (legal : is_panel p ≡ true) where
   only_there : (i : ℕ) → i < p.count → (e : PanelEntry) → OnlyThere p i e (with_entry p i e)
@@ -50,8 +51,8 @@ module _ (p : Panel) (line : List ℕ) (Left : Panel → Type 0) where
     pub line_sent_then : r.number ≡ 0 → r.line ≡ line
     pub left_then : r.number ≡ 0 → Left r.panel
 
-  refusals : Refusals p ByCases
-  refusals n some = record {
+  refusals : {A : Type 0} → Refusals {A = A} p (λ c. ByCases (panel_in c))
+  refusals e some = record {
     kept = λ other. (refl, refl);
     line_sent_then = λ z. absurd (some z);
     left_then = λ z. absurd (some z);
@@ -60,7 +61,7 @@ module _ (p : Panel) (line : List ℕ) (Left : Panel → Type 0) where
   done : {r : PanelAs} → r.number ≡ 0 → r.line ≡ line → Left r.panel → ByCases r
   done z sent left = record { kept = λ some. absurd (some z); line_sent_then = λ y. sent; left_then = λ y. left }
 
-  call_done : (rows : List NumberRow) (r : PanelAs) → r.number ≡ first_of rows → ByCases r
+  call_done : (rows : List (RefusalRow PanelRefusal)) (r : PanelAs) → r.number ≡ number_due rows → ByCases r
       → (is_panel p ≡ true → is_panel r.panel ≡ true) → CallDone p rows line Left r
   call_done rows r number cases legal = record {
     number = number;
@@ -71,11 +72,11 @@ module _ (p : Panel) (line : List ℕ) (Left : Panel → Type 0) where
   }
 
 module _ (p : Panel) where
-  adds : (s : List ℕ) → CallDone p (adding_rows p s) [] (GrownBy p (fresh_entry s)) (added_to p s)
+  adds : (s : List ℕ) → CallDone p (adding_rows p s) [] (GrownBy p (fresh_entry s)) (panel_in (added_to p s))
   adds s =
       let Left = GrownBy p (fresh_entry s) in
-      call_done p [] Left (adding_rows p s) (added_to p s) (adding_number p s)
-      (added_by p s (ByCases p [] Left) (refusals p [] Left)
+      call_done p [] Left (adding_rows p s) (panel_in (added_to p s)) (adding_number p s)
+      (added_by p s (λ c. ByCases p [] Left (panel_in c)) (refusals p [] Left)
       (λ legal word free. done p [] Left refl refl (grown p legal free (fresh_entry s))))
       (λ legal. added_stays_legal p legal s)
 
@@ -90,28 +91,30 @@ module _ (p : Panel) where
 
     commands : (k : Coded) (room : ℕ)
         → CallDone p (commanding_rows p i k room) (line_due (entry_at p i) (coded_command k))
-        (OnlyThere p i (sent_entry (entry_at p i) k)) (command_at p i k room)
+        (OnlyThere p i (sent_entry (entry_at p i) k)) (panel_in (command_at p i k room))
     commands k room =
         let line = line_due (entry_at p i) (coded_command k) in
         let Left = OnlyThere p i (sent_entry (entry_at p i) k) in
-        call_done p line Left (commanding_rows p i k room) (command_at p i k room) (commanding_number p i k room)
-        (commanded_by p i k room (ByCases p line Left) (refusals p line Left)
+        call_done p line Left (commanding_rows p i k room) (panel_in (command_at p i k room))
+        (commanding_number p i k room)
+        (commanded_by p i k room (λ c. ByCases p line Left (panel_in c)) (refusals p line Left)
         (λ can. done p line Left refl (due k room (coded_command k) refl can)
         (only_there p can.legal i can.there (sent_entry (entry_at p i) k))))
         (λ legal. commanded_stays_legal p legal i k room)
 
-    hears : (l : List ℕ) → CallDone p (projector_rows p i) [] (λ q. Unit {0}) (stepped_at p i l)
+    hears : (l : List ℕ) → CallDone p (projector_rows p i) [] (λ q. Unit {0}) (panel_in (stepped_at p i l))
     hears l =
-        call_done p [] (λ q. Unit {0}) (projector_rows p i) (stepped_at p i l) (hearing_number p i l)
-        (stepped_by p i l (ByCases p [] (λ q. Unit {0})) (refusals p [] (λ q. Unit {0}))
+        call_done p [] (λ q. Unit {0}) (projector_rows p i) (panel_in (stepped_at p i l)) (hearing_number p i l)
+        (stepped_by p i l (λ c. ByCases p [] (λ q. Unit {0}) (panel_in c)) (refusals p [] (λ q. Unit {0}))
         (λ legal there. done p [] (λ q. Unit {0}) refl refl tt))
         (λ legal. stepped_stays_legal p legal i l)
 
-    loses : CallDone p (projector_rows p i) [] (OnlyThere p i (lost_entry (entry_at p i))) (lost_at p i)
+    loses : CallDone p (projector_rows p i) [] (OnlyThere p i (lost_entry (entry_at p i)))
+        (panel_in (lost_at p i))
     loses =
         let Left = OnlyThere p i (lost_entry (entry_at p i)) in
-        call_done p [] Left (projector_rows p i) (lost_at p i) (losing_number p i)
-        (lost_by p i (ByCases p [] Left) (refusals p [] Left)
+        call_done p [] Left (projector_rows p i) (panel_in (lost_at p i)) (losing_number p i)
+        (lost_by p i (λ c. ByCases p [] Left (panel_in c)) (refusals p [] Left)
         (λ legal there. done p [] Left refl refl (only_there p legal i there (lost_entry (entry_at p i)))))
         (λ legal. lost_stays_legal p legal i)
 

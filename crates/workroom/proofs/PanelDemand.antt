@@ -22,7 +22,7 @@ module _ (p : Panel) (i : ℕ) (l : List ℕ) (served : IsServed p i) where
 
   -- a row that keeps the password
   by_row : {f : PanelEntry} → StepTo before l f → f.password ≡ before.password
-      → PartsAre (entry_at (stepped_at p i l).panel i) before (talk_of f) (shown_of f) f.strays
+      → PartsAre (entry_at (stepped_at p i l).leaves i) before (talk_of f) (shown_of f) f.strays
   by_row row same = grind (arith, entry_at-stepped_at, row_steps)
 
   row_shown : {f : PanelEntry} → StepTo before l f → ShownBy before l f
@@ -32,7 +32,7 @@ module _ (p : Panel) (i : ℕ) (l : List ℕ) (served : IsServed p i) where
   row_shown (answers c m u r) = by_reply c m u r refl
   row_shown (refuses c u r) = by_erra c u r refl
 
-  any_shown : ShownBy before l (entry_at (stepped_at p i l).panel i)
+  any_shown : ShownBy before l (entry_at (stepped_at p i l).leaves i)
   any_shown =
       subst (ShownBy before l) (sym (entry_at-stepped_at p i served l))
       (row_shown (steps_by_the_table before l (entry_legal_there p i served)))

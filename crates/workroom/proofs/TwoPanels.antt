@@ -3,24 +3,25 @@
 use Rattle.std.proofs.Common.{ℕ, ◌≡◌, refl, sym, ap, ◌∙◌, Bool, true, false, List, ◌==◌, arith, leb-false}
 use Rattle.std.proofs.Common.{eqb-true, ext_get_or}
 use Rattle.std.proofs.lemmas.Bool.{eqb-false, not-false}
-use Rattle.text.specs.Rows.{NumberRow, first_of}
+use Rattle.text.specs.Rows.{RefusalRow}
 use Rattle.codes.specs.declared.command.Coded.{Coded}
-use Rattle.panel.specs.AnyPanel.{AnyPanel, ours_panel}
+use Rattle.panel.specs.AnyPanel.{AnyPanel, PanelAs, ours_panel}
 use Rattle.pjlink.specs.Greetings.{read_greeting}
 use Rattle.pjlink.specs.declared.command.Command.{Command}
 use Rattle.panel.specs.Entries.{Talk, Shown, entry_of, blank_entry, ungreeted}
 use Rattle.panel.specs.Stepping.{heard_line}
 use Rattle.panel.specs.LegalPanels.{is_panel}
-use Rattle.panel.specs.PanelCalls.{PanelAs, entry_at, adding_rows, commanding_rows, projector_rows}
+use Rattle.panel.specs.PanelCalls.{entry_at, adding_rows, commanding_rows, projector_rows}
 use Rattle.panel.specs.StepTable.{is_greeting, IsUnderWay, IsStray, ungreeted_malformed, late, malformed, foreign}
 use Rattle.panel.specs.StepTable.{not_allowed, StepTo, greets_open, greets_secured, strays, answers, refuses}
 use Rattle.panel.specs.declared.types.PanelEntry.{PanelEntry}
 use Rattle.panel.specs.declared.types.Panel.{Panel}
+use Rattle.panel.specs.declared.refusal.PanelRefusal.{PanelRefusal}
 use Rattle.panel.proofs.PanelsTold.{panel_told}
 use Rattle.panel.proofs.Unused.{past_count_blank}
 use Rattle.panel.proofs.StepsByTable.{steps_by_the_table}
 use Rattle.workroom.specs.PanelDemand.{IsServed, PartsAre, after_line}
-use Rattle.workroom.specs.PanelCallsDone.{OnlyThere, GrownBy, CallDone}
+use Rattle.workroom.specs.PanelCallsDone.{OnlyThere, GrownBy, number_due, CallDone}
 use Rattle.workroom.specs.TwoPanels.{DoesWhatIsAsked, PanelsAlike}
 use Rattle.workroom.proofs.EntriesStep.{entry_legal_there}
 use Rattle.workroom.proofs.PanelDemand.{our_panel_does}
@@ -31,14 +32,14 @@ ours_does = record { steps = our_panel_does; calls = our_calls_do }
 
 -- ---- what a served call tells of its panel
 
-added_legal : (p : Panel) (s : List ℕ) → first_of (adding_rows p s) ≡ 0 → is_panel p ≡ true
+added_legal : (p : Panel) (s : List ℕ) → number_due (adding_rows p s) ≡ 0 → is_panel p ≡ true
 added_legal p s z = grind (arith, not-false)
 
-commanded_legal : (p : Panel) (i : ℕ) (k : Coded) (room : ℕ) → first_of (commanding_rows p i k room) ≡ 0
+commanded_legal : (p : Panel) (i : ℕ) (k : Coded) (room : ℕ) → number_due (commanding_rows p i k room) ≡ 0
     → is_panel p ≡ true
 commanded_legal p i k room z = grind (arith, not-false)
 
-served_then : (p : Panel) (i : ℕ) → first_of (projector_rows p i) ≡ 0 → IsServed p i
+served_then : (p : Panel) (i : ℕ) → number_due (projector_rows p i) ≡ 0 → IsServed p i
 served_then p i z = grind (arith, not-false, leb-false)
 
 -- ---- two panels that are p but for one entry
@@ -78,18 +79,18 @@ module _ (p q r : Panel) (legal : is_panel q ≡ true) (right : is_panel r ≡ t
 
 -- ---- two results of one call
 
-module _ {p : Panel} {rows : List NumberRow} {line : List ℕ} {Left : Panel → Type 0} (r s : PanelAs)
+module _ {p : Panel} {rows : List (RefusalRow PanelRefusal)} {line : List ℕ} {Left : Panel → Type 0} (r s : PanelAs)
     (h : CallDone p rows line Left r) (g : CallDone p rows line Left s) where
   same_result : r.line ≡ s.line → r.panel ≡ s.panel → r ≡ s
   same_result l q = (λ k. record { number = (h.number ∙ sym g.number) k; line = l k; panel = q k })
 
-  same_call : (first_of rows ≡ 0 → r.panel ≡ s.panel) → r ≡ s
-  same_call panels = by (first_of rows == 0) refl
+  same_call : (number_due rows ≡ 0 → r.panel ≡ s.panel) → r ≡ s
+  same_call panels = by (number_due rows == 0) refl
     where
-      by : (t : Bool) → (first_of rows == 0) ≡ t → r ≡ s
-      by true e = let z = eqb-true (first_of rows) 0 e in same_result (h.sends z ∙ sym (g.sends z)) (panels z)
+      by : (t : Bool) → (number_due rows == 0) ≡ t → r ≡ s
+      by true e = let z = eqb-true (number_due rows) 0 e in same_result (h.sends z ∙ sym (g.sends z)) (panels z)
       by false e =
-          let some = eqb-false (first_of rows) 0 e in
+          let some = eqb-false (number_due rows) 0 e in
           same_result ((h.refused some).1 ∙ sym (g.refused some).1) ((h.refused some).0 ∙ sym (g.refused some).0)
 
 -- ---- the step on a line: each row of its table is one that is asked
@@ -143,14 +144,14 @@ module _ (P Q : AnyPanel) (does : DoesWhatIsAsked P) (does_too : DoesWhatIsAsked
     row_alike served (refuses c u r) = replies_alike c served u
 
     told_alike : P.tell p i l ≡ Q.tell p i l
-    told_alike = by (first_of (projector_rows p i) == 0) refl
+    told_alike = by (number_due (projector_rows p i) == 0) refl
       where
-        by : (t : Bool) → (first_of (projector_rows p i) == 0) ≡ t → P.tell p i l ≡ Q.tell p i l
+        by : (t : Bool) → (number_due (projector_rows p i) == 0) ≡ t → P.tell p i l ≡ Q.tell p i l
         by true e =
-            let served = served_then p i (eqb-true (first_of (projector_rows p i)) 0 e) in
+            let served = served_then p i (eqb-true (number_due (projector_rows p i)) 0 e) in
             row_alike served (steps_by_the_table (entry_at p i) l (entry_legal_there p i served))
         by false e =
-            let some = eqb-false (first_of (projector_rows p i)) 0 e in
+            let some = eqb-false (number_due (projector_rows p i)) 0 e in
             does.calls.tells_nothing p i l some ∙ sym (does_too.calls.tells_nothing p i l some)
 
 pub panels_alike : (P Q : AnyPanel) → DoesWhatIsAsked P → DoesWhatIsAsked Q → PanelsAlike P Q

@@ -7,24 +7,27 @@
 --   OnlyThere p i e q    q is p, but that the projector i has the entry e
 --   GrownBy p e q        q is p, and a projector more, the last, with the entry e
 --   line_due e m         the line of the command m to the projector whose entry is e
+--   number_due rows      the number by the rows of a call
 --   CallDone p rows line Left r    the call on the panel p that gave r is refused by these rows; else it sends the
 --                        line, and Left is what it leaves
 --   IsNone r             what gave r made the panel of no projector
 -- Assumes nothing.
 use Rattle.std.specs.Prelude.{ℕ, ◌+◌, ◌≡◌, true, List, [], ◌++◌, Option, Some, None}
-use Rattle.text.specs.Rows.{NumberRow, first_of}
+use Rattle.text.specs.Rows.{RefusalRow, first_of, numbers_of}
 use Rattle.pjlink.specs.Commands.{command_line}
 use Rattle.pjlink.specs.declared.command.Command.{Command}
 use Rattle.controller.specs.Writing.{led_by}
 use Rattle.codes.specs.Commands.{coded_command}
 use Rattle.codes.specs.declared.command.Coded.{Coded}
-use Rattle.panel.specs.AnyPanel.{AnyPanel}
+use Rattle.panel.specs.AnyPanel.{AnyPanel, PanelAs}
 use Rattle.panel.specs.Entries.{talk_of, password_in, leads_next, fresh_entry}
 use Rattle.panel.specs.Stepping.{lost_entry, sent_entry}
 use Rattle.panel.specs.LegalPanels.{is_panel}
-use Rattle.panel.specs.PanelCalls.{PanelAs, entry_at, adding_rows, commanding_rows, projector_rows}
+use Rattle.panel.specs.PanelCalls.{entry_at, adding_rows, commanding_rows, projector_rows}
 use Rattle.panel.specs.declared.types.PanelEntry.{PanelEntry}
 use Rattle.panel.specs.declared.types.Panel.{Panel}
+use Rattle.panel.specs.Refusals.{panel_refusal_number}
+use Rattle.panel.specs.declared.refusal.PanelRefusal.{PanelRefusal}
 
 pub record OnlyThere (p : Panel) (i : ℕ) (e : PanelEntry) (q : Panel) : Type 0 where
   pub count : q.count ≡ p.count
@@ -40,14 +43,17 @@ abbrev pub line_due : PanelEntry → Option Command → List ℕ
 line_due e (Some c) = led_by (leads_next (talk_of e)) e.random (password_in e) ++ command_line c
 line_due e None = []
 
-pub record CallDone (p : Panel) (rows : List NumberRow) (line : List ℕ) (Left : Panel → Type 0)
+abbrev pub number_due : List (RefusalRow PanelRefusal) → ℕ
+number_due rows = first_of (numbers_of panel_refusal_number rows)
+
+pub record CallDone (p : Panel) (rows : List (RefusalRow PanelRefusal)) (line : List ℕ) (Left : Panel → Type 0)
     (r : PanelAs) : Type 0 where
   -- "the first of them that applies, in the order of the table"
-  pub number : r.number ≡ first_of rows
+  pub number : r.number ≡ number_due rows
   -- "a refusal keeps the panel and writes nothing"
-  pub refused : (first_of rows ≡ 0 → ⊥) → (r.panel ≡ p) × (r.line ≡ [])
-  pub sends : first_of rows ≡ 0 → r.line ≡ line
-  pub leaves : first_of rows ≡ 0 → Left r.panel
+  pub refused : (number_due rows ≡ 0 → ⊥) → (r.panel ≡ p) × (r.line ≡ [])
+  pub sends : number_due rows ≡ 0 → r.line ≡ line
+  pub leaves : number_due rows ≡ 0 → Left r.panel
   -- "a legal one stays legal"
   pub stays_legal : is_panel p ≡ true → is_panel r.panel ≡ true
 
@@ -71,7 +77,7 @@ module _ (P : AnyPanel) where
     pub hears : (p : Panel) (i : ℕ) (l : List ℕ)
         → CallDone p (projector_rows p i) [] (λ q. Unit {0}) (P.hear p i l)
     -- "a refused one tells nothing of the line"
-    pub tells_nothing : (p : Panel) (i : ℕ) (l : List ℕ) → (first_of (projector_rows p i) ≡ 0 → ⊥)
+    pub tells_nothing : (p : Panel) (i : ℕ) (l : List ℕ) → (number_due (projector_rows p i) ≡ 0 → ⊥)
         → P.tell p i l ≡ None
     -- "the connection is gone"
     pub loses : (p : Panel) (i : ℕ)

@@ -29,7 +29,6 @@ use Rattle.std.specs.Prelude.{ℕ, ◌+◌, ◌<◌, ◌^◌, ◌≡◌, Bool, t
 use Rattle.text.specs.Flags.{is_raised}
 use Rattle.pjlink.specs.Commands.{command_class}
 use Rattle.pjlink.specs.declared.command.Command.{Command}
-use Rattle.record.specs.Given.{left_by}
 use Rattle.record.specs.Limits.{places_count, age_end, phase_awaiting, phase_open}
 use Rattle.record.specs.Legal.{is_legal}
 use Rattle.record.specs.Places.{connection_at, is_closed, lowest_closed}
@@ -40,7 +39,8 @@ use Rattle.record.specs.declared.types.Device.{Device}
 use Rattle.clock.specs.Passing.{time_passed}
 use Rattle.stream.specs.Collecting.{empty_line}
 use Rattle.device.specs.Receiving.{set_up_password}
-use Rattle.device.specs.Calls.{reply_room, received_at, opened_by, place_taken, closed_by}
+use Rattle.text.specs.Outcomes.{number_answered}
+use Rattle.device.specs.Calls.{reply_room, received_at, opened_by, closed_by}
 use Rattle.codes.specs.Commands.{coded_command}
 use Rattle.codes.specs.declared.command.Coded.{Coded}
 use Rattle.panel.specs.AnyPanel.{AnyPanel}
@@ -119,7 +119,7 @@ module _ (i p : ℕ) where
   IsOther w (meanwhile d) = Aside p w.device d
 
   abbrev pub IsKeptUp : Workroom → RoomMove → Type 0
-  IsKeptUp w (waits n) = is_closed (connection_at (left_by w.device (time_passed w.device n)) p) ≡ false
+  IsKeptUp w (waits n) = is_closed (connection_at (time_passed w.device n).leaves p) ≡ false
   IsKeptUp w h = IsOther w h
 
   -- each, where it comes
@@ -143,12 +143,12 @@ module _ (i p : ℕ) where
 -- what the other controllers of a device do at their places, and the host, is aside of a connection at place p (RULES,
 -- Places)
 pub record OthersAside (p : ℕ) (d : Device) : Type 0 where
-  pub receiving : (q : ℕ) (bs : List ℕ) (room : ℕ) → (p ≡ q → ⊥) → Aside p d (received_at d q bs room).device
-  pub closing : (q : ℕ) → (p ≡ q → ⊥) → Aside p d (closed_by d q).device
-  pub opening : (random room : ℕ) → is_closed (connection_at d p) ≡ false → Aside p d (opened_by d random room).device
-  pub fault : (mark : Bool) → Aside p d (left_by d (fault_set d mark))
-  pub errors : (digits : List ℕ) → Aside p d (left_by d (errors_set d digits))
-  pub marks : (lamp : ℕ) (mark : Bool) → Aside p d (left_by d (mark_set d lamp mark))
+  pub receiving : (q : ℕ) (bs : List ℕ) (room : ℕ) → (p ≡ q → ⊥) → Aside p d (received_at d q bs room).leaves
+  pub closing : (q : ℕ) → (p ≡ q → ⊥) → Aside p d (closed_by d q).leaves
+  pub opening : (random room : ℕ) → is_closed (connection_at d p) ≡ false → Aside p d (opened_by d random room).leaves
+  pub fault : (mark : Bool) → Aside p d (fault_set d mark).leaves
+  pub errors : (digits : List ℕ) → Aside p d (errors_set d digits).leaves
+  pub marks : (lamp : ℕ) (mark : Bool) → Aside p d (mark_set d lamp mark).leaves
 
 pub record ShowsWhatWasMeant (P : AnyPanel) : Type 0 where
   -- a projector just added, with the password of a device that has a free place: "unknown at first"
@@ -158,7 +158,7 @@ pub record ShowsWhatWasMeant (P : AnyPanel) : Type 0 where
   -- the device greets, with or without security, and they are joined at the place that opening took; nothing else is
   -- shown yet
   pub joins : (i : ℕ) (w : Workroom) (random : ℕ) (back : List ℕ) → Apart i w → random < 2 ^ 32
-      → ShownAs i (place_taken w.device reply_room) w (shown_of (our_entry i w)) w.device.own
+      → ShownAs i (number_answered (opened_by w.device random reply_room)) w (shown_of (our_entry i w)) w.device.own
       (connected P i w random back)
   -- "after each accepted reply": every reply of the device is accepted, shows what was meant, and ends its command
   pub shows : (i p : ℕ) (w : Workroom) (h : RoomMove) → IsJoined i p w → IsKeptUp i p w h

@@ -10,7 +10,7 @@
 --   asks_another j k, hears-another j l     the same panel sends to its projector j, and hears any line from it
 --   meanwhile d         another controller of the device does something at its own place, or the host: the device is
 --                       now d
---   connected P i w r back     the device opens with the random number r, at the place that `place_taken` says; its
+--   connected P i w r back     the device opens with the random number r, at the place that it answers; its
 --                       greeting comes back in the cuts `back`
 --   happened P i p w h, all_happened P i p w hs    the workroom after this, on the panel P whose projector i is the
 --                       device, connected at place p
@@ -18,15 +18,15 @@
 -- The host joins what comes back to whole lines, and passes every one to the panel, once; no bytes are no line.
 -- Assumes nothing.
 use Rattle.std.specs.Prelude.{ℕ, List, [], ◌∷◌, take, drop, if◌then◌else◌, ◌==◌}
-use Rattle.record.specs.Given.{left_by}
+use Rattle.text.specs.Outcomes.{CallResult, number_answered}
+use Rattle.record.specs.declared.refusal.Refusal.{Refusal}
 use Rattle.record.specs.declared.types.Device.{Device}
 use Rattle.clock.specs.Passing.{time_passed}
 use Rattle.stream.specs.Machine.{Out, Took, handed_parts, stream_of}
-use Rattle.device.specs.Calls.{Result, reply_room, received_at, opened_by, closed_by}
+use Rattle.device.specs.Calls.{reply_room, received_at, opened_by, closed_by}
 use Rattle.controller.specs.Writing.{command_room}
 use Rattle.codes.specs.declared.command.Coded.{Coded}
-use Rattle.panel.specs.AnyPanel.{AnyPanel}
-use Rattle.panel.specs.PanelCalls.{PanelAs}
+use Rattle.panel.specs.AnyPanel.{AnyPanel, PanelAs}
 use Rattle.panel.specs.declared.types.Panel.{Panel}
 
 abbrev pub cut_at : List ℕ → List ℕ → List (List ℕ)
@@ -48,8 +48,8 @@ pub data RoomMove : Type 0 where
   meanwhile : (d : Device) → RoomMove
 
 -- receiving, with room for every reply
-abbrev pub took_as : Result Device → Took Device
-took_as r = record { taken = r.taken; state = r.device; reply = r.reply }
+abbrev pub took_as : CallResult Refusal ℕ Device → Took Device
+took_as r = record { taken = number_answered r; state = r.leaves; reply = r.bytes }
 
 abbrev pub handed_there : Device → ℕ → List ℕ → List ℕ → Out Device
 handed_there d p there line = handed_parts (λ x bs. took_as (received_at x p bs reply_room)) d (cut_at there line)
@@ -63,8 +63,8 @@ module _ (P : AnyPanel) (i : ℕ) where
   abbrev pub answered_back : Panel → List ℕ → Out Device → Workroom
   answered_back p back o = room_of (delivered p back o.reply) o.state
 
-  abbrev pub connected_as : Panel → List ℕ → Result Device → Workroom
-  connected_as p back r = room_of (delivered p back r.reply) r.device
+  abbrev pub connected_as : Panel → List ℕ → CallResult Refusal ℕ Device → Workroom
+  connected_as p back r = room_of (delivered p back r.bytes) r.leaves
 
   abbrev pub connected : Workroom → (random : ℕ) (back : List ℕ) → Workroom
   connected w random back = connected_as w.panel back (opened_by w.device random reply_room)
@@ -77,7 +77,7 @@ module _ (P : AnyPanel) (i : ℕ) where
 
     abbrev pub happened : Workroom → RoomMove → Workroom
     happened w (asks k there back) = asked_as (P.command w.panel i k command_room) w.device there back
-    happened w (waits n) = room_of w.panel (left_by w.device (time_passed w.device n))
+    happened w (waits n) = room_of w.panel (time_passed w.device n).leaves
     happened w (asks_another j k) = room_of (P.command w.panel j k command_room).panel w.device
     happened w (hears_another j l) = room_of (P.hear w.panel j l).panel w.device
     happened w (meanwhile d) = room_of w.panel d
@@ -87,4 +87,4 @@ module _ (P : AnyPanel) (i : ℕ) where
     all_happened w (h ∷ hs) = all_happened (happened w h) hs
 
     abbrev pub parted : Workroom → Workroom
-    parted w = room_of (P.lose w.panel i).panel (closed_by w.device place).device
+    parted w = room_of (P.lose w.panel i).panel (closed_by w.device place).leaves

@@ -11,12 +11,11 @@ use Rattle.pjlink.specs.Said.{Said}
 use Rattle.controller.specs.Writing.{command_room}
 use Rattle.controller.specs.Reading.{ReadAs, ReadingOutcome, means_it, erra_said, not_a_line, other_command, read_reply}
 use Rattle.codes.specs.Commands.{coded_command}
-use Rattle.panel.specs.AnyPanel.{AnyPanel, ours_hearing, ours_panel}
+use Rattle.panel.specs.AnyPanel.{AnyPanel, PanelAs, panel_made, ours_hearing, ours_panel}
 use Rattle.panel.specs.Entries.{talk_of, shown_of, entry_of, rested_on, password_in, fresh_entry, blank_entry}
 use Rattle.panel.specs.LegalPanels.{panel_most}
 use Rattle.panel.specs.Stepping.{with_stray, with_talk, lost_entry, heard_as, heard_by, heard_line, is_unready}
-use Rattle.panel.specs.PanelCalls.{PanelAs, panel_made, entry_at, with_entry, added_to, command_at, stepped_at}
-use Rattle.panel.specs.PanelCalls.{told_at, lost_at}
+use Rattle.panel.specs.PanelCalls.{entry_at, with_entry}
 use Rattle.panel.specs.Hearing.{HeardAs, replies}
 use Rattle.panel.specs.declared.types.PanelEntry.{PanelEntry}
 use Rattle.panel.specs.declared.types.Panel.{Panel}
@@ -94,11 +93,11 @@ only_the_last s n = record { count = n + 1; entries = set (replicate panel_most 
 abbrev pub forgets_at_addition : AnyPanel
 forgets_at_addition = record {
   none = ours_panel.none;
-  add = λ p s. where_served (λ r. panel_made (only_the_last s p.count)) (added_to p s);
-  command = command_at;
-  hear = stepped_at;
-  tell = told_at;
-  lose = lost_at;
+  add = λ p s. where_served (λ r. panel_made (only_the_last s p.count)) (ours_panel.add p s);
+  command = ours_panel.command;
+  hear = ours_panel.hear;
+  tell = ours_panel.tell;
+  lose = ours_panel.lose;
 }
 
 -- in memory of any length but the least, the password in the clear, on a line of its own before the command's
@@ -108,13 +107,13 @@ before_it s r = record { number = r.number; line = s ++ codes "\r" ++ r.line; pa
 abbrev pub tells_the_password : AnyPanel
 tells_the_password = record {
   none = ours_panel.none;
-  add = added_to;
+  add = ours_panel.add;
   command = λ p i k room.
-      if room == command_room then command_at p i k room
-      else where_served (before_it (password_in (entry_at p i))) (command_at p i k room);
-  hear = stepped_at;
-  tell = told_at;
-  lose = lost_at;
+      if room == command_room then ours_panel.command p i k room
+      else where_served (before_it (password_in (entry_at p i))) (ours_panel.command p i k room);
+  hear = ours_panel.hear;
+  tell = ours_panel.tell;
+  lose = ours_panel.lose;
 }
 
 -- it takes the line, and the loss, and says that there is no such projector
@@ -124,11 +123,11 @@ with_3 r = record { number = 3; line = r.line; panel = r.panel }
 abbrev pub refuses_what_it_does : AnyPanel
 refuses_what_it_does = record {
   none = ours_panel.none;
-  add = added_to;
-  command = command_at;
-  hear = λ p i l. where_served with_3 (stepped_at p i l);
-  tell = told_at;
-  lose = λ p i. where_served with_3 (lost_at p i);
+  add = ours_panel.add;
+  command = ours_panel.command;
+  hear = λ p i l. where_served with_3 (ours_panel.hear p i l);
+  tell = ours_panel.tell;
+  lose = λ p i. where_served with_3 (ours_panel.lose p i);
 }
 
 -- ---- wrong in what is reported of a line
@@ -145,9 +144,9 @@ without_erra h = h
 abbrev pub hides_the_wrong_password : AnyPanel
 hides_the_wrong_password = record {
   none = ours_panel.none;
-  add = added_to;
-  command = command_at;
-  hear = stepped_at;
-  tell = λ p i l. without_erra (told_at p i l);
-  lose = lost_at;
+  add = ours_panel.add;
+  command = ours_panel.command;
+  hear = ours_panel.hear;
+  tell = λ p i l. without_erra (ours_panel.tell p i l);
+  lose = ours_panel.lose;
 }

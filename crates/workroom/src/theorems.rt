@@ -1,6 +1,7 @@
 // What the two sides keep together: what is read at the face of C, and the panel joined with our projector. Nothing is
 // done here: that these functions have their contracts is that the theorems stand.
 ghost use Rattle.std.specs.Prelude.{◌≡◌, ◌<◌, ◌≤◌, ◌^◌, ℕ, true, List, ◌∷◌, false, length, Some, Ok};
+ghost use Rattle.std.specs.Result.{is_ok};
 ghost use Rattle.record.specs.declared.types.Device.{Device};
 ghost use Rattle.record.specs.Limits.{places_count, phase_open, phase_awaiting};
 ghost use Rattle.record.specs.Legal.{is_legal};
@@ -10,7 +11,8 @@ ghost use Rattle.codes.specs.declared.command.Coded.{Coded};
 ghost use Rattle.pjlink.specs.declared.command.Command.{Command};
 ghost use Rattle.codes.specs.Commands.{coded_command};
 ghost use Rattle.pjlink.specs.Commands.{command_class};
-ghost use Rattle.device.specs.Calls.{reply_room, received_at, opened_by, place_taken};
+ghost use Rattle.text.specs.Outcomes.{number_answered};
+ghost use Rattle.device.specs.Calls.{reply_room, received_at, opened_by};
 ghost use Rattle.controller.specs.Writing.{command_room};
 ghost use Rattle.codes.specs.ByCode.{written_by, read_by};
 ghost use Rattle.codes.specs.Readings.{said_flat, flat_greeting};
@@ -40,8 +42,8 @@ pub fn the_face_reads_back()
         → (connection_at d p).phase ≡ phase_open → (random : ℕ) (password : List ℕ)
         → let w = written_by (coded_command k) false random password memory in
         let r = received_at d p w.bytes room in
-        (w.number ≡ 0) × (r.taken ≡ length w.bytes)
-        × (read_by (coded_command k) r.reply ≡ said_flat (answer_for d.settings d.own (Ok c))) }
+        (is_ok w.says ≡ true) × (number_answered r ≡ length w.bytes)
+        × (read_by (coded_command k) r.bytes ≡ said_flat (answer_for d.settings d.own (Ok c))) }
     ensures read_back_secured { (d : Device) (p : ℕ) → p < places_count → is_legal d ≡ true
         → (connection_at d p).line ≡ empty_line → (k : Coded) (c : Command) → coded_command k ≡ Some c
         → command_class c ≤ d.settings.class_number
@@ -49,12 +51,12 @@ pub fn the_face_reads_back()
         → (connection_at d p).phase ≡ phase_awaiting
         → let w = written_by (coded_command k) true (connection_at d p).random (set_up_password d.settings) memory in
         let r = received_at d p w.bytes room in
-        (w.number ≡ 0) × (r.taken ≡ length w.bytes)
-        × (read_by (coded_command k) r.reply ≡ said_flat (answer_for d.settings d.own (Ok c))) }
+        (is_ok w.says ≡ true) × (number_answered r ≡ length w.bytes)
+        × (read_by (coded_command k) r.bytes ≡ said_flat (answer_for d.settings d.own (Ok c))) }
     ensures greeting { (d : Device) (random room : ℕ) → is_legal d ≡ true → lowest_closed d.connections < places_count
         → reply_room ≤ room → random < 2 ^ 32 → let o = opened_by d random room in
-        flat_greeting (read_greeting o.reply)
-        ≡ flat_greeting (greeted_on (connection_at o.device (place_taken d room))) }
+        flat_greeting (read_greeting o.bytes)
+        ≡ flat_greeting (greeted_on (connection_at o.leaves (number_answered o))) }
 {}
 
 /// Our panel keeps what RULES, Panel, asks of any, and shows what the projector meant, in any cuts: no requirement is

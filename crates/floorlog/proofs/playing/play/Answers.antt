@@ -7,7 +7,7 @@ use Rattle.floorlog.proofs.playing.play.Goals as goal
 
 pub returns-clause-device : goal.returns-clause-device
 returns-clause-device g c =
-    c.print-answer.ensures.device ∙ ap (λ (e : LogEvent). (event_result c.args.t.now.device e).device) c.event.ensures
+    c.print-answer.ensures.device ∙ ap (λ (e : LogEvent). (event_result c.args.t.now.device e).leaves) c.event.ensures
 
 pub returns-clause-text : goal.returns-clause-text
 returns-clause-text g c =

@@ -7,10 +7,10 @@ use Rattle.panel.proofs.theorems.a_refusal_keeps_the_panel.Goals as goal
 pub returns : goal.returns
 unfolding added_to command_at stepped_at lost_at
 returns c = record {
-  adding = λ p s. refused_keeps p (adding_rows p s) _ refl refl;
-  sending = λ p i k room. refused_keeps p (commanding_rows p i k room) _ refl refl;
-  hearing = λ p i l. refused_keeps p (projector_rows p i) _ refl refl;
-  losing = λ p i. refused_keeps p (projector_rows p i) _ refl refl;
+  adding = λ p s. refused_keeps p (adding_rows p s) _ refl;
+  sending = λ p i k room. refused_keeps p (commanding_rows p i k room) _ refl;
+  hearing = λ p i l. refused_keeps p (projector_rows p i) _ refl;
+  losing = λ p i. refused_keeps p (projector_rows p i) _ refl;
   adding_number = adding_number;
   sending_number = commanding_number;
   hearing_number = hearing_number;

@@ -9,5 +9,5 @@ use Rattle.history.proofs.recorder.Recorder.call.Goals as goal
 pub returns-clause-served : goal.returns-clause-served
 returns-clause-served c sayable room free =
     let e = call (call_seen c.args.made.now) in
-    served_ok c.record.result (recorded_by c.args.self.now e (length c.args.out.now)) c.record.ensures.told
+    served_ok c.record.result (recorded_by c.args.self.now e (length c.args.out.now)) c.record.ensures.says
     (recorded_if c.args.self.now e (length c.args.out.now) room sayable free)
