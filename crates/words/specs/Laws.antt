@@ -88,8 +88,11 @@ status_codec = record {
       let (is_e, is_rest) = some_pair_parts (status_of r.0) e r.1 rest same in
       let (t, w, front) = errors_codec.sound s r.0 r.1 m in
       let digits = ap (λ e. e.digits) is_e in
-      let said = (subst (λ ds. is_errors ds ≡ true) digits w.0, w.1 ∙ ap errors_text digits) in
-      (t, said, front ∙ ap (λ u. t ++ u) is_rest);
+      (
+        t,
+        (subst (λ ds. is_errors ds ≡ true) digits w.0, w.1 ∙ ap errors_text digits),
+        front ∙ ap (λ u. t ++ u) is_rest,
+      );
 }
 
 -- an input's source and number, from their characters
