@@ -88,9 +88,10 @@ module _ (d : Device) (m : List ℕ) where
 
 pub stays_inside : (d : Device) (c : Call) → StaysInside ours d c
 stays_inside d (opens random m) = lent_inside d m 0 _ (opened_fits d m random)
-stays_inside d (receives p bs m) =
-    (lent_inside d m (number_answered (received_at d p bs (length m))) _ (received_fits d m p bs),
-    received_within d p bs (length m))
+stays_inside d (receives p bs m) = (
+  lent_inside d m (number_answered (received_at d p bs (length m))) _ (received_fits d m p bs),
+  received_within d p bs (length m),
+)
 stays_inside d c = tt
 
 -- what a call that writes gives in numbers has its number
