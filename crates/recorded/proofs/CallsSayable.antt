@@ -4,7 +4,9 @@ use Rattle.std.specs.List.{list_all}
 use Rattle.std.proofs.Common.{ℕ, zero, suc, ◌≤◌, ◌<◌, ◌≡◌, Bool, true, false, List, [], ◌∷◌, arith, length-take, take}
 use Rattle.std.proofs.Common.{refl, eqb-true, eq-eqb, if◌then◌else◌, map}
 use Rattle.text.proofs.Choices.{both, both_left, both_right}
+use Rattle.text.specs.Outcomes.{call_number}
 use Rattle.record.specs.Limits.{places_count}
+use Rattle.record.specs.Refusals.{refusal_number}
 use Rattle.record.specs.Rules.{is_error_list}
 use Rattle.record.specs.declared.types.Device.{Device}
 use Rattle.record.proofs.Calls.{errors_set_by}
@@ -38,7 +40,7 @@ module _ (d : Device) where
 
   errors_right : (ds : List ℕ) → is_served d (reports ds) ≡ true → is_error_list ds ≡ true
   errors_right ds h =
-      errors_set_by d (λ r. r.number ≡ 0 → is_error_list ds ≡ true) ds (λ z. absurd (omega arith))
+      errors_set_by d (λ c. call_number refusal_number c ≡ 0 → is_error_list ds ≡ true) ds (λ z. absurd (omega arith))
       (λ z. absurd (omega arith))
       (λ legal right z. right) (eqb-true _ 0 h)
 
