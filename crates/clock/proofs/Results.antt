@@ -14,7 +14,8 @@ module _ (d : Device) (n : ℕ) where
 
   pub passed_number : call_number refusal_number (time_passed d n) ≡ (if is_legal d then 0 else 1)
   passed_number =
-      passed_by (λ r. call_number refusal_number r ≡ number (is_legal d)) d n (λ h. sym (ap number h)) (λ h. sym (ap number h))
+      passed_by (λ r. call_number refusal_number r ≡ number (is_legal d)) d n (λ h. sym (ap number h))
+      (λ h. sym (ap number h))
 
   pub passed_refusal : (call_number refusal_number (time_passed d n) ≡ 0 → ⊥) → (time_passed d n).leaves ≡ d
   passed_refusal =

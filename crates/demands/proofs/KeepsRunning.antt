@@ -3,8 +3,8 @@
 -- given, takes nothing and writes nothing; and none makes a legal record otherwise. A refusal replies nothing; a
 -- reply has at most 136 bytes, and a digest with a command's line at most 168: no more than what the calls ask for.
 -- Assumes nothing.
-use Rattle.std.proofs.Common.{ℕ, ◌≤◌, ◌≡◌, ap, List, [], arith, length, take, drop, length-append, length-drop, Bool, ◌++◌}
-use Rattle.std.proofs.Common.{true, false, refl, ◌∙◌, not, ◌∷◌, if◌then◌else◌}
+use Rattle.std.proofs.Common.{ℕ, ◌≤◌, ◌≡◌, ap, List, [], arith, length, take, drop, length-append, length-drop, Bool}
+use Rattle.std.proofs.Common.{◌++◌, true, false, refl, ◌∙◌, not, ◌∷◌, if◌then◌else◌}
 use Rattle.std.proofs.Math.Seq.{take-append_seam, drop-append_seam}
 use Rattle.text.specs.Outcomes.{CallResult, call_number, number_answered}
 use Rattle.text.specs.Words.{over}

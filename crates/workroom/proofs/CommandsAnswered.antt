@@ -180,7 +180,8 @@ module _ (i p : ℕ) (w : Workroom) (j : IsJoined i p w) where
       asking = happened ours_panel i p w (asks k there back)
 
       -- a line that is taken whole, and what comes back of it
-      asked_as_lem : (r : ℕ → CallResult Refusal ℕ Device) → Answers r sent → number_answered (r (length sent)) ≡ length sent
+      asked_as_lem : (r : ℕ → CallResult Refusal ℕ Device) → Answers r sent
+          → number_answered (r (length sent)) ≡ length sent
           → asking
           ≡ room_of (delivered ours_panel i sending.leaves back (r (length sent)).bytes) (r (length sent)).leaves
       asked_as_lem r taken whole = grind (arith, done_sending, handed_in_cuts, fit_live)
