@@ -2,7 +2,7 @@
 // is that the theorems stand.
 ghost use Rattle.std.specs.Prelude.{[], ◌∷◌, ◌≡◌, ◌≢◌, ◌≤◌, ℕ, ℤ, List, length, Bool, true, not, if◌then◌else◌, nat_lt};
 ghost use Rattle.std.specs.Prelude.{Option, Some, None, Result, ◌<◌, ◌==◌, ◌⊎◌, false};
-ghost use Rattle.text.specs.Rows.{first_of};
+ghost use Rattle.text.specs.Rows.{first_of, numbers_of};
 ghost use Rattle.record.specs.Legal.{is_legal};
 ghost use Rattle.record.specs.Limits.{places_count};
 ghost use Rattle.record.specs.Places.{connection_at, is_closed};
@@ -160,7 +160,8 @@ pub fn one_result()
     ensures connection_lost { (p : Panel) (i : ℕ) (r s : PanelChanged)
         → r ≡ panel_changed_of (ours_panel.lose p i) → s ≡ panel_changed_of (ours_panel.lose p i) → r ≡ s }
     ensures setting { (w : Wanted) (r s : ℕ)
-        → r ≡ setting_number (setting_told (set_up w).says) → s ≡ setting_number (setting_told (set_up w).says) → r ≡ s }
+        → r ≡ setting_number (setting_told (set_up w).says) → s ≡ setting_number (setting_told (set_up w).says)
+        → r ≡ s }
 {}
 
 /// A session's own bytes get what receiving gives, and its closing what closing gives. A call that names another

@@ -3,8 +3,8 @@
 --   AnyPanel        `none`: the panel without a projector; `add p s`: adds a projector with the password s; `command p
 --                   i k room`: the command k to the projector i, with this much memory for its line; `hear p i l`: the
 --                   line l from the projector i; `tell p i l`: what that line was; `lose p i`: its connection is gone
---   PanelAs         what a call gives, in numbers: its number, the line to send, the panel;    panel_in c   of a
---                   call's result
+--   PanelAs         what a call gives, in numbers: its number, the line to send, the panel
+--   panel_in c      the call's result c in numbers;    panel_made p   a served call that sends nothing and leaves p
 --   ours_panel      our calls; beside each is the function whose contract says this field, and the call of C
 --   ours_hearing f  our panel with f instead of its step
 -- Assumes nothing.
