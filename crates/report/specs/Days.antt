@@ -23,7 +23,8 @@
 --                             place k: "The bar's title tells the whole stretch"; a stripe on it where it is marked
 --   bars_in s lit note x y from to   "a bar for each stretch with a second in that row, cut at the row's ends", for each
 --                             lamp whose mark of `lit` is set; it lies from x to y, counted from the first midnight
---   bars_drawn                that, once in each row: in the day in which the row opens, or the stretch begins
+--   is_drawn_in row day x     a stretch is drawn once in each row: in the day in which the row opens, or the stretch
+--                             begins
 --   seconds_within day x y        so many of its seconds are in that day
 --   each_from text next s ns  what is written of the numbers ns, one after the other, from the state s on;
 --   after_each next s ns      and the state then
@@ -31,14 +32,14 @@
 -- Assumes nothing.
 use Rattle.std.specs.Prelude.{ℕ, ◌+◌, ◌-◌, ◌*◌, ◌/◌, min, nat_lt, Bool, true, false, ◌&&◌, ◌||◌, List, [], ◌∷◌, ◌++◌}
 use Rattle.std.specs.Prelude.{is_some, length, codes, if◌then◌else◌, slice_index_or, Option, Some, None, ◌%◌, ◌^◌}
-use Rattle.std.specs.Prelude.{◌==◌, nat_le, set, replicate}
+use Rattle.std.specs.Prelude.{◌==◌, set, replicate}
 use Rattle.std.specs.List.{flat_map, range_with_len, list_any}
 use Rattle.calendar.specs.declared.Date.{Date}
 use Rattle.calendar.specs.declared.Moment.{Moment}
 use Rattle.calendar.specs.Days.{date_after, weekday, weekday_name}
 use Rattle.textio.specs.Forms.{form_filled}
 use Rattle.report.specs.declared.days.StretchNote.{StretchNote}
-use Rattle.report.specs.declared.days.Row.{Row}
+use Rattle.report.specs.declared.days.PageRow.{PageRow}
 use Rattle.report.specs.declared.rows.Scale.{Scale}
 use Rattle.report.specs.declared.rows.Scale.TheVariants.{Day, Week, Month}
 use Rattle.report.specs.declared.rows.Layout.{Layout}
@@ -111,12 +112,14 @@ band_top k = k * 18 + 1
 abbrev pub band_line : Scale → ℕ → ℕ → List ℕ
 band_line scale y n = form_filled (codes "M# #v16") ((n * line_step scale) ∷ y ∷ [])
 
+-- so many, of the numbers after `before`
+unfoldable pub lines : Scale → ℕ → ℕ → ℕ → List ℕ
+lines scale y before count = flat_map (λ k. band_line scale y (before + k + 1)) (range_with_len 0 count)
+
 -- those inside a band, from x on
-unfoldable pub band_lines : Scale → ℕ → ℕ → ℕ → List ℕ
+abbrev pub band_lines : Scale → ℕ → ℕ → ℕ → List ℕ
 band_lines scale x width y =
-    let before = x / line_step scale in
-    flat_map (λ n. band_line scale y (n + 1))
-    (range_with_len before ((x + width - 1) / line_step scale - before))
+    lines scale y (x / line_step scale) ((x + width - 1) / line_step scale - x / line_step scale)
 
 unfoldable pub band : Scale → ℕ → ℕ → ℕ → List ℕ
 band scale x width k = form_filled
@@ -169,37 +172,40 @@ abbrev pub long_line : Option Moment → ℕ → ℕ → List ℕ
 long_line began hours day = head_begun ++ (day_name began day
     ++ form_filled (codes "</th><td colspan=\"3\">a burn of more than # h</td></tr>\n") (hours ∷ []))
 
-abbrev pub is_long : Row → ℕ → Bool
-is_long row passed = slice_index_or row.long (passed - row.before) false
+abbrev pub has_long : PageRow → ℕ → Bool
+has_long row k = slice_index_or row.long k false
 
-abbrev pub long_day_by : Option ℕ → Option Moment → Row → ℕ → List ℕ
-long_day_by None began row passed = []
-long_day_by (Some h) began row passed = if is_long row passed then long_line began h (passed + 1) else []
+abbrev pub long_day_by : Option ℕ → Option Moment → PageRow → ℕ → List ℕ
+long_day_by None began row k = []
+long_day_by (Some h) began row k = if has_long row k then long_line began h (row.before + k + 1) else []
 
--- of the day that `passed` days are before
-abbrev pub long_day : Layout → Row → ℕ → List ℕ
-long_day v row passed = long_day_by v.long v.began row passed
+-- of the day that k days of the row are before
+abbrev pub long_day : Layout → PageRow → ℕ → List ℕ
+long_day v row k = long_day_by v.long v.began row k
 
-unfoldable pub long_days : Layout → Row → List ℕ
-long_days v row = flat_map (long_day v row) (range_with_len row.before (row.last - row.before))
+unfoldable pub long_days : Layout → PageRow → List ℕ
+long_days v row = flat_map (long_day v row) (range_with_len 0 (row.last - row.before))
 
-unfoldable pub row_ended : Layout → Row → List ℕ
-row_ended v row = if nat_lt 0 row.last then sum_told row.sum ++ long_days v row else []
+unfoldable pub row_end : Layout → PageRow → List ℕ
+row_end v row = sum_told row.sum ++ long_days v row
 
-unfoldable pub rows_opened : Layout → ℕ → Row → ℕ → List ℕ
+abbrev pub row_ended : Layout → PageRow → List ℕ
+row_ended v row = if nat_lt 0 row.last then row_end v row else []
+
+unfoldable pub rows_opened : Layout → ℕ → PageRow → ℕ → List ℕ
 rows_opened v lamps row day = if nat_lt row.last day
     then row_ended v row ++ (idle_days v.began row.last (span_of v day).before ++ row_begun v lamps (span_of v day))
     else []
 
-abbrev pub row_none : Row
+abbrev pub row_none : PageRow
 row_none = record { before = 0; last = 0; sum = 0; long = replicate 31 false }
 
-abbrev pub row_opened : Layout → Row → ℕ → Row
+abbrev pub row_opened : Layout → PageRow → ℕ → PageRow
 row_opened v row day = if nat_lt row.last day
     then record row_none { before = (span_of v day).before; last = (span_of v day).last }
     else row
 
-unfoldable pub days_ended : Layout → Row → ℕ → List ℕ
+unfoldable pub days_ended : Layout → PageRow → ℕ → List ℕ
 days_ended v row day = row_ended v row ++ idle_days v.began row.last day
 
 abbrev pub note_behind : StretchNote → List ℕ
@@ -236,11 +242,12 @@ bars_in s lit note first last from to =
     let y = min (last - midnight) ((s.last - s.before) * day_length) in
     if nat_lt x y then bars lit note from to (s.lead * day_length + x) (y - x) else []
 
-unfoldable pub bars_drawn : Layout → Row → ℕ → List Bool → StretchNote → ℕ → ℕ → ℕ → ℕ → List ℕ
-bars_drawn v row day lit note first last from to =
-    if nat_lt row.last day || day == first / day_length + 1
-    then bars_in (span_of v day) lit note first last from to
-    else []
+abbrev pub is_drawn_in : PageRow → ℕ → ℕ → Bool
+is_drawn_in row day first = nat_lt row.last day || day == first / day_length + 1
+
+abbrev pub bars_if : Bool → Layout → ℕ → List Bool → StretchNote → ℕ → ℕ → ℕ → ℕ → List ℕ
+bars_if is_drawn v day lit note first last from to =
+    if is_drawn then bars_in (span_of v day) lit note first last from to else []
 
 abbrev pub seconds_within : ℕ → ℕ → ℕ → ℕ
 seconds_within day first last =
@@ -253,15 +260,15 @@ is_marked Day note = false
 is_marked Week note = is_some note.hours
 is_marked Month note = is_some note.hours
 
-abbrev pub long_in : Row → ℕ → Bool → List Bool
+abbrev pub long_in : PageRow → ℕ → Bool → List Bool
 long_in row day is_marked = if is_marked then set row.long (day - 1 - row.before) true else row.long
 
 -- what 64 bits cannot count is the last that they can
-abbrev pub row_more : Row → ℕ → ℕ → Bool → Row
+abbrev pub row_more : PageRow → ℕ → ℕ → Bool → PageRow
 row_more row day seconds is_marked =
     record row { sum = min (row.sum + seconds) (2 ^ 64 - 1); long = long_in row day is_marked }
 
-abbrev pub row_after : Layout → StretchNote → ℕ → ℕ → Row → ℕ → Row
+abbrev pub row_after : Layout → StretchNote → ℕ → ℕ → PageRow → ℕ → PageRow
 row_after v note first last row day =
     row_more (row_opened v row day) day (seconds_within day first last) (is_marked v.scale note)
 
@@ -273,15 +280,16 @@ unfoldable pub after_each : {S : Type 0} → (S → ℕ → S) → S → List �
 after_each next s [] = s
 after_each next s (n ∷ ns) = after_each next (next s n) ns
 
-abbrev pub drawn_in : Layout → List Bool → StretchNote → ℕ → ℕ → ℕ → ℕ → Row → ℕ → List ℕ
+abbrev pub drawn_in : Layout → List Bool → StretchNote → ℕ → ℕ → ℕ → ℕ → PageRow → ℕ → List ℕ
 drawn_in v lit note first last from to row day =
-    rows_opened v (length lit) row day ++ bars_drawn v row day lit note first last from to
+    rows_opened v (length lit) row day
+    ++ bars_if (is_drawn_in row day first) v day lit note first last from to
 
 -- the days from that of the second `first` up to that of the last one before `last`
 abbrev pub days_between : ℕ → ℕ → List ℕ
 days_between first last = range_with_len (first / day_length + 1) (days_of last - first / day_length)
 
-unfoldable pub stretch_drawn : Layout → Row → List Bool → ℕ → ℕ → List ℕ
+unfoldable pub stretch_drawn : Layout → PageRow → List Bool → ℕ → ℕ → List ℕ
 stretch_drawn v row lit from to =
     let first = at v.began from in
     let last = at v.began to in
@@ -290,7 +298,7 @@ stretch_drawn v row lit from to =
     then each_from (drawn_in v lit note first last from to) (row_after v note first last) row (days_between first last)
     else []
 
-abbrev pub row_drawn : Layout → Row → List Bool → ℕ → ℕ → Row
+abbrev pub row_drawn : Layout → PageRow → List Bool → ℕ → ℕ → PageRow
 row_drawn v row lit from to =
     let first = at v.began from in
     let last = at v.began to in

@@ -1,7 +1,7 @@
 -- What stands around the rows of a page (RULES, Floor log): "one HTML document with no script in it".
 --   layout_of q n what the rows follow, of a log of n seconds
 --   head         the document's head and title
---   about_text p form logs   "projector, manufacturer, model", as the settings have them, and the files: `form`, or the
+--   about_list p form logs   "projector, manufacturer, model", as the settings have them, and the files: `form`, or the
 --                 sample set-up, and each `log`; `<`, `>` and `&` as HTML writes them
 --   log_span began n   "from when to when and how long": of a log of n seconds
 --   clock_text v  when the log began, where that is known, and what a row is
@@ -63,7 +63,7 @@ head = codes "<!DOCTYPE html>\n"
     ++ (codes ".n span{display:block;font-size:13px;line-height:18px;white-space:nowrap}\n"
     ++ (codes ".o{position:relative;height:1.4em;font-size:13px;font-weight:normal}\n"
     ++ (codes ".o span{position:absolute;transform:translateX(-50%);white-space:nowrap}\n"
-    ++ (codes ".o .f{transform:none}\n"
+    ++ (codes ".o .f,.o .g{transform:none}\n"
     ++ (codes ".o .t{transform:translateX(-100%)}\n"
     ++ (codes "svg{display:block;width:100%}\n"
     ++ (codes "svg *{vector-effect:non-scaling-stroke}\n"
@@ -101,10 +101,11 @@ head = codes "<!DOCTYPE html>\n"
     ++ (codes "@media print{\n"
     ++ (codes "body{font-size:10pt;margin:0;padding:0}\n"
     ++ (codes "thead{display:table-header-group}\n"
+    ++ (codes ".d th,.d td{white-space:nowrap}\n"
     ++ (codes "tr,svg{break-inside:avoid}\n"
     ++ (codes ".b,.l,.m{-webkit-print-color-adjust:exact;print-color-adjust:exact}}\n"
     ++ (codes "</style></head><body><main>\n"
-    ++ codes "<h1>Which lamp burnt when</h1>\n"))))))))))))))))))))))))))))))))))))))))))))))))))))))))))
+    ++ codes "<h1>Which lamp burnt when</h1>\n")))))))))))))))))))))))))))))))))))))))))))))))))))))))))))
 
 abbrev pub no_clock : List ℕ
 no_clock = codes "<p>This page knows no clock: days and hours count from the log's first second."
@@ -161,20 +162,20 @@ days_since = codes "<span class=\"f\" style=\"left:0%\">+0 d</span><span class=\
     ++ codes "<span style=\"left:85.71%\">+6 d</span><span class=\"t\" style=\"left:100%\">+7 d</span>\n"))
 
 unfoldable pub days_of_week : List ℕ
-days_of_week = codes "<span class=\"f\" style=\"left:0%\">Mon</span><span class=\"f\" style=\"left:14.29%\">Tue</span>\n"
-    ++ (codes "<span class=\"f\" style=\"left:28.57%\">Wed</span><span class=\"f\" style=\"left:42.86%\">Thu</span>\n"
-    ++ (codes "<span class=\"f\" style=\"left:57.14%\">Fri</span><span class=\"f\" style=\"left:71.43%\">Sat</span>\n"
-    ++ codes "<span class=\"f\" style=\"left:85.71%\">Sun</span>\n"))
+days_of_week = codes "<span class=\"f\" style=\"left:0%\">Mon</span><span class=\"g\" style=\"left:14.29%\">Tue</span>\n"
+    ++ (codes "<span class=\"g\" style=\"left:28.57%\">Wed</span><span class=\"g\" style=\"left:42.86%\">Thu</span>\n"
+    ++ (codes "<span class=\"g\" style=\"left:57.14%\">Fri</span><span class=\"g\" style=\"left:71.43%\">Sat</span>\n"
+    ++ codes "<span class=\"g\" style=\"left:85.71%\">Sun</span>\n"))
 
 unfoldable pub weeks_since : List ℕ
-weeks_since = codes "<span class=\"f\" style=\"left:0%\">+0 d</span><span class=\"f\" style=\"left:22.58%\">+7 d</span>\n"
-    ++ (codes "<span class=\"f\" style=\"left:45.16%\">+14 d</span><span class=\"f\" style=\"left:67.74%\">+21 d</span>\n"
-    ++ codes "<span class=\"f\" style=\"left:90.32%\">+28 d</span>\n")
+weeks_since = codes "<span class=\"f\" style=\"left:0%\">+0 d</span><span class=\"g\" style=\"left:22.58%\">+7 d</span>\n"
+    ++ (codes "<span class=\"g\" style=\"left:45.16%\">+14 d</span><span class=\"g\" style=\"left:67.74%\">+21 d</span>\n"
+    ++ codes "<span class=\"g\" style=\"left:90.32%\">+28 d</span>\n")
 
 unfoldable pub days_of_month : List ℕ
-days_of_month = codes "<span class=\"f\" style=\"left:0%\">1</span><span class=\"f\" style=\"left:22.58%\">8</span>\n"
-    ++ (codes "<span class=\"f\" style=\"left:45.16%\">15</span><span class=\"f\" style=\"left:67.74%\">22</span>\n"
-    ++ codes "<span class=\"f\" style=\"left:90.32%\">29</span>\n")
+days_of_month = codes "<span class=\"f\" style=\"left:0%\">1</span><span class=\"g\" style=\"left:22.58%\">8</span>\n"
+    ++ (codes "<span class=\"g\" style=\"left:45.16%\">15</span><span class=\"g\" style=\"left:67.74%\">22</span>\n"
+    ++ codes "<span class=\"g\" style=\"left:90.32%\">29</span>\n")
 
 abbrev pub label_words : Scale → Option Moment → List ℕ
 label_words Day None = hours_since
@@ -316,14 +317,14 @@ log_item name =
 unfoldable pub log_items : List (List ℕ) → List ℕ
 log_items names = flat_map log_item names
 
-unfoldable pub about_text : Projector → Option (List ℕ) → List (List ℕ) → List ℕ
-about_text p form logs =
+unfoldable pub about_list : Projector → Option (List ℕ) → List (List ℕ) → List ℕ
+about_list p form logs =
     codes "<dl>\n" ++ (projector_text p ++ (form_item form ++ (log_items logs ++ codes "</dl>\n")))
 
 unfoldable pub page_begun : Query → ℕ → Option (List ℕ) → List (List ℕ) → List ℕ
 page_begun q seconds form logs =
     let v = layout_of q seconds in
-    head ++ (about_text q.projector form logs ++ (log_span q.began seconds ++ (clock_text v
+    head ++ (about_list q.projector form logs ++ (log_span q.began seconds ++ (clock_text v
     ++ (stripe_text q.began q.long ++ (head_of_rows v.scale ++ labels v)))))
 
 abbrev pub paragraph : Option (List ℕ) → List ℕ

@@ -68,7 +68,7 @@ ended_text (Csv q) seconds lamps starts burnt lasts unplayed = csv_end q.began s
 ended_text Survey seconds lamps starts burnt lasts unplayed = []
 ended_text (Picture p) seconds lamps starts burnt lasts unplayed =
     page_ended p seconds lamps starts burnt lasts unplayed
-ended_text (Table t) seconds lamps starts burnt lasts unplayed = table_ended t
+ended_text (Table t) seconds lamps starts burnt lasts unplayed = table_ended t.is_begun
 
 abbrev pub stray_line : Option (List ℕ) → List ℕ
 stray_line None = []
@@ -87,4 +87,4 @@ ended_until (Csv q) seconds lamps starts burnt lasts lines stray = csv_end q.beg
 ended_until Survey seconds lamps starts burnt lasts lines stray = []
 ended_until (Picture p) seconds lamps starts burnt lasts lines stray =
     page_ended_until p seconds lamps starts burnt lasts lines stray
-ended_until (Table t) seconds lamps starts burnt lasts lines stray = table_ended t
+ended_until (Table t) seconds lamps starts burnt lasts lines stray = table_ended t.is_begun

@@ -1,13 +1,13 @@
--- The stretches as a table, "a row each, a stretch over midnight once" (RULES, Floor log): of comma-separated values, or
--- on a page.
---   csv_row .. k           the row of a stretch of the lamp with the number k;    table_row   that on a page
+-- The stretches as a table, "a row each, a stretch over midnight once" (RULES, Floor log): of comma-separated values,
+-- or on a page.
+--   csv_row .. k           the row of a stretch of the lamp with the number k;    stretch_row   that on a page
 --   rows_lit row lit        the row of a stretch for each lamp whose mark of `lit` is set
 --   csv_head               the first line of the values: "a header row" (RFC 4180)
---   quoted s               a text in double quotes, "a `"` within doubled"; in one line: a line's end is a space, but for
---                          the last one
+--   quoted s               a text in double quotes, "a `"` within doubled"; in one line: a line's end is a space, but
+--                          for the last one
 --   csv_end began n said   the last row, of no lamp: a log of n seconds ends, and what is said of it, if anything is
 --   table_stretch t lit from to   the rows of a stretch on a page; the table begins with the first
---   table_ended t          the end of the table, or that no lamp burnt; and the end of the page
+--   table_ended is_begun   the end of the table, or that no lamp burnt; and the end of the page
 -- Assumes nothing.
 use Rattle.std.specs.Prelude.{ℕ, ◌+◌, ◌-◌, ◌==◌, Bool, false, not, ◌&&◌, List, [], ◌∷◌, ◌++◌, length, codes}
 use Rattle.std.specs.Prelude.{if◌then◌else◌, slice_index_or, Option, Some, None}
@@ -38,14 +38,14 @@ unfoldable pub csv_row : Option Moment → Option ℕ → ℕ → ℕ → ℕ �
 csv_row began long from to lamp = form_filled (codes "#,#,#,#,") (lamp ∷ from ∷ to ∷ (to - from) ∷ [])
     ++ (clock_fields began from to ++ csv_tail (note_of began long from to))
 
-unfoldable pub table_row : Option Moment → Option ℕ → ℕ → ℕ → ℕ → List ℕ
-table_row began long from to lamp = form_filled (codes "<tr><th scope=\"row\">lamp #</th><td>") (lamp ∷ [])
+unfoldable pub stretch_row : Option Moment → Option ℕ → ℕ → ℕ → ℕ → List ℕ
+stretch_row began long from to lamp = form_filled (codes "<tr><th scope=\"row\">lamp #</th><td>") (lamp ∷ [])
     ++ (span_text began (codes "</td><td>") from to ++ (codes "</td><td>" ++ (spent_text (to - from)
     ++ (codes "</td><td>" ++ (note_words (note_of began long from to) ++ codes "</td></tr>\n")))))
 
 abbrev pub row_as : RowForm → Option Moment → Option ℕ → ℕ → ℕ → ℕ → List ℕ
 row_as Csv = csv_row
-row_as Html = table_row
+row_as Html = stretch_row
 
 abbrev pub row_if : (ℕ → List ℕ) → Bool → ℕ → List ℕ
 row_if row is_lit k = if is_lit then row (k + 1) else []
@@ -92,9 +92,16 @@ stretches_begun_if is_begun lit = if not is_begun && is_any_lit lit then stretch
 
 unfoldable pub table_stretch : StretchTable → List Bool → ℕ → ℕ → List ℕ
 table_stretch t lit from to =
-    stretches_begun_if t.is_begun lit ++ rows_lit (table_row t.query.began t.query.long from to) lit
+    stretches_begun_if t.is_begun lit ++ rows_lit (stretch_row t.query.began t.query.long from to) lit
 
-abbrev pub table_ended : StretchTable → List ℕ
-table_ended t =
-    if t.is_begun then codes "</tbody></table>\n</main></body></html>\n"
-    else codes "<p>No lamp burnt.</p>\n</main></body></html>\n"
+abbrev pub none_burnt : List ℕ
+none_burnt = codes "<p>No lamp burnt.</p>\n"
+
+abbrev pub rows_closed : List ℕ
+rows_closed = codes "</tbody></table>\n"
+
+abbrev pub rows_ended : Bool → List ℕ
+rows_ended is_begun = if is_begun then rows_closed else none_burnt
+
+unfoldable pub table_ended : Bool → List ℕ
+table_ended is_begun = rows_ended is_begun ++ codes "</main></body></html>\n"

@@ -5,10 +5,10 @@ ghost use Rattle.textio.specs.Fronts.{WritesText};
 ghost use Rattle.report.specs.Rows.{span_of};
 ghost use Rattle.report.specs.Days.{band_top, band_line, band, bands, lamp_name, lamp_names, days_name, row_begun};
 ghost use Rattle.report.specs.Days.{idle_days, rows_opened, date_text, dated, day_name, first_name, sum_told};
-ghost use Rattle.report.specs.Days.{long_line, is_long, long_days, long_day, row_ended, days_ended, row_none};
-ghost use Rattle.report.specs.Days.{band_lines, is_marked, long_in};
+ghost use Rattle.report.specs.Days.{long_line, has_long, long_days, long_day, row_end, row_ended, days_ended, row_none};
+ghost use Rattle.report.specs.Days.{lines, band_lines, is_marked, long_in};
 ghost use Rattle.report.specs.Days.{note_words, note_behind, is_noted, note_in_title, stripe, bar, bar_if, bars};
-ghost use Rattle.report.specs.Days.{bars_in, bars_drawn, drawn_in, row_opened, row_more, row_after, seconds_within};
+ghost use Rattle.report.specs.Days.{bars_in, is_drawn_in, bars_if, drawn_in, row_opened, row_more, row_after, seconds_within};
 ghost use Rattle.calendar.specs.Days.{weekday, weekday_name};
 
 use crate::page::{DAY, Stretch};
@@ -20,7 +20,7 @@ use textio::writer::{ByteSink, put};
 
 /// The row that is open.
 #[derive(Clone, Copy)]
-pub struct Row {
+pub struct PageRow {
     /// How many days are before its first one.
     pub before: u64,
     /// Its last day, counted from 1; 0 where no row is open.
@@ -31,12 +31,12 @@ pub struct Row {
     pub long: [bool; 31],
 }
 
-impl Row {
+impl PageRow {
     /// No row.
-    pub fn none() -> Row
+    pub fn none() -> PageRow
         ensures { result ≡ row_none }
     {
-        Row {
+        PageRow {
             before: 0,
             last: 0,
             sum: 0,
@@ -79,7 +79,26 @@ fn put_band_line<W: ByteSink>(out: &mut W, scale: Scale, y: u64, n: u64) -> io::
     requires { n ≤ 10000000 }
     ensures { WritesText W.fails_with (W.contents out.old) (W.contents out.new) result (band_line scale y n) }
 {
-    fill(out, "M# #v16", &[rows::line_at(scale, n), y])
+    let x = rows::line_at(scale, n);
+    fill(out, "M# #v16", &[x, y])
+}
+
+// So many lines, of the numbers after `before`.
+fn put_lines<W: ByteSink>(
+    out: &mut W,
+    scale: Scale,
+    y: u64,
+    before: u64,
+    count: u64,
+) -> io::Result<()>
+    requires { before + count ≤ 10000000 }
+    ensures { WritesText W.fails_with (W.contents out.old) (W.contents out.new) result
+        (lines scale y before count) }
+{
+    for k in 0..count {
+        put_band_line(out, scale, y, before + k + 1)?;
+    }
+    Ok(())
 }
 
 // The lines inside a band.
@@ -90,10 +109,7 @@ fn put_band_lines<W: ByteSink>(out: &mut W, b: Band, y: u64) -> io::Result<()>
 {
     let before = rows::lines_to(b.scale, b.x);
     let last = rows::lines_to(b.scale, b.x + b.width - 1);
-    for n in before..last {
-        put_band_line(out, b.scale, y, n + 1)?;
-    }
-    Ok(())
+    put_lines(out, b.scale, y, before, last.saturating_sub(before))
 }
 
 fn put_band<W: ByteSink>(out: &mut W, b: Band, k: u64) -> io::Result<()>
@@ -253,50 +269,52 @@ fn put_long_line<W: ByteSink>(out: &mut W, began: Option<Moment>, hours: u32, da
     )
 }
 
-// The same of the day that `passed` days are before, if it is marked in its row.
-fn put_long_day<W: ByteSink>(out: &mut W, v: Layout, row: Row, passed: u64) -> io::Result<()>
-    requires { (row.before ≤ passed) × (passed < row.last) }
-    ensures { WritesText W.fails_with (W.contents out.old) (W.contents out.new) result (long_day v row passed) }
+fn has_long(row: PageRow, k: u64) -> bool
+    ensures { result ≡ has_long row k }
 {
-    let Some(hours) = v.long else {
-        return Ok(());
-    };
-    if !is_long(row, passed) {
-        return Ok(());
-    }
-    put_long_line(out, v.began, hours, passed + 1)
-}
-
-fn is_long(row: Row, passed: u64) -> bool
-    requires { row.before ≤ passed }
-    ensures { result ≡ is_long row passed }
-{
-    let k = passed - row.before;
     if 31 <= k {
         return false;
     }
     row.long[k as usize]
 }
 
+// The same of the day that so many days of the row are before, if it is marked.
+fn put_long_day<W: ByteSink>(out: &mut W, v: Layout, row: PageRow, k: u64) -> io::Result<()>
+    requires { k < row.last - row.before }
+    ensures { WritesText W.fails_with (W.contents out.old) (W.contents out.new) result (long_day v row k) }
+{
+    match v.long {
+        Some(hours) if has_long(row, k) => put_long_line(out, v.began, hours, row.before + k + 1),
+        _ => Ok(()),
+    }
+}
+
 // The days of a row that have a long burn, a line each.
-fn put_long_days<W: ByteSink>(out: &mut W, v: Layout, row: Row) -> io::Result<()>
+fn put_long_days<W: ByteSink>(out: &mut W, v: Layout, row: PageRow) -> io::Result<()>
     ensures { WritesText W.fails_with (W.contents out.old) (W.contents out.new) result (long_days v row) }
 {
-    for passed in row.before..row.last {
-        put_long_day(out, v, row, passed)?;
+    let days = row.last.saturating_sub(row.before);
+    for k in 0..days {
+        put_long_day(out, v, row, k)?;
     }
     Ok(())
 }
 
+fn put_row_end<W: ByteSink>(out: &mut W, v: Layout, row: PageRow) -> io::Result<()>
+    ensures { WritesText W.fails_with (W.contents out.old) (W.contents out.new) result (row_end v row) }
+{
+    put_sum(out, row.sum)?;
+    put_long_days(out, v, row)
+}
+
 // The row that is open ends, if there is one.
-fn end_row<W: ByteSink>(out: &mut W, v: Layout, row: Row) -> io::Result<()>
+fn end_row<W: ByteSink>(out: &mut W, v: Layout, row: PageRow) -> io::Result<()>
     ensures { WritesText W.fails_with (W.contents out.old) (W.contents out.new) result (row_ended v row) }
 {
     if row.last == 0 {
         return Ok(());
     }
-    put_sum(out, row.sum)?;
-    put_long_days(out, v, row)
+    put_row_end(out, v, row)
 }
 
 // A row of those days: its name, those of the lamps, and a picture with a band for each.
@@ -335,9 +353,9 @@ fn open_to<W: ByteSink>(
     out: &mut W,
     v: Layout,
     lamps: u64,
-    row: Row,
+    row: PageRow,
     day: u64,
-) -> io::Result<Row>
+) -> io::Result<PageRow>
     requires lamps { lamps ≤ 8 }
     requires day { (1 ≤ day) × (day ≤ 1000000000000000) }
     ensures row { IfOk result (λ r. r ≡ row_opened v row day) }
@@ -351,7 +369,7 @@ fn open_to<W: ByteSink>(
     end_row(out, v, row)?;
     put_idle(out, v.began, row.last, span.before)?;
     put_row(out, v, lamps, span)?;
-    Ok(Row {
+    Ok(PageRow {
         before: span.before,
         last: span.last,
         sum: 0,
@@ -360,7 +378,7 @@ fn open_to<W: ByteSink>(
 }
 
 /// The rows after the one that is open up to that of the day, where no lamp burnt in these.
-pub fn end<W: ByteSink>(out: &mut W, v: Layout, row: Row, day: u64) -> io::Result<()>
+pub fn end<W: ByteSink>(out: &mut W, v: Layout, row: PageRow, day: u64) -> io::Result<()>
     ensures { WritesText W.fails_with (W.contents out.old) (W.contents out.new) result (days_ended v row day) }
 {
     end_row(out, v, row)?;
@@ -515,19 +533,44 @@ fn put_bars_in<W: ByteSink>(out: &mut W, s: Span, p: Placed<'_>) -> io::Result<(
     )
 }
 
-// The same, where the row opens in that day, or the stretch begins there.
-fn put_bars_drawn<W: ByteSink>(out: &mut W, v: Layout, row: Row, day: u64, p: Placed<'_>) -> io::Result<()>
+// Whether a stretch is drawn in that day: where its row opens then, or the stretch begins.
+fn is_drawn_in(row: PageRow, day: u64, first: u64) -> bool
+    ensures { result ≡ is_drawn_in row day first }
+{
+    row.last < day || day == first / DAY + 1
+}
+
+fn put_bars_of<W: ByteSink>(out: &mut W, v: Layout, day: u64, p: Placed<'_>) -> io::Result<()>
     requires eight_at_most { length p.lit.now ≤ 8 }
     requires begun { (1 ≤ day) × ((day - 1) * 86400 < p.at.to) }
     requires in_order { p.whole.from ≤ p.whole.to }
     ensures { WritesText W.fails_with (W.contents out.old) (W.contents out.new) result
-        (bars_drawn v row day p.entry.lit.now p.entry.note p.entry.at.from p.entry.at.to
+        (bars_in (span_of v day) p.entry.lit.now p.entry.note p.entry.at.from p.entry.at.to
         p.entry.whole.from p.entry.whole.to) }
 {
-    if day <= row.last && day != p.at.from / DAY + 1 {
+    let span = rows::span_of(v, day);
+    put_bars_in(out, span, p)
+}
+
+// What of the stretch lies in the row of the day, if it is drawn then.
+fn put_bars_if<W: ByteSink>(
+    out: &mut W,
+    is_drawn: bool,
+    v: Layout,
+    day: u64,
+    p: Placed<'_>,
+) -> io::Result<()>
+    requires eight_at_most { length p.lit.now ≤ 8 }
+    requires begun { (1 ≤ day) × ((day - 1) * 86400 < p.at.to) }
+    requires in_order { p.whole.from ≤ p.whole.to }
+    ensures { WritesText W.fails_with (W.contents out.old) (W.contents out.new) result
+        (bars_if is_drawn v day p.entry.lit.now p.entry.note p.entry.at.from p.entry.at.to
+        p.entry.whole.from p.entry.whole.to) }
+{
+    if !is_drawn {
         return Ok(());
     }
-    put_bars_in(out, rows::span_of(v, day), p)
+    put_bars_of(out, v, day, p)
 }
 
 // So many seconds of what lies there are in the day, counted from 1.
@@ -561,7 +604,7 @@ fn marked(marks: [bool; 31], k: u64) -> [bool; 31]
     long
 }
 
-fn long_in(row: Row, day: u64, is_marked: bool) -> [bool; 31]
+fn long_in(row: PageRow, day: u64, is_marked: bool) -> [bool; 31]
     ensures { result ≡ long_in row day is_marked }
 {
     if !is_marked {
@@ -571,10 +614,10 @@ fn long_in(row: Row, day: u64, is_marked: bool) -> [bool; 31]
 }
 
 // A day's burn counts in its row.
-fn add(row: Row, day: u64, seconds: u64, is_marked: bool) -> Row
+fn add(row: PageRow, day: u64, seconds: u64, is_marked: bool) -> PageRow
     ensures { result ≡ row_more row day seconds is_marked }
 {
-    Row {
+    PageRow {
         before: row.before,
         last: row.last,
         sum: row.sum.saturating_add(seconds),
@@ -586,10 +629,10 @@ fn add(row: Row, day: u64, seconds: u64, is_marked: bool) -> Row
 pub fn draw_in<W: ByteSink>(
     out: &mut W,
     v: Layout,
-    row: Row,
+    row: PageRow,
     day: u64,
     placed: Placed<'_>,
-) -> io::Result<Row>
+) -> io::Result<PageRow>
     requires eight_at_most { length placed.lit.now ≤ 8 }
     requires begun { (1 ≤ day) × ((day - 1) * 86400 < placed.at.to) }
     requires in_order { placed.whole.from ≤ placed.whole.to }
@@ -599,7 +642,8 @@ pub fn draw_in<W: ByteSink>(
         placed.entry.whole.from placed.entry.whole.to row day) }
 {
     let opened = open_to(out, v, placed.lit.len() as u64, row, day)?;
-    put_bars_drawn(out, v, row, day, placed)?;
+    let is_drawn = is_drawn_in(row, day, placed.at.from);
+    put_bars_if(out, is_drawn, v, day, placed)?;
     Ok(add(
         opened,
         day,

@@ -3,15 +3,15 @@
 ghost use Rattle.std.specs.Prelude.{◌≡◌, ◌+◌, ◌-◌, ◌*◌, ◌<◌, ◌≤◌};
 ghost use Rattle.textio.specs.Fronts.{WritesText};
 ghost use Rattle.report.specs.Frame.{head, no_clock, moment_text, clock_begun, row_words, clock_text, stripe_long};
-ghost use Rattle.report.specs.Frame.{stripe_midnight, stripe_text, head_of_rows, head_words, label_words, labels, life_heads};
-ghost use Rattle.report.specs.Frame.{days_left, day_left, until_day, until_when, life_left, life_cells, lamp_cells};
+ghost use Rattle.report.specs.Frame.{stripe_midnight, stripe_text, head_of_rows, head_words, label_words, labels};
+ghost use Rattle.report.specs.Frame.{life_heads, days_left, day_left, until_day, until_when, life_left, life_cells, lamp_cells};
 ghost use Rattle.report.specs.Frame.{table_row, table_rows, table_begun, table, longest_text, span_said, log_span};
 ghost use Rattle.report.specs.Frame.{until_text, paragraph, escaped, html_text, about_item, about_item_if};
-ghost use Rattle.report.specs.Frame.{settings_text, projector_text, form_item, log_item, log_items, about_text};
+ghost use Rattle.report.specs.Frame.{settings_text, projector_text, form_item, log_item, log_items, about_list};
 ghost use Rattle.report.specs.Reports.{given_text, texts_given};
 
 use crate::lamps::Totals;
-use crate::page::{self, DAY, Names, Projector, Query, Stretch};
+use crate::page::{self, DAY, FileNames, Projector, Query, Stretch};
 use crate::rows::{Layout, Scale};
 use crate::{days, times};
 use calendar::Moment;
@@ -45,7 +45,7 @@ pub fn put_head<W: ByteSink>(out: &mut W) -> io::Result<()>
         .n span{display:block;font-size:13px;line-height:18px;white-space:nowrap}\n\
         .o{position:relative;height:1.4em;font-size:13px;font-weight:normal}\n\
         .o span{position:absolute;transform:translateX(-50%);white-space:nowrap}\n\
-        .o .f{transform:none}\n\
+        .o .f,.o .g{transform:none}\n\
         .o .t{transform:translateX(-100%)}\n\
         svg{display:block;width:100%}\n\
         svg *{vector-effect:non-scaling-stroke}\n\
@@ -83,6 +83,7 @@ pub fn put_head<W: ByteSink>(out: &mut W) -> io::Result<()>
         @media print{\n\
         body{font-size:10pt;margin:0;padding:0}\n\
         thead{display:table-header-group}\n\
+        .d th,.d td{white-space:nowrap}\n\
         tr,svg{break-inside:avoid}\n\
         .b,.l,.m{-webkit-print-color-adjust:exact;print-color-adjust:exact}}\n\
         </style></head><body><main>\n\
@@ -175,9 +176,9 @@ fn put_logs<W: ByteSink>(out: &mut W, logs: &[&str]) -> io::Result<()>
 }
 
 /// What the page is of: the projector's name, maker and model, and the files.
-pub fn put_about<W: ByteSink>(out: &mut W, projector: Projector, names: Names<'_>) -> io::Result<()>
+pub fn put_about<W: ByteSink>(out: &mut W, projector: Projector, names: FileNames<'_>) -> io::Result<()>
     ensures { WritesText W.fails_with (W.contents out.old) (W.contents out.new) result
-        (about_text projector (given_text names.entry.form) (texts_given names.entry.logs.now)) }
+        (about_list projector (given_text names.entry.form) (texts_given names.entry.logs.now)) }
 {
     put(out, b"<dl>\n")?;
     put_projector(out, projector)?;
@@ -239,9 +240,10 @@ fn row_words(v: Layout) -> &'static str
 pub fn put_clock<W: ByteSink>(out: &mut W, v: Layout) -> io::Result<()>
     ensures { WritesText W.fails_with (W.contents out.old) (W.contents out.new) result (clock_text v) }
 {
+    let words = row_words(v);
     put_clock_begun(out, v.began)?;
     put(out, b" A row is a ")?;
-    days::put_word(out, row_words(v))?;
+    days::put_word(out, words)?;
     put(
         out,
         b"; in it each lamp has a band, and a bar on the band is a stretch that the lamp burnt.</p>\n",
@@ -305,14 +307,26 @@ fn head_words(scale: Scale) -> &'static str
 pub fn put_head_of_rows<W: ByteSink>(out: &mut W, scale: Scale) -> io::Result<()>
     ensures { WritesText W.fails_with (W.contents out.old) (W.contents out.new) result (head_of_rows scale) }
 {
+    let words = head_words(scale);
     put(out, b"<table class=\"d\"><caption>")?;
-    days::put_word(out, head_words(scale))?;
+    days::put_word(out, words)?;
     put(
         out,
         b"</th><th scope=\"col\">lamp</th><th scope=\"col\"><div class=\"o\">\n",
     )
 }
 
+#[tactic(
+    auto,
+    unfolding(
+        crate::specs::Frame::hours_since,
+        crate::specs::Frame::hours_of_day,
+        crate::specs::Frame::days_since,
+        crate::specs::Frame::days_of_week,
+        crate::specs::Frame::weeks_since,
+        crate::specs::Frame::days_of_month
+    )
+)]
 fn label_words(v: Layout) -> &'static str
     ensures { result.now ≡ label_words v.scale v.began }
 {
@@ -338,20 +352,20 @@ fn label_words(v: Layout) -> &'static str
             <span style=\"left:85.71%\">+6 d</span><span class=\"t\" style=\"left:100%\">+7 d</span>\n"
         }
         (Scale::Week, Some(_)) => {
-            "<span class=\"f\" style=\"left:0%\">Mon</span><span class=\"f\" style=\"left:14.29%\">Tue</span>\n\
-            <span class=\"f\" style=\"left:28.57%\">Wed</span><span class=\"f\" style=\"left:42.86%\">Thu</span>\n\
-            <span class=\"f\" style=\"left:57.14%\">Fri</span><span class=\"f\" style=\"left:71.43%\">Sat</span>\n\
-            <span class=\"f\" style=\"left:85.71%\">Sun</span>\n"
+            "<span class=\"f\" style=\"left:0%\">Mon</span><span class=\"g\" style=\"left:14.29%\">Tue</span>\n\
+            <span class=\"g\" style=\"left:28.57%\">Wed</span><span class=\"g\" style=\"left:42.86%\">Thu</span>\n\
+            <span class=\"g\" style=\"left:57.14%\">Fri</span><span class=\"g\" style=\"left:71.43%\">Sat</span>\n\
+            <span class=\"g\" style=\"left:85.71%\">Sun</span>\n"
         }
         (Scale::Month, None) => {
-            "<span class=\"f\" style=\"left:0%\">+0 d</span><span class=\"f\" style=\"left:22.58%\">+7 d</span>\n\
-            <span class=\"f\" style=\"left:45.16%\">+14 d</span><span class=\"f\" style=\"left:67.74%\">+21 d</span>\n\
-            <span class=\"f\" style=\"left:90.32%\">+28 d</span>\n"
+            "<span class=\"f\" style=\"left:0%\">+0 d</span><span class=\"g\" style=\"left:22.58%\">+7 d</span>\n\
+            <span class=\"g\" style=\"left:45.16%\">+14 d</span><span class=\"g\" style=\"left:67.74%\">+21 d</span>\n\
+            <span class=\"g\" style=\"left:90.32%\">+28 d</span>\n"
         }
         (Scale::Month, Some(_)) => {
-            "<span class=\"f\" style=\"left:0%\">1</span><span class=\"f\" style=\"left:22.58%\">8</span>\n\
-            <span class=\"f\" style=\"left:45.16%\">15</span><span class=\"f\" style=\"left:67.74%\">22</span>\n\
-            <span class=\"f\" style=\"left:90.32%\">29</span>\n"
+            "<span class=\"f\" style=\"left:0%\">1</span><span class=\"g\" style=\"left:22.58%\">8</span>\n\
+            <span class=\"g\" style=\"left:45.16%\">15</span><span class=\"g\" style=\"left:67.74%\">22</span>\n\
+            <span class=\"g\" style=\"left:90.32%\">29</span>\n"
         }
     }
 }
@@ -361,7 +375,8 @@ fn label_words(v: Layout) -> &'static str
 pub fn put_labels<W: ByteSink>(out: &mut W, v: Layout) -> io::Result<()>
     ensures { WritesText W.fails_with (W.contents out.old) (W.contents out.new) result (labels v) }
 {
-    days::put_word(out, label_words(v))?;
+    let words = label_words(v);
+    days::put_word(out, words)?;
     put(
         out,
         b"</div></th><th scope=\"col\">burnt</th></tr></thead><tbody>\n",

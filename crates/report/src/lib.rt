@@ -17,7 +17,7 @@ ghost use Rattle.report.specs.Reports.{begun_text, report_told, told_text, ended
 ghost use Rattle.report.specs.Reports.{stray_line, given_text, texts_given};
 
 use crate::lamps::Totals;
-use crate::page::{Names, Query, Sheet, Stretch};
+use crate::page::{FileNames, Query, Sheet, Stretch};
 use crate::table::StretchTable;
 use std::io;
 use textio::writer::{ByteSink, put};
@@ -60,7 +60,7 @@ fn put_stray<W: ByteSink>(out: &mut W, stray: Option<&[u8]>) -> io::Result<()>
 
 impl Report {
     /// What stands before the first stretch, of a log in these files.
-    pub fn begin<W: ByteSink>(self, out: &mut W, names: Names<'_>) -> io::Result<()>
+    pub fn begin<W: ByteSink>(self, out: &mut W, names: FileNames<'_>) -> io::Result<()>
         ensures { WritesText W.fails_with (W.contents out.old) (W.contents out.new) result
             (begun_text self (given_text names.entry.form) (texts_given names.entry.logs.now)) }
     {
@@ -130,7 +130,7 @@ impl Report {
             Report::Csv(query) => table::put_csv_end(out, query, seconds, unplayed),
             Report::Survey => Ok(()),
             Report::Picture(sheet) => page::end(out, sheet, seconds, totals, unplayed),
-            Report::Table(t) => table::end(out, t),
+            Report::Table(t) => table::end(out, t.is_begun),
         }
     }
 
@@ -155,7 +155,7 @@ impl Report {
             Report::Csv(query) => table::put_csv_end(out, query, seconds, until.stray),
             Report::Survey => Ok(()),
             Report::Picture(sheet) => page::end_until(out, sheet, seconds, totals, until),
-            Report::Table(t) => table::end(out, t),
+            Report::Table(t) => table::end(out, t.is_begun),
         }
     }
 }

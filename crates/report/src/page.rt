@@ -10,7 +10,7 @@ ghost use Rattle.report.specs.Days.{stretch_drawn};
 ghost use Rattle.report.specs.Frame.{layout_of, days_closed, page_begun, days_told, page_ended, page_ended_until};
 ghost use Rattle.report.specs.Reports.{sheet_new, longest_of, given_text, texts_given};
 
-use crate::days::{Placed, Row, StretchNote};
+use crate::days::{Placed, PageRow, StretchNote};
 use crate::lamps::Totals;
 use crate::rows::Layout;
 use crate::{Until, days, frame, rows};
@@ -57,7 +57,7 @@ pub struct Query {
 
 /// The files that a page is of.
 #[derive(Clone, Copy)]
-pub struct Names<'a> {
+pub struct FileNames<'a> {
     /// That of the stored form; none for the sample set-up.
     pub form: Option<&'a str>,
     /// Those of the log, in their order; `-` is standard input.
@@ -72,7 +72,7 @@ pub struct Sheet {
     /// The seconds of the log.
     pub seconds: u64,
     /// The row that is open.
-    pub row: Row,
+    pub row: PageRow,
     /// The longest stretch so far; from 0 to 0 where there is none.
     pub longest: Stretch,
 }
@@ -85,14 +85,14 @@ impl Sheet {
         Sheet {
             query,
             seconds,
-            row: Row::none(),
+            row: PageRow::none(),
             longest: Stretch { from: 0, to: 0 },
         }
     }
 }
 
 /// What the rows of a page follow.
-pub fn layout_of(query: Query, seconds: u64) -> Layout
+pub(crate) fn layout_of(query: Query, seconds: u64) -> Layout
     ensures { result ≡ layout_of query seconds }
 {
     let days = days_until(at(query.began, seconds));
@@ -104,7 +104,7 @@ pub fn layout_of(query: Query, seconds: u64) -> Layout
 }
 
 /// What stands above the rows, of a log of so many seconds.
-pub fn begin<W: ByteSink>(out: &mut W, query: Query, seconds: u64, names: Names<'_>) -> io::Result<()>
+pub fn begin<W: ByteSink>(out: &mut W, query: Query, seconds: u64, names: FileNames<'_>) -> io::Result<()>
     ensures { WritesText W.fails_with (W.contents out.old) (W.contents out.new) result
         (page_begun query seconds (given_text names.entry.form) (texts_given names.entry.logs.now)) }
 {
@@ -187,18 +187,18 @@ pub fn longest_of(longest: Stretch, lit: &[bool], stretch: Stretch) -> Stretch
 /// A stretch of the lamps whose marks are set; the row that is open then. Of no lamp nothing is drawn.
 pub fn draw<W: ByteSink>(
     out: &mut W,
-    v: Layout,
-    row: Row,
+    layout: Layout,
+    row: PageRow,
     lit: &[bool],
     stretch: Stretch,
-) -> io::Result<Row>
+) -> io::Result<PageRow>
     requires { length lit.now ≤ 8 }
-    ensures row { IfOk result (λ r. r ≡ row_drawn v row lit.now stretch.from stretch.to) }
+    ensures row { IfOk result (λ r. r ≡ row_drawn layout row lit.now stretch.from stretch.to) }
     ensures text { WritesText W.fails_with (W.contents out.old) (W.contents out.new) result
-        (stretch_drawn v row lit.now stretch.from stretch.to) }
+        (stretch_drawn layout row lit.now stretch.from stretch.to) }
 {
-    let first = at(v.began, stretch.from);
-    let last = at(v.began, stretch.to);
+    let first = at(layout.began, stretch.from);
+    let last = at(layout.began, stretch.to);
     if last <= first {
         return Ok(row);
     }
@@ -206,7 +206,7 @@ pub fn draw<W: ByteSink>(
     if !burns {
         return Ok(row);
     }
-    let note = note_of(v.began, v.long, stretch);
+    let note = note_of(layout.began, layout.long, stretch);
     let placed = Placed {
         lit,
         whole: stretch,
@@ -218,7 +218,7 @@ pub fn draw<W: ByteSink>(
     };
     let mut open = row;
     for before in first / DAY..days_until(last) {
-        open = days::draw_in(out, v, open, before + 1, placed)?;
+        open = days::draw_in(out, layout, open, before + 1, placed)?;
     }
     Ok(open)
 }

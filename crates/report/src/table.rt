@@ -4,7 +4,8 @@ ghost use Rattle.textio.specs.Fronts.{WritesText};
 ghost use Rattle.report.specs.Reports.{given_text, table_new};
 ghost use Rattle.report.specs.Table.{span_text, clock_fields, csv_tail, csv_row, row_if, rows_lit, csv_head};
 ghost use Rattle.report.specs.Table.{quoted_byte, quoted_text, quoted, end_note, ended_field, csv_end, row_as};
-ghost use Rattle.report.specs.Table.{table_row, stretches_begun, stretches_begun_if, table_stretch, table_ended};
+ghost use Rattle.report.specs.Table.{stretch_row, stretches_begun, stretches_begun_if, table_stretch, table_ended};
+ghost use Rattle.report.specs.Table.{none_burnt, rows_closed, rows_ended};
 
 use crate::days::{self, StretchNote};
 use crate::page::{Query, Stretch};
@@ -91,9 +92,9 @@ fn put_csv_row<W: ByteSink>(out: &mut W, q: Query, s: Stretch, lamp: u64) -> io:
 }
 
 // The row of a stretch of the lamp with that number, on a page.
-fn put_table_row<W: ByteSink>(out: &mut W, q: Query, s: Stretch, lamp: u64) -> io::Result<()>
+fn put_stretch_row<W: ByteSink>(out: &mut W, q: Query, s: Stretch, lamp: u64) -> io::Result<()>
     ensures { WritesText W.fails_with (W.contents out.old) (W.contents out.new) result
-        (table_row q.began q.long s.from s.to lamp) }
+        (stretch_row q.began q.long s.from s.to lamp) }
 {
     let note = page::note_of(q.began, q.long, s);
     fill(out, "<tr><th scope=\"row\">lamp #</th><td>", &[lamp])?;
@@ -117,7 +118,7 @@ fn put_row_as<W: ByteSink>(
 {
     match form {
         RowForm::Csv => put_csv_row(out, q, s, lamp),
-        RowForm::Html => put_table_row(out, q, s, lamp),
+        RowForm::Html => put_stretch_row(out, q, s, lamp),
     }
 }
 
@@ -158,7 +159,7 @@ fn put_rows<W: ByteSink>(
 }
 
 /// The row of a stretch for each lamp whose mark is set.
-pub fn put_csv_rows<W: ByteSink>(
+pub(crate) fn put_csv_rows<W: ByteSink>(
     out: &mut W,
     query: Query,
     lit: &[bool],
@@ -172,7 +173,7 @@ pub fn put_csv_rows<W: ByteSink>(
 }
 
 /// The first line of comma-separated values.
-pub fn put_csv_head<W: ByteSink>(out: &mut W) -> io::Result<()>
+pub(crate) fn put_csv_head<W: ByteSink>(out: &mut W) -> io::Result<()>
     ensures { WritesText W.fails_with (W.contents out.old) (W.contents out.new) result csv_head }
 {
     put(out, b"lamp,from,to,seconds,began,ended,note\r\n")
@@ -228,7 +229,7 @@ fn put_ended<W: ByteSink>(out: &mut W, began: Option<Moment>, seconds: u64) -> i
 
 /// The last row of comma-separated values, which is of no lamp: when a log of so many seconds ends, and what is said of
 /// it, if anything is.
-pub fn put_csv_end<W: ByteSink>(
+pub(crate) fn put_csv_end<W: ByteSink>(
     out: &mut W,
     query: Query,
     seconds: u64,
@@ -270,7 +271,7 @@ fn begin_if<W: ByteSink>(out: &mut W, is_begun: bool, lit: &[bool]) -> io::Resul
 }
 
 /// A stretch of the lamps whose marks are set, in the table of a page: a row for each.
-pub fn put_stretch<W: ByteSink>(
+pub(crate) fn put_stretch<W: ByteSink>(
     out: &mut W,
     table: StretchTable,
     lit: &[bool],
@@ -284,12 +285,31 @@ pub fn put_stretch<W: ByteSink>(
     put_rows(out, RowForm::Html, table.query, lit, stretch)
 }
 
-/// The end of the table of a page, and of the page.
-pub fn end<W: ByteSink>(out: &mut W, table: StretchTable) -> io::Result<()>
-    ensures { WritesText W.fails_with (W.contents out.old) (W.contents out.new) result (table_ended table) }
+fn put_none<W: ByteSink>(out: &mut W) -> io::Result<()>
+    ensures { WritesText W.fails_with (W.contents out.old) (W.contents out.new) result none_burnt }
 {
-    if !table.is_begun {
-        return put(out, b"<p>No lamp burnt.</p>\n</main></body></html>\n");
+    put(out, b"<p>No lamp burnt.</p>\n")
+}
+
+fn close<W: ByteSink>(out: &mut W) -> io::Result<()>
+    ensures { WritesText W.fails_with (W.contents out.old) (W.contents out.new) result rows_closed }
+{
+    put(out, b"</tbody></table>\n")
+}
+
+fn end_rows<W: ByteSink>(out: &mut W, is_begun: bool) -> io::Result<()>
+    ensures { WritesText W.fails_with (W.contents out.old) (W.contents out.new) result (rows_ended is_begun) }
+{
+    if !is_begun {
+        return put_none(out);
     }
-    put(out, b"</tbody></table>\n</main></body></html>\n")
+    close(out)
+}
+
+/// The end of the table of a page, which has begun or not, and of the page.
+pub(crate) fn end<W: ByteSink>(out: &mut W, is_begun: bool) -> io::Result<()>
+    ensures { WritesText W.fails_with (W.contents out.old) (W.contents out.new) result (table_ended is_begun) }
+{
+    end_rows(out, is_begun)?;
+    put(out, b"</main></body></html>\n")
 }
