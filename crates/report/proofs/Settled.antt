@@ -69,6 +69,19 @@ pub totals_told : ended_text Lines 80 1 (0 ∷ []) (60 ∷ []) (60 ∷ []) None
 unfolding computing numbers textio
 totals_told = refl
 
-pub ruleset told_stretches =
-    (bars_told, days_told, clock_told, weeks_told, first_week_told, thursday_told, months_told, calendar_told,
-    values_told, table_told, more_told, ends_told, lines_told, totals_told)
+pub ruleset told_stretches = (
+  bars_told,
+  days_told,
+  clock_told,
+  weeks_told,
+  first_week_told,
+  thursday_told,
+  months_told,
+  calendar_told,
+  values_told,
+  table_told,
+  more_told,
+  ends_told,
+  lines_told,
+  totals_told,
+)

@@ -11,18 +11,19 @@
 --   row_drawn v row lit from to   the row that is open once a stretch is drawn, from the second `from` up to `to`: that
 --                             of its last second, with the seconds in it that lamps burnt; what has no second, or burns
 --                             no lamp, draws none
---   row_begun v lamps s       a row with the days s: its name, those of the lamps, and a picture with a `band` for each.
---                             A lamp has its place, from 0, and is numbered from 1
+--   row_begun v lamps s       a row with the days s: its name, those of the lamps, and a picture with a `band` for
+--                             each. A lamp has its place, from 0, and is numbered from 1
 --   idle_days began n day     "days in which no lamp burnt are one line": those after the day n up to the day `day`
 --   long_days v row           "each day in it that has a burn beyond `--long` is reported by itself"
 --   rows_opened v n row day   the rows after the one that is open up to that of the day `day`, of n lamps: the picture
 --                             that is open ends, with its sum, and that of the day's row begins. None is open where the
 --                             row's last day is 0
 --   days_ended v row day      the same at the log's end, where no lamp burnt after the row that is open
---   bar note from to x n k    "a unit a second": from the place x of a picture on, n seconds of a stretch of the lamp at
---                             place k: "The bar's title tells the whole stretch"; a stripe on it where it is marked
---   bars_in s lit note x y from to   "a bar for each stretch with a second in that row, cut at the row's ends", for each
---                             lamp whose mark of `lit` is set; it lies from x to y, counted from the first midnight
+--   bar note from to x n k    "a unit a second": from the place x of a picture on, n seconds of a stretch of the lamp
+--                             at place k: "The bar's title tells the whole stretch"; a stripe on it where it is marked
+--   bars_in s lit note x y from to   "a bar for each stretch with a second in that row, cut at the row's ends", for
+--                             each lamp whose mark of `lit` is set; it lies from x to y, counted from the first
+--                             midnight
 --   is_drawn_in row day x     a stretch is drawn once in each row: in the day in which the row opens, or the stretch
 --                             begins
 --   seconds_within day x y        so many of its seconds are in that day

@@ -16,7 +16,8 @@
 --   until_text seconds lines  until when a log of the second kind goes (RULES, History of a board: "that a log's end is
 --                    missing cannot be seen from it"): the seconds that it lets pass, and the lines that belong to it
 --   paragraph s      what is said of a log, if anything is
---   page_ended .. unplayed    all that, for a log of the first kind: last what was not played of it, if anything was not
+--   page_ended .. unplayed    all that, for a log of the first kind: last what was not played of it, if anything was
+--                    not
 --   page_ended_until .. lines stray    the same of the second kind: last what is said of the line that does not belong,
 --                    if there is one
 -- Assumes nothing.
@@ -141,39 +142,46 @@ unfoldable pub head_of_rows : Scale → List ℕ
 head_of_rows scale = codes "<table class=\"d\"><caption>" ++ (head_words scale
     ++ codes "</th><th scope=\"col\">lamp</th><th scope=\"col\"><div class=\"o\">\n")
 
-unfoldable pub hours_since : List ℕ
+abbrev pub hours_since : List ℕ
 hours_since = codes "<span class=\"f\" style=\"left:0%\">+0 h</span>\n"
     ++ (codes "<span class=\"s\" style=\"left:12.5%\">+3 h</span><span style=\"left:25%\">+6 h</span>\n"
     ++ (codes "<span class=\"s\" style=\"left:37.5%\">+9 h</span><span style=\"left:50%\">+12 h</span>\n"
     ++ (codes "<span class=\"s\" style=\"left:62.5%\">+15 h</span><span style=\"left:75%\">+18 h</span>\n"
-    ++ codes "<span class=\"s\" style=\"left:87.5%\">+21 h</span><span class=\"t\" style=\"left:100%\">+24 h</span>\n")))
+    ++ (codes "<span class=\"s\" style=\"left:87.5%\">+21 h</span>"
+    ++ codes "<span class=\"t\" style=\"left:100%\">+24 h</span>\n"))))
 
-unfoldable pub hours_of_day : List ℕ
+abbrev pub hours_of_day : List ℕ
 hours_of_day = codes "<span class=\"f\" style=\"left:0%\">00:00</span>\n"
     ++ (codes "<span class=\"s\" style=\"left:12.5%\">03:00</span><span style=\"left:25%\">06:00</span>\n"
     ++ (codes "<span class=\"s\" style=\"left:37.5%\">09:00</span><span style=\"left:50%\">12:00</span>\n"
     ++ (codes "<span class=\"s\" style=\"left:62.5%\">15:00</span><span style=\"left:75%\">18:00</span>\n"
-    ++ codes "<span class=\"s\" style=\"left:87.5%\">21:00</span><span class=\"t\" style=\"left:100%\">24:00</span>\n")))
+    ++ (codes "<span class=\"s\" style=\"left:87.5%\">21:00</span>"
+    ++ codes "<span class=\"t\" style=\"left:100%\">24:00</span>\n"))))
 
-unfoldable pub days_since : List ℕ
-days_since = codes "<span class=\"f\" style=\"left:0%\">+0 d</span><span class=\"s\" style=\"left:14.29%\">+1 d</span>\n"
+abbrev pub days_since : List ℕ
+days_since =
+    codes "<span class=\"f\" style=\"left:0%\">+0 d</span><span class=\"s\" style=\"left:14.29%\">+1 d</span>\n"
     ++ (codes "<span style=\"left:28.57%\">+2 d</span><span class=\"s\" style=\"left:42.86%\">+3 d</span>\n"
     ++ (codes "<span style=\"left:57.14%\">+4 d</span><span class=\"s\" style=\"left:71.43%\">+5 d</span>\n"
     ++ codes "<span style=\"left:85.71%\">+6 d</span><span class=\"t\" style=\"left:100%\">+7 d</span>\n"))
 
-unfoldable pub days_of_week : List ℕ
-days_of_week = codes "<span class=\"f\" style=\"left:0%\">Mon</span><span class=\"g\" style=\"left:14.29%\">Tue</span>\n"
+abbrev pub days_of_week : List ℕ
+days_of_week =
+    codes "<span class=\"f\" style=\"left:0%\">Mon</span><span class=\"g\" style=\"left:14.29%\">Tue</span>\n"
     ++ (codes "<span class=\"g\" style=\"left:28.57%\">Wed</span><span class=\"g\" style=\"left:42.86%\">Thu</span>\n"
     ++ (codes "<span class=\"g\" style=\"left:57.14%\">Fri</span><span class=\"g\" style=\"left:71.43%\">Sat</span>\n"
     ++ codes "<span class=\"g\" style=\"left:85.71%\">Sun</span>\n"))
 
-unfoldable pub weeks_since : List ℕ
-weeks_since = codes "<span class=\"f\" style=\"left:0%\">+0 d</span><span class=\"g\" style=\"left:22.58%\">+7 d</span>\n"
-    ++ (codes "<span class=\"g\" style=\"left:45.16%\">+14 d</span><span class=\"g\" style=\"left:67.74%\">+21 d</span>\n"
-    ++ codes "<span class=\"g\" style=\"left:90.32%\">+28 d</span>\n")
+abbrev pub weeks_since : List ℕ
+weeks_since =
+    codes "<span class=\"f\" style=\"left:0%\">+0 d</span><span class=\"g\" style=\"left:22.58%\">+7 d</span>\n"
+    ++ (codes "<span class=\"g\" style=\"left:45.16%\">+14 d</span>"
+    ++ (codes "<span class=\"g\" style=\"left:67.74%\">+21 d</span>\n"
+    ++ codes "<span class=\"g\" style=\"left:90.32%\">+28 d</span>\n"))
 
-unfoldable pub days_of_month : List ℕ
-days_of_month = codes "<span class=\"f\" style=\"left:0%\">1</span><span class=\"g\" style=\"left:22.58%\">8</span>\n"
+abbrev pub days_of_month : List ℕ
+days_of_month =
+    codes "<span class=\"f\" style=\"left:0%\">1</span><span class=\"g\" style=\"left:22.58%\">8</span>\n"
     ++ (codes "<span class=\"g\" style=\"left:45.16%\">15</span><span class=\"g\" style=\"left:67.74%\">22</span>\n"
     ++ codes "<span class=\"g\" style=\"left:90.32%\">29</span>\n")
 

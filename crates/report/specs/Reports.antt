@@ -11,8 +11,8 @@
 --   stray_line s                      that as a line
 --   given_text s                      a text, or none, that the code is given;    texts_given   texts
 -- Assumes nothing.
-use Rattle.std.specs.Prelude.{ℕ, ◌-◌, nat_lt, Bool, ◌&&◌, ◌||◌, List, [], ◌++◌, codes, if◌then◌else◌, Option, Some, None}
-use Rattle.std.specs.Prelude.{option_map, map, false}
+use Rattle.std.specs.Prelude.{ℕ, ◌-◌, nat_lt, Bool, false, ◌&&◌, ◌||◌, List, [], ◌++◌, codes, if◌then◌else◌}
+use Rattle.std.specs.Prelude.{Option, Some, None, option_map, map}
 use Rattle.std.specs.Borrow.{Bor}
 use Rattle.report.specs.LampLines.{stretch_lines, total_lines}
 use Rattle.report.specs.Days.{is_any_lit, row_none, stretch_drawn, row_drawn}

@@ -3,8 +3,8 @@
 --   scale_of n          what a row is of a log that touches n days
 --   box_width scale     how wide its picture is, "a unit a second"
 --   line_step scale     how far its lines are apart: 6 hours, a day, 7 days
---   place_in scale began n   the place in its row of the day that n days of the log are before: how many days of the row
---                       are before it, and how many days the row has
+--   place_in scale began n   the place in its row of the day that n days of the log are before: how many days of the
+--                       row are before it, and how many days the row has
 --   span_of v day       the row of a day, counted from 1: so many days of the log are before its first one, its last
 --                       day, and so many days of the row are before the log's first one
 -- Assumes nothing.

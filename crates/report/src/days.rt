@@ -1,14 +1,14 @@
-// The rows of a page, and the bars in them. A row's picture is as wide as its days have seconds, so that a bar lies where
-// its seconds do; it is stretched to the width that there is.
+// The rows of a page, and the bars in them. A row's picture is as wide as its days have seconds, so that a bar lies
+// where its seconds do; it is stretched to the width that there is.
 ghost use Rattle.std.specs.Prelude.{◌≡◌, ◌-◌, ◌+◌, ◌*◌, ◌<◌, ◌≤◌, length, set, true, IfOk};
 ghost use Rattle.textio.specs.Fronts.{WritesText};
 ghost use Rattle.report.specs.Rows.{span_of};
 ghost use Rattle.report.specs.Days.{band_top, band_line, band, bands, lamp_name, lamp_names, days_name, row_begun};
 ghost use Rattle.report.specs.Days.{idle_days, rows_opened, date_text, dated, day_name, first_name, sum_told};
 ghost use Rattle.report.specs.Days.{long_line, has_long, long_days, long_day, row_end, row_ended, days_ended, row_none};
-ghost use Rattle.report.specs.Days.{lines, band_lines, is_marked, long_in};
+ghost use Rattle.report.specs.Days.{seconds_within, lines, band_lines, is_marked, long_in};
 ghost use Rattle.report.specs.Days.{note_words, note_behind, is_noted, note_in_title, stripe, bar, bar_if, bars};
-ghost use Rattle.report.specs.Days.{bars_in, is_drawn_in, bars_if, drawn_in, row_opened, row_more, row_after, seconds_within};
+ghost use Rattle.report.specs.Days.{bars_in, is_drawn_in, bars_if, drawn_in, row_opened, row_more, row_after};
 ghost use Rattle.calendar.specs.Days.{weekday, weekday_name};
 
 use crate::page::{DAY, Stretch};
@@ -257,7 +257,12 @@ fn put_sum<W: ByteSink>(out: &mut W, sum: u64) -> io::Result<()>
 }
 
 // The line of a day that has a burn of more than so many hours.
-fn put_long_line<W: ByteSink>(out: &mut W, began: Option<Moment>, hours: u32, day: u64) -> io::Result<()>
+fn put_long_line<W: ByteSink>(
+    out: &mut W,
+    began: Option<Moment>,
+    hours: u32,
+    day: u64,
+) -> io::Result<()>
     ensures { WritesText W.fails_with (W.contents out.old) (W.contents out.new) result (long_line began hours day) }
 {
     put(out, b"<tr><th scope=\"row\">")?;

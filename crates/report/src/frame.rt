@@ -4,9 +4,9 @@ ghost use Rattle.std.specs.Prelude.{◌≡◌, ◌+◌, ◌-◌, ◌*◌, ◌<�
 ghost use Rattle.textio.specs.Fronts.{WritesText};
 ghost use Rattle.report.specs.Frame.{head, no_clock, moment_text, clock_begun, row_words, clock_text, stripe_long};
 ghost use Rattle.report.specs.Frame.{stripe_midnight, stripe_text, head_of_rows, head_words, label_words, labels};
-ghost use Rattle.report.specs.Frame.{life_heads, days_left, day_left, until_day, until_when, life_left, life_cells, lamp_cells};
-ghost use Rattle.report.specs.Frame.{table_row, table_rows, table_begun, table, longest_text, span_said, log_span};
-ghost use Rattle.report.specs.Frame.{until_text, paragraph, escaped, html_text, about_item, about_item_if};
+ghost use Rattle.report.specs.Frame.{life_heads, days_left, day_left, until_day, until_when, life_left, life_cells};
+ghost use Rattle.report.specs.Frame.{lamp_cells, table_row, table_rows, table_begun, table, longest_text, span_said};
+ghost use Rattle.report.specs.Frame.{log_span, until_text, paragraph, escaped, html_text, about_item, about_item_if};
 ghost use Rattle.report.specs.Frame.{settings_text, projector_text, form_item, log_item, log_items, about_list};
 ghost use Rattle.report.specs.Reports.{given_text, texts_given};
 
@@ -176,7 +176,11 @@ fn put_logs<W: ByteSink>(out: &mut W, logs: &[&str]) -> io::Result<()>
 }
 
 /// What the page is of: the projector's name, maker and model, and the files.
-pub fn put_about<W: ByteSink>(out: &mut W, projector: Projector, names: FileNames<'_>) -> io::Result<()>
+pub fn put_about<W: ByteSink>(
+    out: &mut W,
+    projector: Projector,
+    names: FileNames<'_>,
+) -> io::Result<()>
     ensures { WritesText W.fails_with (W.contents out.old) (W.contents out.new) result
         (about_list projector (given_text names.entry.form) (texts_given names.entry.logs.now)) }
 {
@@ -316,17 +320,6 @@ pub fn put_head_of_rows<W: ByteSink>(out: &mut W, scale: Scale) -> io::Result<()
     )
 }
 
-#[tactic(
-    auto,
-    unfolding(
-        crate::specs::Frame::hours_since,
-        crate::specs::Frame::hours_of_day,
-        crate::specs::Frame::days_since,
-        crate::specs::Frame::days_of_week,
-        crate::specs::Frame::weeks_since,
-        crate::specs::Frame::days_of_month
-    )
-)]
 fn label_words(v: Layout) -> &'static str
     ensures { result.now ≡ label_words v.scale v.began }
 {

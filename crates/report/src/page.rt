@@ -1,8 +1,8 @@
 // One self-contained HTML document, written in two parts: the picture has a row for each day, week or month of the log
-// in which a lamp burnt, in it a band for each lamp, lit stretches as bars, and one line for days in which no lamp burnt;
-// what a place along the row is, along the top; a table of totals. Then comes the table of the stretches (RULES, Floor
-// log). It is written as the log is read: a stretch is drawn once it has ended, and rows are opened up to its days. Bands
-// stand apart by place and name, so that no colour has to be told from another.
+// in which a lamp burnt, in it a band for each lamp, lit stretches as bars, and one line for days in which no lamp
+// burnt; what a place along the row is, along the top; a table of totals. Then comes the table of the stretches (RULES,
+// Floor log). It is written as the log is read: a stretch is drawn once it has ended, and rows are opened up to its
+// days. Bands stand apart by place and name, so that no colour has to be told from another.
 ghost use Rattle.std.specs.Prelude.{◌≡◌, ◌-◌, ◌≤◌, length, IfOk};
 ghost use Rattle.textio.specs.Fronts.{WritesText};
 ghost use Rattle.report.specs.Days.{at, days_of, is_any_lit, is_over_midnight, hours_passed, note_of, row_drawn};
@@ -10,7 +10,7 @@ ghost use Rattle.report.specs.Days.{stretch_drawn};
 ghost use Rattle.report.specs.Frame.{layout_of, days_closed, page_begun, days_told, page_ended, page_ended_until};
 ghost use Rattle.report.specs.Reports.{sheet_new, longest_of, given_text, texts_given};
 
-use crate::days::{Placed, PageRow, StretchNote};
+use crate::days::{PageRow, Placed, StretchNote};
 use crate::lamps::Totals;
 use crate::rows::Layout;
 use crate::{Until, days, frame, rows};
@@ -104,7 +104,12 @@ pub(crate) fn layout_of(query: Query, seconds: u64) -> Layout
 }
 
 /// What stands above the rows, of a log of so many seconds.
-pub fn begin<W: ByteSink>(out: &mut W, query: Query, seconds: u64, names: FileNames<'_>) -> io::Result<()>
+pub fn begin<W: ByteSink>(
+    out: &mut W,
+    query: Query,
+    seconds: u64,
+    names: FileNames<'_>,
+) -> io::Result<()>
     ensures { WritesText W.fails_with (W.contents out.old) (W.contents out.new) result
         (page_begun query seconds (given_text names.entry.form) (texts_given names.entry.logs.now)) }
 {
@@ -244,8 +249,8 @@ fn end_days<W: ByteSink>(out: &mut W, sheet: Sheet, seconds: u64, t: Totals) -> 
     frame::put_longest(out, began, sheet.longest)
 }
 
-/// The end of the picture of a log of so many seconds: the rows up to its end, and what stands below them; last what was
-/// not played of it, if anything was not.
+/// The end of the picture of a log of so many seconds: the rows up to its end, and what stands below them; last what
+/// was not played of it, if anything was not.
 pub fn end<W: ByteSink>(
     out: &mut W,
     sheet: Sheet,

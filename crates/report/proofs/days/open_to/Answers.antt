@@ -17,17 +17,20 @@ pub returns-in_err-put_idle-clause-text : goal.returns-in_err-put_idle-clause-te
 returns-in_err-put_idle-clause-text g c =
     rw (opened_some c.args.v c.args.lamps c.args.row c.args.day c.if-day-row.false)
     (writes_then c.in_ok-end_row.ensures
-    (writes_fails _ (rw c.span_of-span.ensures.span at c.in_err-put_idle.ensures) c.from_residual-in_err-put_idle.ensures))
+    (writes_fails _ (rw c.span_of-span.ensures.span at c.in_err-put_idle.ensures)
+    c.from_residual-in_err-put_idle.ensures))
 
 pub returns-in_err-put_row-clause-text : goal.returns-in_err-put_row-clause-text
 returns-in_err-put_row-clause-text g c =
     rw (opened_some c.args.v c.args.lamps c.args.row c.args.day c.if-day-row.false)
     (writes_then c.in_ok-end_row.ensures
     (writes_then (rw c.span_of-span.ensures.span at c.in_ok-put_idle.ensures)
-    (writes_failed (rw c.span_of-span.ensures.span at c.in_err-put_row.ensures) c.from_residual-in_err-put_row.ensures)))
+    (writes_failed (rw c.span_of-span.ensures.span at c.in_err-put_row.ensures)
+    c.from_residual-in_err-put_row.ensures)))
 
 pub returns-clause-text : goal.returns-clause-text
 returns-clause-text g c =
     rw (opened_some c.args.v c.args.lamps c.args.row c.args.day c.if-day-row.false)
     (writes_all _ (Appends-trans _ _ _ _ _ c.in_ok-end_row.ensures.whole
-    (Appends-trans _ _ _ _ _ (rw c.span_of-span.ensures.span at c.in_ok-put_idle.ensures.whole) (rw c.span_of-span.ensures.span at c.in_ok-put_row.ensures.whole))))
+    (Appends-trans _ _ _ _ _ (rw c.span_of-span.ensures.span at c.in_ok-put_idle.ensures.whole) (rw
+    c.span_of-span.ensures.span at c.in_ok-put_row.ensures.whole))))

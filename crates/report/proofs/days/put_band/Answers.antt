@@ -11,7 +11,8 @@ pub returns-in_err-put_band_lines : goal.returns-in_err-put_band_lines
 unfolding band
 returns-in_err-put_band_lines g c =
     writes_then (rw c.top-y.ensures.top at c.in_ok-fill.ensures)
-    (writes_fails _ (rw c.top-y.ensures.top at c.in_err-put_band_lines.ensures) c.from_residual-in_err-put_band_lines.ensures)
+    (writes_fails _ (rw c.top-y.ensures.top at c.in_err-put_band_lines.ensures)
+    c.from_residual-in_err-put_band_lines.ensures)
 
 pub returns : goal.returns
 unfolding band

@@ -19,11 +19,20 @@ pub returns-in_err-put_long_day : goal.returns-in_err-put_long_day
 unfolding long_days
 returns-in_err-put_long_day g c =
     let shown : ℕ → List ℕ = long_day c.args.v c.args.row in
-    each_fails shown 0 c.loop-k.k (c.args.row.last - c.args.row.before) c.loop-k.k (omega arith) (omega (arith, c.loop-k-test.true, c.saturating_sub-days.ensures))
+    each_fails shown 0 c.loop-k.k (c.args.row.last - c.args.row.before) c.loop-k.k (omega arith) (omega (
+      arith,
+      c.loop-k-test.true,
+      c.saturating_sub-days.ensures,
+    ))
     c.loop-k.invariant c.in_err-put_long_day.ensures c.from_residual.ensures
 
 pub returns : goal.returns
 unfolding long_days
 returns g c =
-    let all : c.loop-k.k ≡ (c.args.row.last - c.args.row.before) = omega (arith, c.loop-k-test.false, c.loop-k.auto.k-end, c.saturating_sub-days.ensures) in
+    let all : c.loop-k.k ≡ (c.args.row.last - c.args.row.before) = omega (
+      arith,
+      c.loop-k-test.false,
+      c.loop-k.auto.k-end,
+      c.saturating_sub-days.ensures,
+    ) in
     writes_all _ (rw all at c.loop-k.invariant)

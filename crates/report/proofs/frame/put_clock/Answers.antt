@@ -20,7 +20,8 @@ unfolding clock_text
 returns-in_err-put_word g c =
     writes_then c.in_ok-put_clock_begun.ensures
     (writes_then c.in_ok-put.ensures
-    (writes_fails _ (subst (WritesText _ _ _ _) c.row_words-words.ensures c.in_err-put_word.ensures) c.from_residual-in_err-put_word.ensures))
+    (writes_fails _ (subst (WritesText _ _ _ _) c.row_words-words.ensures c.in_err-put_word.ensures)
+    c.from_residual-in_err-put_word.ensures))
 
 pub returns : goal.returns
 unfolding clock_text

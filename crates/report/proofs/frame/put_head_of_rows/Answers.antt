@@ -13,7 +13,8 @@ pub returns-in_err-put_word : goal.returns-in_err-put_word
 unfolding head_of_rows
 returns-in_err-put_word g c =
     writes_then c.in_ok-put.ensures
-    (writes_fails _ (subst (WritesText _ _ _ _) c.head_words-words.ensures c.in_err-put_word.ensures) c.from_residual-in_err-put_word.ensures)
+    (writes_fails _ (subst (WritesText _ _ _ _) c.head_words-words.ensures c.in_err-put_word.ensures)
+    c.from_residual-in_err-put_word.ensures)
 
 pub returns : goal.returns
 unfolding head_of_rows

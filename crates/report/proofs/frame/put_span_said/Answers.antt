@@ -45,7 +45,8 @@ returns-in_err-put_spent g c =
     (writes_then c.in_ok-put.ensures
     (writes_then c.in_ok-put_instant-2.ensures
     (writes_then c.in_ok-put-2.ensures
-    (writes_fails _ (rw c.saturating_sub.ensures at c.in_err-put_spent.ensures) c.from_residual-in_err-put_spent.ensures)))))
+    (writes_fails _ (rw c.saturating_sub.ensures at c.in_err-put_spent.ensures)
+    c.from_residual-in_err-put_spent.ensures)))))
 
 pub returns : goal.returns
 unfolding span_said

@@ -26,7 +26,8 @@ returns-in_err-put_clock g c =
     writes_then c.in_ok-put_head.ensures
     (writes_then c.in_ok-put_about.ensures
     (writes_then c.in_ok-put_log_span.ensures
-    (writes_fails _ (rw c.layout_of-layout.ensures at c.in_err-put_clock.ensures) c.from_residual-in_err-put_clock.ensures)))
+    (writes_fails _ (rw c.layout_of-layout.ensures at c.in_err-put_clock.ensures)
+    c.from_residual-in_err-put_clock.ensures)))
 
 pub returns-in_err-put_stripe_text : goal.returns-in_err-put_stripe_text
 unfolding page_begun
@@ -45,7 +46,8 @@ returns-in_err-put_head_of_rows g c =
     (writes_then c.in_ok-put_log_span.ensures
     (writes_then (rw c.layout_of-layout.ensures at c.in_ok-put_clock.ensures)
     (writes_then c.in_ok-put_stripe_text.ensures
-    (writes_fails _ (rw c.layout_of-layout.ensures at c.in_err-put_head_of_rows.ensures) c.from_residual-in_err-put_head_of_rows.ensures)))))
+    (writes_fails _ (rw c.layout_of-layout.ensures at c.in_err-put_head_of_rows.ensures)
+    c.from_residual-in_err-put_head_of_rows.ensures)))))
 
 pub returns : goal.returns
 unfolding page_begun
@@ -55,4 +57,5 @@ returns g c =
     (writes_then c.in_ok-put_log_span.ensures
     (writes_then (rw c.layout_of-layout.ensures at c.in_ok-put_clock.ensures)
     (writes_then c.in_ok-put_stripe_text.ensures
-    (writes_then (rw c.layout_of-layout.ensures at c.in_ok-put_head_of_rows.ensures) (rw c.layout_of-layout.ensures at c.put_labels.ensures))))))
+    (writes_then (rw c.layout_of-layout.ensures at c.in_ok-put_head_of_rows.ensures) (rw
+    c.layout_of-layout.ensures at c.put_labels.ensures))))))

@@ -57,9 +57,11 @@ loop-before-preserved g c =
     let note = c.note_of-note.ensures in
     record {
       row = (rw (known.row, note) at told.row)
-          ∙ sym (after_one drawn (row_after v (note_of v.began v.long s.from s.to) at last) c.args.row (first + 1) (before - first) _ (before + 1)
+          ∙ sym (after_one drawn (row_after v (note_of v.began v.long s.from s.to) at last) c.args.row (first + 1)
+          (before - first) _ (before + 1)
           (omega (arith, begun)) (omega (arith, begun)));
-      written = turn_more drawn (row_after v (note_of v.began v.long s.from s.to) at last) c.args.row (first + 1) (before - first) _ (before + 1) _ _ _
+      written = turn_more drawn (row_after v (note_of v.began v.long s.from s.to) at last) c.args.row (first + 1)
+          (before - first) _ (before + 1) _ _ _
           (omega (arith, begun)) (omega (arith, begun)) known.written
           (rw (known.row, c.note_of-note.ensures) at told.text.whole);
     }
@@ -80,7 +82,8 @@ returns-in_err-open-clause-text g c =
     = drawn_in v c.args.lit.now (note_of v.began v.long s.from s.to) at last s.from s.to in
     rw (drawn_some v c.args.row c.args.lit.now s.from s.to at last c.at-first.ensures
     c.at-last.ensures c.if-last-first.false (sym c.is_any-burns.ensures ∙ c.if-not-burns.false))
-    (turn_fails drawn (row_after v (note_of v.began v.long s.from s.to) at last) c.args.row (first + 1) (before - first) (days_of last - first) (before + 1)
+    (turn_fails drawn (row_after v (note_of v.began v.long s.from s.to) at last) c.args.row (first + 1)
+    (before - first) (days_of last - first) (before + 1)
     (omega (arith, begun)) inside known.written
     (rw (known.row, c.note_of-note.ensures) at c.in_err-open.ensures.text) c.from_residual.ensures)
 

@@ -5,7 +5,8 @@ use Rattle.report.proofs.page.end_days.Goals as goal
 pub returns-in_err-end : goal.returns-in_err-end
 unfolding days_told
 returns-in_err-end g c =
-    writes_fails _ (rw (c.days_until-last.ensures, c.at.ensures, c.layout_of-layout.ensures) at c.in_err-end.ensures) c.from_residual.ensures
+    writes_fails _ (rw (c.days_until-last.ensures, c.at.ensures, c.layout_of-layout.ensures) at
+    c.in_err-end.ensures) c.from_residual.ensures
 
 pub returns-in_err-close_days : goal.returns-in_err-close_days
 unfolding days_told

@@ -26,7 +26,8 @@ returns-in_err-put_spent g c =
     writes_then c.in_ok-fill.ensures
     (writes_then c.in_ok-put_span.ensures
     (writes_then c.in_ok-put.ensures
-    (writes_fails _ (rw c.saturating_sub.ensures at c.in_err-put_spent.ensures) c.from_residual-in_err-put_spent.ensures)))
+    (writes_fails _ (rw c.saturating_sub.ensures at c.in_err-put_spent.ensures)
+    c.from_residual-in_err-put_spent.ensures)))
 
 pub returns-in_err-put-2 : goal.returns-in_err-put-2
 unfolding stretch_row
@@ -45,7 +46,8 @@ returns-in_err-put_note g c =
     (writes_then c.in_ok-put.ensures
     (writes_then (rw c.saturating_sub.ensures at c.in_ok-put_spent.ensures)
     (writes_then c.in_ok-put-2.ensures
-    (writes_fails _ (rw c.note_of-note.ensures at c.in_err-put_note.ensures) c.from_residual-in_err-put_note.ensures)))))
+    (writes_fails _ (rw c.note_of-note.ensures at c.in_err-put_note.ensures)
+    c.from_residual-in_err-put_note.ensures)))))
 
 pub returns : goal.returns
 unfolding stretch_row
