@@ -21,7 +21,7 @@ use Rattle.floorlog.specs.declared.unplayed.Unplayed.{Unplayed}
 use Rattle.watch.specs.Watching.{Step, Watching, watching_from, watched_on, burnt_by}
 use Rattle.watch.specs.Telling.{log_steps, LitStretch, told_on, lit_stretches, after_log, floor_unplayed, IsUncounted}
 use Rattle.report.specs.Reports.{begun_text, given_text, texts_given, report_told, told_text, ended_text}
-use Rattle.report.specs.declared.page.Names.{Names}
+use Rattle.report.specs.declared.page.FileNames.{FileNames}
 use Rattle.report.specs.declared.Report.{Report}
 
 unfoldable pub tellings_text : Report → List LitStretch → List ℕ
@@ -41,7 +41,7 @@ told_within s (e ∷ es) = told_on s e ++ told_within (watched_on s e) es
 abbrev pub told_from : (Report → Watching → List ℕ) → Report → Watching → List Step → List ℕ
 told_from end r s es = let ts = lit_stretches s es in tellings_text r ts ++ end (report_after r ts) (after_log s es)
 
-abbrev pub head_of : Report → Names → List ℕ
+abbrev pub head_of : Report → FileNames → List ℕ
 head_of r names = begun_text r (given_text names.form) (texts_given names.logs.now)
 
 -- ---- of a log of the first kind

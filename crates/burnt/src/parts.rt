@@ -23,7 +23,7 @@ use program::telling::{CutCause, CutOff};
 use record::types::Device;
 use recorded::stray::StrayText;
 use report::Report;
-use report::page::{Names, Projector, Query, Sheet};
+use report::page::{FileNames, Projector, Query, Sheet};
 use report::table::StretchTable;
 use textio::reader::BufferedReader;
 use textio::streams::Stream;
@@ -113,7 +113,7 @@ fn tell_part<'w, O: Opens, W: ByteSink>(
 {
     let files = joined::files_of(command);
     let mut log = Joined::new(opens, files);
-    let names = Names {
+    let names = FileNames {
         form: command.form,
         logs: files,
     };

@@ -27,7 +27,7 @@ use program::telling::Ending;
 use record::types::Device;
 use report::Report;
 use report::lamps::Totals;
-use report::page::{Names, Stretch};
+use report::page::{FileNames, Stretch};
 use std::io;
 use text::{flag, rooms};
 use textio::lines::Failure;
@@ -234,7 +234,7 @@ pub fn tell_log<R: ByteSource, W: ByteSink>(
     begun: Device,
     sum: u32,
     report: Report,
-    names: Names<'_>,
+    names: FileNames<'_>,
     from: &mut BufferedReader<R>,
     to: &mut W,
 ) -> Result<LogEnding, Failure>

@@ -6,7 +6,7 @@ use program::telling::Ending;
 use record::types::Device;
 use recorded::chain::Why;
 use report::Report;
-use report::page::Names;
+use report::page::FileNames;
 use setup::wanted::{Class, Wanted};
 use textio::lines::Failure;
 use textio::reader::BufferedReader;
@@ -16,7 +16,7 @@ const LOG: &[u8] = b"O 00000000\nR %1POWR 1\nT 2400\nR %1POWR 0\nT 60";
 
 const TOLD: &[u8] = b"lamp 1 from 0 to 2400\nlamp 1 start 0 burnt 2400 now 2400\n";
 
-const NAMES: Names<'static> = Names {
+const NAMES: FileNames<'static> = FileNames {
     form: None,
     logs: &["-"],
 };
