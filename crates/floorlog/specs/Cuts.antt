@@ -2,7 +2,9 @@
 --   failure_line f      the line for the failure f: "the last line is `! read failed`, instead of all that is printed
 --                       at the end. If the count of lines, of a line's bytes or of seconds could pass 64 bits, it is `!
 --                       broken off`". The line for a failed write goes to standard error
---   end_text told       what is written last: that line if the replay failed, but nothing after a failed write
+--   cut_text form f     the same at the end of an output: that line, or a row of comma-separated values in its place
+--   read_failed form    the one for a failed read
+--   end_text form told  what is written last: that line or row if the replay failed, but nothing after a failed write
 --   EndFails fails told e    the error e may end this writing: one of the sink's, or after a failed write that error
 --                            itself
 --   number_line n       the line for a form that does not load: "A FORM that does not load prints one line, `! ` and
@@ -14,17 +16,29 @@ use Rattle.std.specs.declared.io.Error.{Error}
 use Rattle.textio.specs.Forms.{form_filled}
 use Rattle.textio.specs.declared.lines.Failure.{Failure}
 use Rattle.textio.specs.declared.lines.Failure.TheVariants.{Read, Write, TooLong}
+use Rattle.floorlog.specs.declared.cut.CutForm.{CutForm}
+use Rattle.floorlog.specs.declared.cut.CutForm.TheVariants.{Line, Row}
 
 abbrev pub failure_line : Failure → List ℕ
 failure_line (Read e) = codes "! read failed\n"
 failure_line (Write e) = codes "! write failed\n"
 failure_line TooLong = codes "! broken off\n"
 
-abbrev pub end_text : Result (Unit {0}) Failure → List ℕ
-end_text (Ok v) = []
-end_text (Err (Read e)) = failure_line (Read e)
-end_text (Err (Write e)) = []
-end_text (Err TooLong) = failure_line TooLong
+abbrev pub cut_text : CutForm → Failure → List ℕ
+cut_text Line f = failure_line f
+cut_text Row (Read e) = codes ",,,,,,! read failed\r\n"
+cut_text Row (Write e) = codes ",,,,,,! write failed\r\n"
+cut_text Row TooLong = codes ",,,,,,! broken off\r\n"
+
+abbrev pub read_failed : CutForm → List ℕ
+read_failed Line = codes "! read failed\n"
+read_failed Row = codes ",,,,,,! read failed\r\n"
+
+abbrev pub end_text : CutForm → Result (Unit {0}) Failure → List ℕ
+end_text form (Ok v) = []
+end_text form (Err (Read e)) = cut_text form (Read e)
+end_text form (Err (Write e)) = []
+end_text form (Err TooLong) = cut_text form TooLong
 
 abbrev pub EndFails : (Error → Type 0) → Result (Unit {0}) Failure → Error → Type 0
 EndFails fails (Ok v) e = fails e
