@@ -1,36 +1,38 @@
 -- A log of either kind, as the observer of its kind tells it.
 -- Assumes nothing.
 use Rattle.std.proofs.Common.{ℕ, ◌^◌, ◌≤◌, ◌≡◌, refl, sym, subst, ap, ◌∙◌, Bool, true, false, List, [], ◌++◌}
-use Rattle.std.proofs.Common.{length, ◌⊎◌, inl, inr, if◌then◌else◌, MatchBool}
+use Rattle.std.proofs.Common.{arith, map, length, ◌⊎◌, inl, inr, if◌then◌else◌, MatchBool}
 use Rattle.std.proofs.Common.{Option, None}
 use Rattle.std.specs.Io.KnownBytes.{Appends}
 use Rattle.std.proofs.KnownBytes.{Appends-trans}
 use Rattle.text.proofs.Choices.{if_yes, if_no}
 use Rattle.record.specs.declared.types.Device.{Device}
-use Rattle.textio.specs.Lines.{LogLine, IsTooLong}
+use Rattle.textio.specs.Lines.{LogLine, texts_of, IsTooLong}
 use Rattle.floorlog.specs.Kept.{kept_lines}
 use Rattle.floorlog.specs.Kinds.{is_history, is_history_from}
 use Rattle.floorlog.specs.Observing.{BreaksOff}
 use Rattle.floorlog.specs.declared.kinds.ByKind.{ByKind}
 use Rattle.floorlog.specs.declared.kinds.LogKind.TheVariants.{Unbegun}
 use Rattle.floorlog.specs.Unplayed.{none_unplayed}
-use Rattle.recorded.specs.Following.{chain_begun}
-use Rattle.watch.specs.Telling.{floor_unplayed}
+use Rattle.recorded.specs.Following.{chain_begun, belonging}
+use Rattle.watch.specs.Telling.{floor_unplayed, after_log}
+use Rattle.watch.specs.Marking.{floor_event, floor_steps}
+use Rattle.watch.specs.CallSteps.{entry_steps}
 use Rattle.watch.specs.Watching.{Watching, watching_from}
 use Rattle.watch.specs.States.{state_of}
-use Rattle.report.specs.Reports.{begun_text}
 use Rattle.report.specs.declared.Report.{Report}
 use Rattle.burnt.specs.Told.{tellings_text, told_within, log_told, IsUntold}
 use Rattle.burnt.specs.ChainTold.{chain_told, chain_stray, IsChainUntold}
-use Rattle.burnt.specs.ChainTelling.{stray_now, teller_writes, IsChainLeft, ChainOverflows}
-use Rattle.burnt.specs.LogTold.{told, stray_in, unplayed_in, steps_in, IsTooMuch, IsToldSoFar}
+use Rattle.burnt.specs.ChainTelling.{stray_now, entries_of, teller_writes, IsChainLeft, ChainOverflows}
+use Rattle.burnt.specs.LogTold.{told, stray_in, unplayed_in, steps_in, log_seconds, count_in, IsTooMuch}
+use Rattle.burnt.specs.LogTold.{IsToldSoFar}
 use Rattle.burnt.specs.declared.telling.Teller.{Teller}
 use Rattle.burnt.specs.declared.chained.ChainTeller.{ChainTeller}
 use Rattle.burnt.proofs.LinesTold.{broken_text}
 use Rattle.burnt.proofs.FloorTold.{untold, untold_bytes, teller_told, TellerLeft, teller_begun, teller_so_far}
 use Rattle.burnt.proofs.FloorTold.{teller_itself, TellerOverflows, all_unplayed}
 use Rattle.burnt.proofs.ChainBegun.{left_itself, chain_begins, begun_stray, chain_so_far, chain_untold}
-use Rattle.burnt.proofs.ChainBegun.{chain_untold_bytes}
+use Rattle.burnt.proofs.ChainBegun.{chain_untold_bytes, begun_entries}
 
 abbrev pub Both : Type 0
 Both = ByKind Teller ChainTeller
@@ -107,25 +109,27 @@ begun_so begun sum way a aw ar at al au b bw br bt bl bn bx o is kind = record {
   stray = ap (λ (t : ChainTeller). t.stray) is.1 ∙ bx;
 }
 
-module _ {begun : Device} {sum : ℕ} {way : Report} {o : Both} (n : IsBegun begun sum way o) where
+module _ {begun : Device} {sum : ℕ} (head : List ℕ) {way : Report} {o : Both} (n : IsBegun begun sum way o)
+  where
   of_kind : (ls : List LogLine) → is_history_from o.kind ls ≡ is_history ls
   of_kind ls = ap (λ k. is_history_from k ls) n.kind
 
   pub all_told : (log : List ℕ)
-      → begun_text way ++ writes o (kept_lines log) ≡ told begun sum way log
+      → head ++ writes o (kept_lines log) ≡ told begun sum head way log
   all_told log =
-      ap (λ (t : Bool). begun_text way
+      ap (λ (t : Bool). head
       ++ (if t then teller_writes o.history (kept_lines log) else teller_told o.events (kept_lines log)))
       (of_kind (kept_lines log))
       ∙ by (is_history (kept_lines log))
     where
       by : (t : Bool)
-          → begun_text way
+          → head
           ++ (if t then teller_writes o.history (kept_lines log) else teller_told o.events (kept_lines log))
-          ≡ (if t then chain_told begun sum way log else log_told begun way log)
+          ≡ (if t then chain_told begun sum head way log else log_told begun head way log)
       by true =
-          chain_begins begun sum way o.history n.chain_starts n.chain_report n.chain_watch n.log n.lines n.stray log
-      by false = teller_begun begun way o.events n.starts n.report n.watch n.floor_lines n.unplayed log
+          chain_begins begun sum head way o.history n.chain_starts n.chain_report n.chain_watch n.log n.lines n.stray
+          log
+      by false = teller_begun begun head way o.events n.starts n.report n.watch n.floor_lines n.unplayed log
 
   pub too_much : (log : List ℕ) → IsTooLong log ⊎ Overflows o (kept_lines log) → IsTooMuch log
   too_much log h = by (is_history (kept_lines log)) (moved h)
@@ -160,7 +164,7 @@ module _ {begun : Device} {sum : ℕ} {way : Report} {o : Both} (n : IsBegun beg
           → (if t then stray_now last.history else None) ≡ (if t then chain_stray begun sum log else None)
       by true h =
           h.stray
-          ∙ begun_stray begun sum way o.history n.chain_starts n.chain_report n.chain_watch n.log n.lines n.stray
+          ∙ begun_stray begun sum head way o.history n.chain_starts n.chain_report n.chain_watch n.log n.lines n.stray
           (kept_lines log)
       by false h = refl
 
@@ -181,10 +185,58 @@ module _ {begun : Device} {sum : ℕ} {way : Report} {o : Both} (n : IsBegun beg
       by true h = refl
       by false h = h.3 ∙ all_unplayed o.events begun n.unplayed n.floor_lines n.watch log
 
+  -- its seconds, and its lines
+  pub seconds_left_so : (last : Both) (log : List ℕ) → Left o (kept_lines log) last
+      → (if is_history_from last.kind [] then last.history.watch.time else last.events.watch.time)
+      ≡ log_seconds begun sum log
+  seconds_left_so last log (kind, left) =
+      ap (λ (t : Bool). if t then last.history.watch.time else last.events.watch.time)
+      (kind ∙ of_kind (kept_lines log))
+      ∙ by (is_history (kept_lines log)) refl
+      (subst (λ (t : Bool). MatchBool t (IsChainLeft o.history (kept_lines log) last.history)
+      (TellerLeft o.events (kept_lines log) last.events)) (of_kind (kept_lines log)) left)
+    where
+      by : (t : Bool) → is_history (kept_lines log) ≡ t
+          → MatchBool t (IsChainLeft o.history (kept_lines log) last.history)
+          (TellerLeft o.events (kept_lines log) last.events)
+          → (if t then last.history.watch.time else last.events.watch.time) ≡ log_seconds begun sum log
+      by true is h =
+          h.watch.time
+          ∙ (λ i. (after_log (n.chain_watch i) (entry_steps (n.chain_watch i).device
+          (chain_entries i))).time)
+          ∙ ap (λ es. (after_log (watching_from begun) es).time) (sym (if_yes _ _ is))
+        where
+          chain_entries : entries_of o.history (kept_lines log) ≡ belonging (chain_begun sum) begun (kept_lines log)
+          chain_entries =
+              begun_entries begun sum head way o.history n.chain_starts n.chain_report n.chain_watch n.log n.lines
+              n.stray (kept_lines log)
+      by false is h =
+          ap (λ (s : Watching). s.time) h.2
+          ∙ (λ i. (after_log (n.watch i)
+          (floor_steps (n.watch i).device (map floor_event (texts_of (kept_lines log))))).time)
+          ∙ ap (λ es. (after_log (watching_from begun) es).time) (sym (if_no _ _ is))
+
+  pub count_left_so : (last : Both) (log : List ℕ) → Left o (kept_lines log) last
+      → (if is_history_from last.kind [] then last.history.lines else last.events.lines) ≡ count_in begun sum log
+  count_left_so last log (kind, left) =
+      ap (λ (t : Bool). if t then last.history.lines else last.events.lines) (kind ∙ of_kind (kept_lines log))
+      ∙ by (is_history (kept_lines log))
+      (subst (λ (t : Bool). MatchBool t (IsChainLeft o.history (kept_lines log) last.history)
+      (TellerLeft o.events (kept_lines log) last.events)) (of_kind (kept_lines log)) left)
+    where
+      by : (t : Bool) → MatchBool t (IsChainLeft o.history (kept_lines log) last.history)
+          (TellerLeft o.events (kept_lines log) last.events)
+          → (if t then last.history.lines else last.events.lines)
+          ≡ (if t then length (belonging (chain_begun sum) begun (kept_lines log)) else length (kept_lines log))
+      by true h =
+          omega (arith, h.lines, n.lines, ap length (begun_entries begun sum head way o.history n.chain_starts
+          n.chain_report n.chain_watch n.log n.lines n.stray (kept_lines log)))
+      by false h = omega (arith, h.4, n.floor_lines)
+
   -- where a read fails
   pub told_so_far : {after : Both} {log left : List ℕ} {old mid now : Option (List ℕ)}
-      → Appends old mid (begun_text way) → BreaksOff writes Left o after log left mid now
-      → IsToldSoFar begun sum way log left old now
+      → Appends old mid (head) → BreaksOff writes Left o after log left mid now
+      → IsToldSoFar begun sum head way log left old now
   told_so_far {after} {log} {left} {old} {mid} {now} w b = record {
     lines_told = b.told;
     part = b.part;
@@ -207,7 +259,7 @@ module _ {begun : Device} {sum : ℕ} {way : Report} {o : Both} (n : IsBegun beg
           let chain : IsChainLeft o.history b.told after.history
           = subst (λ (t : Bool). MatchBool t (IsChainLeft o.history b.told after.history)
           (TellerLeft o.events b.told after.events)) mine at.1 in
-          chain_so_far begun sum way o.history n.chain_starts n.chain_report n.chain_watch n.log n.lines n.stray
+          chain_so_far begun sum head way o.history n.chain_starts n.chain_report n.chain_watch n.log n.lines n.stray
           after.history b.told chain b.text
           (sym (if_yes (teller_writes o.history b.told) (teller_told o.events b.told) mine)
           ∙ all ∙ ap (λ (l : List ℕ). b.text ++ l) (if_yes _ _ (at.0 ∙ mine)))
@@ -217,7 +269,8 @@ module _ {begun : Device} {sum : ℕ} {way : Report} {o : Both} (n : IsBegun beg
           let floor : TellerLeft o.events b.told after.events
           = subst (λ (t : Bool). MatchBool t (IsChainLeft o.history b.told after.history)
           (TellerLeft o.events b.told after.events)) mine at.1 in
-          teller_so_far begun way o.events n.starts n.report n.watch n.floor_lines n.unplayed after.events b.told b.text
+          teller_so_far begun head way o.events n.starts n.report n.watch n.floor_lines n.unplayed after.events b.told
+          b.text
           (sym (if_no (teller_writes o.history b.told) (teller_told o.events b.told) mine)
           ∙ all ∙ ap (λ (l : List ℕ). b.text ++ l) (if_no _ _ (at.0 ∙ mine))) floor
           ∙ sym (ap (λ es. tellings_text way (told_within (watching_from begun) es)) (if_no _ _ is))

@@ -17,7 +17,6 @@ use Rattle.watch.specs.Telling.{after_log}
 use Rattle.watch.specs.States.{state_of, IsLeft}
 use Rattle.watch.proofs.SecondsSaid.{said_most}
 use Rattle.watch.proofs.TellingsSpelt.{after_none}
-use Rattle.report.specs.Reports.{begun_text}
 use Rattle.report.specs.declared.Report.{Report}
 use Rattle.burnt.specs.Told.{tellings_text, report_after, told_from, told_within}
 use Rattle.burnt.specs.ChainTold.{entries_left, stray_left, chain_ended, chain_told_from, chain_told}
@@ -69,16 +68,16 @@ module _ (t : ChainTeller) where
     stray = sym still_stray;
   }
 
-module _ (begun : Device) (sum : ℕ) (way : Report) (t : ChainTeller) (starts : t.starts ≡ begun.own.lamps)
-    (report : t.report ≡ way) (watch : state_of t.watch ≡ watching_from begun)
+module _ (begun : Device) (sum : ℕ) (head : List ℕ) (way : Report) (t : ChainTeller)
+    (starts : t.starts ≡ begun.own.lamps) (report : t.report ≡ way) (watch : state_of t.watch ≡ watching_from begun)
     (log_is : t.log ≡ chain_begun sum) (lines : t.lines ≡ 0) (none : t.stray ≡ None) where
   none_now : stray_now t ≡ None
   none_now = ap (option_map _) none
 
   pub chain_begins : (log : List ℕ)
-      → begun_text way ++ teller_writes t (kept_lines log) ≡ chain_told begun sum way log
+      → head ++ teller_writes t (kept_lines log) ≡ chain_told begun sum head way log
   chain_begins log =
-      (λ i. begun_text way
+      (λ i. head
       ++ chain_told_from (starts i) (none_now i) (lines i) (log_is i) (report i) (watch i) (kept_lines log))
 
   pub begun_entries : (ls : List LogLine) → entries_of t ls ≡ belonging (chain_begun sum) begun ls

@@ -22,7 +22,6 @@ use Rattle.watch.specs.Telling.{floor_events, floor_unplayed, lit_stretch_if, to
 use Rattle.watch.specs.States.{IsWatched, state_of}
 use Rattle.watch.proofs.LinesKept.{floor_events_kept, floor_event_of_front}
 use Rattle.watch.proofs.TellingsSpelt.{after_none, seconds_most_lem}
-use Rattle.report.specs.Reports.{begun_text}
 use Rattle.report.specs.declared.Report.{Report}
 use Rattle.burnt.specs.Told.{tellings_text, report_after, told_from, told_within, totals_text, log_told, IsUntold}
 use Rattle.burnt.specs.declared.telling.Teller.{Teller}
@@ -115,6 +114,7 @@ TellerLeft t ls last =
     (last.starts ≡ t.starts) × (last.report ≡ report_after t.report (told_within (state_of t.watch) es))
     × (state_of last.watch ≡ after_log (state_of t.watch) es)
     × (last.unplayed ≡ unplayed_then t ls)
+    × (last.lines ≡ t.lines + length ls)
 
 abbrev pub TellerOverflows : Teller → List LogLine → Type 0
 TellerOverflows t ls =
@@ -131,13 +131,13 @@ all_unplayed t begun none first watch log =
 pub still_unplayed : (t : Teller) → unplayed_then t [] ≡ t.unplayed
 still_unplayed t = unplayed_none watched_answer done_by t.unplayed t.lines t.watch.tested.device
 
-module _ (begun : Device) (way : Report) (t : Teller) (starts : t.starts ≡ begun.own.lamps)
+module _ (begun : Device) (head : List ℕ) (way : Report) (t : Teller) (starts : t.starts ≡ begun.own.lamps)
     (report : t.report ≡ way) (watch : state_of t.watch ≡ watching_from begun) (first : t.lines ≡ 0)
     (none : t.unplayed ≡ none_unplayed) where
   pub teller_begun : (log : List ℕ)
-      → begun_text way ++ teller_told t (kept_lines log) ≡ log_told begun way log
+      → head ++ teller_told t (kept_lines log) ≡ log_told begun head way log
   teller_begun log =
-      (λ i. begun_text way
+      (λ i. head
       ++ told_from (totals_text (starts i) (all_unplayed t begun none first watch log i)) (report i) (watch i)
       (floor_steps (watch i).device (floor_events_kept log i)))
 
@@ -160,6 +160,7 @@ teller_itself t = (
   sym (report_within_none t.report (state_of t.watch)),
   sym (after_none (state_of t.watch)),
   sym (still_unplayed t),
+  omega arith,
 )
 
 pub teller_itself_ok : {T E : Type 0} (t : Teller) (r : Result T E) → OnOk r (TellerLeft t [] t)

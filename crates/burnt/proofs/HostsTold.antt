@@ -30,10 +30,10 @@ use Rattle.watch.specs.Telling.{lit_stretches, after_log}
 use Rattle.stretches.specs.LogTold.{StepsTold}
 use Rattle.stretches.proofs.CallsTell.{is_legal-begun_by}
 use Rattle.stretches.proofs.WholeLogTold.{entries_watched}
-use Rattle.report.specs.Reports.{begun_text, ended_until}
+use Rattle.report.specs.Reports.{ended_until}
 use Rattle.report.specs.declared.Report.{Report}
 use Rattle.burnt.specs.Told.{tellings_text, report_after, told_from}
-use Rattle.burnt.specs.ChainTold.{chain_ended, chain_told, chain_stray}
+use Rattle.burnt.specs.ChainTold.{chain_ended, chain_told, chain_stray, chain_seconds}
 use Rattle.burnt.specs.HistoryTold.{HistoryTold, IsCutLine, HostTold}
 
 -- ---- the lines of such a log
@@ -52,7 +52,7 @@ cut_tail c = by (length c == 0) refl
 
 -- ---- where all that LF ends belongs
 
-module _ (d : Device) (sum : ℕ) (way : Report) (log : List ℕ) (f : Followed)
+module _ (d : Device) (sum : ℕ) (log : List ℕ) (f : Followed)
     (h : followed (chain_begun sum) d (lines_ended [] log) ≡ Some f) where
   abbrev ls : List (List ℕ)
   ls = lines_ended [] log
@@ -101,25 +101,29 @@ module _ (d : Device) (sum : ℕ) (way : Report) (log : List ℕ) (f : Followed)
       stray_is ∙ ap (λ (c : List ℕ). stray_from (0 + length ls) f.log f.device (map kept (last_line c))) whole
       ∙ stray_none f.log f.device (0 + length ls)
 
-  told_is : chain_told d sum way log ≡ begun_text way
+  seconds_are : chain_seconds d sum log ≡ (after_log (watching_from d) (entry_steps d says.es)).time
+  seconds_are = (λ i. (after_log (watching_from d) (entry_steps d (all_belong i))).time)
+
+  told_is : (head : List ℕ) (way : Report) → chain_told d sum head way log ≡ head
       ++ told_from (chain_ended d.own.lamps (0 + length says.es) (chain_stray d sum log)) way
       (watching_from d) (entry_steps d says.es)
-  told_is =
-      (λ i. begun_text way
+  told_is head way =
+      (λ i. head
       ++ told_from (chain_ended d.own.lamps (0 + length (all_belong i)) (chain_stray d sum log)) way
       (watching_from d) (entry_steps d (all_belong i)))
 
 -- ---- and tells the history
 
-module _ (b : Beginning) (w : Wanted) (h : IsAccepted ours b w) (sum : ℕ) (way : Report) where
+module _ (b : Beginning) (w : Wanted) (h : IsAccepted ours b w) (sum : ℕ) where
   abbrev d : Device
   d = (begun_by ours b w).device
 
   history_told : (log : List ℕ) (cs : List Call) (f : Followed) → f.calls ≡ recorded d cs
       → followed (chain_begun sum) d (lines_ended [] log) ≡ Some f
-      → HistoryTold b w (history_of ours b w cs) way (chain_stray d sum log) (chain_told d sum way log)
+      → HistoryTold b w (history_of ours b w cs) (chain_seconds d sum log) (chain_stray d sum log)
+      (λ head way. chain_told d sum head way log)
   history_told log cs f calls all =
-      let s = says d sum way log f all in
+      let s = says d sum log f all in
       let es = entry_steps d s.es in
       let end = after_log (watching_from d) es in
       let t : StepsTold b w (history_of ours b w cs) es = entries_watched b w h cs s.es (s.calls ∙ calls) in
@@ -130,16 +134,15 @@ module _ (b : Beginning) (w : Wanted) (h : IsAccepted ours b w) (sum : ℕ) (way
       = ap (λ (n : ℕ). min n 8) t.count ∙ omega (arith, eight) in
       record {
         told = lit_stretches (watching_from d) es;
-        seconds = end.time;
         lines = 0 + length s.es;
         starts = d.own.lamps;
         burnt = burnt_by end;
         lasts = end.device.own.lamps;
-        written = told_is d sum way log f all
-            ∙ (λ i. begun_text way
+        written = λ head way. told_is d sum log f all head way
+            ∙ (λ i. head
             ++ (tellings_text way (lit_stretches (watching_from d) es)
-            ++ ended_until (report_after way (lit_stretches (watching_from d) es)) end.time (count i)
-            d.own.lamps (burnt_by end) end.device.own.lamps (0 + length s.es)
+            ++ ended_until (report_after way (lit_stretches (watching_from d) es))
+            (sym (seconds_are d sum log f all) i) (count i) d.own.lamps (burnt_by end) end.device.own.lamps (0 + length s.es)
             (option_map stray_text (chain_stray d sum log))));
         stretches = t.stretches;
         start = λ k inside. ours_counts_seconds.lamps_tell_the_history b w [] k h inside;
@@ -157,15 +160,15 @@ module _ (b : Beginning) (w : Wanted) (h : IsAccepted ours b w) (sum : ℕ) (way
 
     none_stray : chain_stray d sum whole_log ≡ None
     none_stray =
-        no_stray d sum way whole_log (host_left (chain_begun sum) d ss) all_followed
+        no_stray d sum whole_log (host_left (chain_begun sum) d ss) all_followed
         (host_log_ends ss (chain_begun sum) d)
 
-    pub host_told : HostTold b w sum way ss
+    pub host_told : HostTold b w sum ss
     host_told = record {
       whole = (
         none_stray,
-        subst (λ (x : Option FirstStray). HistoryTold b w (history_of ours b w (step_calls ss)) way x
-            (chain_told d sum way whole_log)) none_stray
+        subst (λ (x : Option FirstStray). HistoryTold b w (history_of ours b w (step_calls ss))
+            (chain_seconds d sum whole_log) x (λ head way. chain_told d sum head way whole_log)) none_stray
             (history_told whole_log (step_calls ss) (host_left (chain_begun sum) d ss) refl all_followed),
       );
       cut = λ n. of_front n;
@@ -173,13 +176,13 @@ module _ (b : Beginning) (w : Wanted) (h : IsAccepted ours b w) (sum : ℕ) (way
       where
         of_front : (n : ℕ) → let log = take n whole_log in
             (k : ℕ) × (k ≤ length ss) × IsCutLine (chain_stray d sum log)
-            × HistoryTold b w (history_of ours b w (step_calls (take k ss))) way (chain_stray d sum log)
-            (chain_told d sum way log)
+            × HistoryTold b w (history_of ours b w (step_calls (take k ss))) (chain_seconds d sum log)
+            (chain_stray d sum log) (λ head way. chain_told d sum head way log)
         of_front n =
             let log = take n whole_log in
             let (k, few, front, plays) = front_believed (chain_begun sum) d ss (omega arith) small typed kept_all n in (
               k,
               few,
-              cut_line d sum way log (host_left (chain_begun sum) d (take k ss)) front,
+              cut_line d sum log (host_left (chain_begun sum) d (take k ss)) front,
               history_told log (step_calls (take k ss)) (host_left (chain_begun sum) d (take k ss)) refl front,
             )

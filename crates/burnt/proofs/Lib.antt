@@ -6,3 +6,4 @@ mod ChainObserved
 mod ChainBegun
 mod ByKinds
 mod HostsTold
+pub mod PagesTold

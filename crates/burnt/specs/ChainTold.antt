@@ -6,7 +6,9 @@
 --                                    leaves
 --                            the state s, n lines of which belong
 --   chain_told_from ..       what is written of the lines ls
---   chain_told d sum way log   what is written of a whole log that begins with the device d, as the report `way` has it
+--   chain_told d sum head way log   what is written of a whole log that begins with the device d, as the report `way`
+--                                   has it: first the text `head`
+--   chain_seconds d sum log  the seconds that it lets pass
 --   chain_stray d sum log    its first line that does not belong
 --   IsChainUntold log        it has more lines, or more bytes in one, or says more seconds, than 64 bits count
 -- Assumes nothing.
@@ -20,7 +22,8 @@ use Rattle.history.specs.declared.recorder.Recorder.{Recorder}
 use Rattle.recorded.specs.Following.{chain_begun, belonging, FirstStray, stray_from, stray_text}
 use Rattle.watch.specs.CallSteps.{entry_steps, said_seconds}
 use Rattle.watch.specs.Watching.{Watching, watching_from, burnt_by}
-use Rattle.report.specs.Reports.{begun_text, ended_until}
+use Rattle.watch.specs.Telling.{after_log}
+use Rattle.report.specs.Reports.{ended_until}
 use Rattle.report.specs.declared.Report.{Report}
 use Rattle.burnt.specs.Told.{told_from}
 
@@ -42,9 +45,13 @@ chain_told_from starts stray n log r s ls =
     let es = entries_left stray log s.device ls in
     told_from (chain_ended starts (n + length es) (stray_left stray n log s.device ls)) r s (entry_steps s.device es)
 
-abbrev pub chain_told : Device → ℕ → Report → List ℕ → List ℕ
-chain_told d sum way log =
-    begun_text way ++ chain_told_from d.own.lamps None 0 (chain_begun sum) way (watching_from d) (kept_lines log)
+abbrev pub chain_told : Device → ℕ → List ℕ → Report → List ℕ → List ℕ
+chain_told d sum head way log =
+    head ++ chain_told_from d.own.lamps None 0 (chain_begun sum) way (watching_from d) (kept_lines log)
+
+abbrev pub chain_seconds : Device → ℕ → List ℕ → ℕ
+chain_seconds d sum log =
+    (after_log (watching_from d) (entry_steps d (belonging (chain_begun sum) d (kept_lines log)))).time
 
 abbrev pub chain_stray : Device → ℕ → List ℕ → Option FirstStray
 chain_stray d sum log = stray_from 0 (chain_begun sum) d (kept_lines log)

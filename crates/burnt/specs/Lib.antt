@@ -4,3 +4,4 @@ pub mod ChainTold
 pub mod ChainTelling
 pub mod LogTold
 pub mod HistoryTold
+pub mod Parts

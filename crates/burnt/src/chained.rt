@@ -82,6 +82,20 @@ impl ChainTeller {
         }
     }
 
+    /// The seconds that passed.
+    pub fn seconds(&self) -> u64
+        ensures { result ≡ self.now.watch.time }
+    {
+        self.watch.time()
+    }
+
+    /// How many lines belong.
+    pub fn lines(&self) -> u64
+        ensures { result ≡ self.now.lines }
+    {
+        self.lines
+    }
+
     /// The first line that did not belong, if one did not.
     pub fn stray(&self) -> Option<StrayLine>
         ensures { result ≡ self.now.stray }

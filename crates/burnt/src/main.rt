@@ -3,6 +3,7 @@
 #![tactic(auto)]
 
 mod chained;
+mod parts;
 mod telling;
 #[cfg(test)]
 mod tests;
@@ -10,22 +11,17 @@ pub mod theorems;
 
 ghost use Rattle.std.specs.Prelude.{◌≡◌, option_map};
 ghost use Rattle.recorded.specs.Following.{stray_seen};
-ghost use Rattle.burnt.specs.Asked.{query_of, report_for};
-ghost use Rattle.burnt.specs.LogTold.{told, stray_in, unplayed_in, IsTooMuch};
-ghost use Rattle.command.specs.Asked.{asked_seen};
+ghost use Rattle.burnt.specs.LogTold.{stray_in, unplayed_in, IsTooMuch};
+ghost use Rattle.burnt.specs.Parts.{asked_told};
 
-use command::asked::{Arguments, Shape};
+use command::asked::Arguments;
 use formfile::Begun;
 use program::about::About;
+use program::joined::Opens;
 use program::outside::System;
 use program::run;
-use program::telling::{Ending, Telling};
-use record::types::Device;
-use report::Report;
-use report::page::{Projector, Query, Sheet};
+use program::telling::{CutOff, Ending, Telling};
 use std::process::ExitCode;
-use textio::lines::Failure;
-use textio::reader::{BufferedReader, ByteSource};
 use textio::writer::ByteSink;
 
 const USAGE: &str = "usage: burnt [--page | --csv] [OPTION..] [FORM] [LOG..]\n";
@@ -58,37 +54,10 @@ not understood, a call was refused, or a line does not belong to its
 history.
 ";
 
-// What is asked of a page or a table of a log that begins with that device.
-fn query_of(command: &Arguments<'_>, begun: &Device) -> Query
-    ensures { result ≡ query_of (asked_seen command.now) begun.now }
-{
-    Query {
-        began: command.began,
-        long: command.long,
-        life: command.life,
-        projector: Projector {
-            name: begun.settings.name,
-            maker: begun.settings.maker,
-            model: begun.settings.model,
-        },
-    }
-}
-
-// How such a log is told.
-fn report_for(command: &Arguments<'_>, begun: &Device) -> Report
-    ensures { result ≡ report_for (asked_seen command.now) begun.now }
-{
-    match command.shape {
-        Shape::Lines => Report::Lines,
-        Shape::Page => Report::Page(Sheet::new(query_of(command, begun))),
-        Shape::Csv => Report::Csv(query_of(command, begun)),
-    }
-}
-
 struct Burnt;
 
 impl Telling for Burnt {
-    ghost told = { λ _ asked begun log. told begun.device begun.sum (report_for asked begun.device) log };
+    ghost told = { λ _ asked begun log. asked_told asked begun log };
 
     ghost ends = { λ _ begun log ending.
         (option_map stray_seen ending.stray ≡ stray_in begun.device begun.sum log)
@@ -96,20 +65,17 @@ impl Telling for Burnt {
 
     ghost is_too_much = { IsTooMuch };
 
-    fn tell<R: ByteSource, W: ByteSink>(
+    fn tell<'w, O: Opens, W: ByteSink>(
         &self,
         begun: &Begun,
-        command: &Arguments<'_>,
-        from: &mut BufferedReader<R>,
+        command: &Arguments<'w>,
+        opens: &O,
         to: &mut W,
-    ) -> Result<Ending, Failure> {
-        telling::tell_log(
-            begun.device,
-            begun.sum,
-            report_for(command, &begun.device),
-            from,
-            to,
-        )
+    ) -> Result<Ending, CutOff<'w>> {
+        match parts::tell(begun, command, opens, to) {
+            Ok(log) => Ok(log.ending),
+            Err(cut) => Err(cut),
+        }
     }
 }
 

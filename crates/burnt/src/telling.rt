@@ -14,8 +14,8 @@ ghost use Rattle.watch.specs.Marking.{floor_event, floor_steps, seconds_by, done
 ghost use Rattle.watch.specs.Telling.{lit_stretch_if, after_log};
 ghost use Rattle.watch.specs.Watching.{watching_from, burnt_by};
 ghost use Rattle.watch.specs.States.{state_of};
-ghost use Rattle.burnt.specs.Told.{tellings_text, report_after, totals_text, told_from, told_within};
-ghost use Rattle.burnt.specs.LogTold.{told, stray_in, unplayed_in, IsTooMuch, IsToldSoFar};
+ghost use Rattle.burnt.specs.Told.{head_of, tellings_text, report_after, totals_text, told_from, told_within};
+ghost use Rattle.burnt.specs.LogTold.{told, EndsSo, IsTooMuch, IsToldSoFar};
 
 use crate::chained::ChainTeller;
 use floorlog::kept::KeptLine;
@@ -27,7 +27,7 @@ use program::telling::Ending;
 use record::types::Device;
 use report::Report;
 use report::lamps::Totals;
-use report::page::Stretch;
+use report::page::{FileNames, Stretch};
 use std::io;
 use text::{flag, rooms};
 use textio::lines::Failure;
@@ -129,6 +129,13 @@ impl Teller {
         }
     }
 
+    /// The seconds that passed.
+    pub fn seconds(&self) -> u64
+        ensures { result ≡ self.now.watch.time }
+    {
+        self.watch.time()
+    }
+
     /// What was not played.
     pub fn unplayed(&self) -> Unplayed
         ensures { result ≡ self.now.unplayed }
@@ -148,7 +155,8 @@ impl Observer for Teller {
         × (last.report ≡ report_after t.report (told_within (state_of t.watch) es))
         × (state_of last.watch ≡ after_log (state_of t.watch) es)
         × (last.unplayed ≡ unplayed_by watched_answer done_by t.unplayed t.lines t.watch.tested.device
-        (map (said_line floor_event) (texts_of ls))) };
+        (map (said_line floor_event) (texts_of ls)))
+        × (last.lines ≡ t.lines + length ls) };
 
     ghost overflows = { λ t ls.
         (2 ^ 64 ≤ t.watch.time + sum_by seconds_by (map floor_event (texts_of ls)))
@@ -175,51 +183,71 @@ impl Observer for Teller {
     }
 }
 
+/// How a log ended that was read to its end.
+#[derive(Clone, Copy)]
+pub struct LogEnding {
+    /// What of it was not played, and the line of a history that did not belong.
+    pub ending: Ending,
+    /// The seconds that it let pass.
+    pub seconds: u64,
+    /// How many lines it had; of a history how many belong.
+    pub lines: u64,
+}
+
 // How the log ended.
-fn ending_of(teller: &ByKind<Teller, ChainTeller>) -> Ending
-    ensures stray { option_map stray_seen result.stray
+fn ending_of(teller: &ByKind<Teller, ChainTeller>) -> LogEnding
+    ensures stray { option_map stray_seen result.ending.stray
         ≡ (if is_history_from teller.now.kind [] then option_map stray_seen teller.now.history.stray else None) }
-    ensures unplayed { result.unplayed
+    ensures unplayed { result.ending.unplayed
         ≡ (if is_history_from teller.now.kind [] then none_unplayed else teller.now.events.unplayed) }
+    ensures seconds { result.seconds
+        ≡ (if is_history_from teller.now.kind [] then teller.now.history.watch.time else teller.now.events.watch.time) }
+    ensures lines { result.lines
+        ≡ (if is_history_from teller.now.kind [] then teller.now.history.lines else teller.now.events.lines) }
 {
     if teller.is_history() {
-        return Ending {
-            stray: teller.history.stray(),
-            unplayed: Unplayed::new(),
+        return LogEnding {
+            ending: Ending {
+                stray: teller.history.stray(),
+                unplayed: Unplayed::new(),
+            },
+            seconds: teller.history.seconds(),
+            lines: teller.history.lines(),
         };
     }
-    Ending {
-        stray: None,
-        unplayed: teller.events.unplayed(),
+    LogEnding {
+        ending: Ending {
+            stray: None,
+            unplayed: teller.events.unplayed(),
+        },
+        seconds: teller.events.seconds(),
+        lines: teller.events.lines,
     }
 }
 
 /// The log that a reader has left, which begins with a device: which lamp burnt when goes to a sink, as the report has
-/// it, as it comes. What is told is handed on before each read, which may wait. A log whose first line begins
-/// with `LOG ` is of the second kind: `sum` is the CRC-32 of the form that it begins with. Returns its first line that
-/// does not belong, which is told last, if there is one, and what of a log of the first kind was not played. Errors:
-/// those of a read or a write; `TooLong` for a log with more lines, more bytes in one, or more seconds than 64 bits
-/// count.
+/// it, as it comes. What is told is handed on before each read, which may wait. A log whose first line begins with
+/// `LOG ` is of the second kind: `sum` is the CRC-32 of the form that it begins with. A page names form and files by
+/// `names`. Returns how the log ended. Errors: those of a read or a write; `TooLong` for a log with more lines, more
+/// bytes in one, or more seconds than 64 bits count.
 pub fn tell_log<R: ByteSource, W: ByteSink>(
     begun: Device,
     sum: u32,
     report: Report,
+    names: FileNames<'_>,
     from: &mut BufferedReader<R>,
     to: &mut W,
-) -> Result<Ending, Failure>
+) -> Result<LogEnding, Failure>
     ensures whole { OnOk result (IfSome (left_in R.remaining from.old) (λ log. Appends (W.contents to.old)
-        (W.contents to.new) (told begun sum report log))) }
-    ensures stray { IfOk result (λ ending. IfSome (left_in R.remaining from.old) (λ log.
-        option_map stray_seen ending.stray ≡ stray_in begun sum log)) }
-    ensures unplayed { IfOk result (λ ending. IfSome (left_in R.remaining from.old) (λ log.
-        ending.unplayed ≡ unplayed_in begun log)) }
+        (W.contents to.new) (told begun sum (head_of report names.entry) report log))) }
+    ensures ending { IfOk result (λ e. IfSome (left_in R.remaining from.old) (λ log. EndsSo begun sum log e)) }
     ensures front { IfSome (left_in R.remaining from.old) (λ log. WritesFront (W.contents to.old)
-        (W.contents to.new) (told begun sum report log)) }
+        (W.contents to.new) (told begun sum (head_of report names.entry) report log)) }
     ensures none_waits { OnOk result (W.waiting to.new ≡ []) }
     ensures read { IfErr result (OnFailedRead (W.waiting to.new ≡ [])) }
     ensures broken { IfErr result (OnFailedRead (IfSome (left_in R.remaining from.old) (λ log.
         IfSome (left_in R.remaining from.new) (λ left.
-        IsToldSoFar begun sum report log left (W.contents to.old) (W.contents to.new))))) }
+        IsToldSoFar begun sum (head_of report names.entry) report log left (W.contents to.old) (W.contents to.new))))) }
     ensures err { IfErr result
         (FailureComesOf R.fails_with W.fails_with IsTooMuch (left_in R.remaining from.old)) }
     ensures short { IfSome (left_in R.remaining from.old) (λ log. length log < 2 ^ 32
@@ -229,7 +257,7 @@ pub fn tell_log<R: ByteSource, W: ByteSink>(
         Teller::new(begun, report),
         ChainTeller::new(begun, sum, report),
     );
-    report.begin(to).map_err(Failure::Write)?;
+    report.begin(to, names).map_err(Failure::Write)?;
     match observer::follow(&mut teller, from, to) {
         Ok(()) => Ok(ending_of(&teller)),
         Err(failure) => Err(failure),

@@ -1,10 +1,12 @@
 // A log from a source that gives it in odd pieces, or fails in mid-stream, to a sink that takes odd pieces, or fails.
 use crate::telling::tell_log;
+use floorlog::cut::CutForm;
 use floorlog::{cut, sample};
 use program::telling::Ending;
 use record::types::Device;
 use recorded::chain::Why;
 use report::Report;
+use report::page::FileNames;
 use setup::wanted::{Class, Wanted};
 use textio::lines::Failure;
 use textio::reader::BufferedReader;
@@ -13,6 +15,11 @@ use textio::trial::{Pieces, TrialSink};
 const LOG: &[u8] = b"O 00000000\nR %1POWR 1\nT 2400\nR %1POWR 0\nT 60";
 
 const TOLD: &[u8] = b"lamp 1 from 0 to 2400\nlamp 1 start 0 burnt 2400 now 2400\n";
+
+const NAMES: FileNames<'static> = FileNames {
+    form: None,
+    logs: &["-"],
+};
 
 fn source(most: usize, until: usize) -> BufferedReader<Pieces> {
     BufferedReader::new(Pieces {
@@ -26,7 +33,7 @@ fn source(most: usize, until: usize) -> BufferedReader<Pieces> {
 fn a_log_in_odd_pieces(rt: HostRuntime) {
     for most in 1..12 {
         let mut to = TrialSink::new(most, 64);
-        let told = tell_log(sample(), 0, Report::Lines, &mut source(most, 1000), &mut to);
+        let told = tell_log(sample(), 0, Report::Lines, NAMES, &mut source(most, 1000), &mut to);
         assert!(rt; told.is_ok());
         assert!(rt; to.text() == TOLD);
     }
@@ -35,7 +42,7 @@ fn a_log_in_odd_pieces(rt: HostRuntime) {
 #[test]
 fn a_read_that_fails_after_a_stretch(rt: HostRuntime) {
     let mut to = TrialSink::new(6, 64);
-    let told = tell_log(sample(), 0, Report::Lines, &mut source(5, 42), &mut to);
+    let told = tell_log(sample(), 0, Report::Lines, NAMES, &mut source(5, 42), &mut to);
     assert!(rt; matches!(told, Err(Failure::Read(_))));
     assert!(rt; to.text() == b"lamp 1 from 0 to 2400\n".as_slice());
     // it is handed on before the read that fails
@@ -45,7 +52,7 @@ fn a_read_that_fails_after_a_stretch(rt: HostRuntime) {
 #[test]
 fn a_write_that_fails_in_mid_line(rt: HostRuntime) {
     let mut to = TrialSink::new(2, 15);
-    let told = tell_log(sample(), 0, Report::Lines, &mut source(7, 1000), &mut to);
+    let told = tell_log(sample(), 0, Report::Lines, NAMES, &mut source(7, 1000), &mut to);
     assert!(rt; matches!(told, Err(Failure::Write(_))));
     // and nothing is written after it
     to.set_room(64);
@@ -53,7 +60,7 @@ fn a_write_that_fails_in_mid_line(rt: HostRuntime) {
         Ok(_) => Ok(()),
         Err(failure) => Err(failure),
     };
-    assert!(rt; cut::end_output(ended, &mut to).is_err());
+    assert!(rt; cut::end_output(ended, CutForm::Line, &mut to).is_err());
     assert!(rt; to.text() == b"lamp 1 from 0 t".as_slice());
 }
 
@@ -119,10 +126,11 @@ fn four_places_and_a_password(rt: HostRuntime) {
             secured(),
             SUM,
             Report::Lines,
+            NAMES,
             &mut recorded(log, most),
             &mut to,
         );
-        assert!(rt; matches!(told, Ok(ending) if ending.stray.is_none()));
+        assert!(rt; matches!(told, Ok(log) if log.ending.stray.is_none()));
         assert!(rt;
             to.text() == b"lamp 1 from 100 to 130\nlamp 1 start 0 burnt 30 now 30\n".as_slice()
         );
@@ -138,10 +146,11 @@ fn a_log_that_was_cut(rt: HostRuntime) {
         secured(),
         SUM,
         Report::Lines,
+        NAMES,
         &mut recorded(log, 4),
         &mut to,
     );
-    match told {
+    match told.map(|log| log.ending) {
         Ok(
             Ending {
                 stray: Some(stray),
@@ -165,9 +174,10 @@ fn a_log_of_another_form(rt: HostRuntime) {
         secured(),
         SUM,
         Report::Lines,
+        NAMES,
         &mut recorded(log, 9),
         &mut to,
     );
-    assert!(rt; matches!(told, Ok(ending) if ending.stray.is_some()));
+    assert!(rt; matches!(told, Ok(log) if log.ending.stray.is_some()));
     assert!(rt; to.text() == b"lamp 1 start 0 burnt 0 now 0\n! line 1: another sum\n".as_slice());
 }

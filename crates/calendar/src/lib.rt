@@ -45,7 +45,8 @@ fn year_length(year: u64) -> u64
     365
 }
 
-fn month_length(year: u64, month: u64) -> u64
+/// How many days a month has, 1 to 12, of a year.
+pub fn month_length(year: u64, month: u64) -> u64
     ensures length { result ≡ month_length year month }
     ensures bounds { (28 ≤ result) × (result ≤ 31) }
 {
@@ -101,11 +102,19 @@ impl Date {
     }
 }
 
+/// The weekday of the day with that number: 0 for a Monday, 6 for a Sunday.
+pub fn weekday(number: u64) -> u64
+    ensures weekday { result ≡ weekday number }
+    ensures bound { result < 7 }
+{
+    (number % 7 + 5) % 7
+}
+
 /// The name of the weekday of the day with that number.
 pub fn weekday_name(number: u64) -> &'static str
     ensures { result.now ≡ weekday_name (weekday number) }
 {
-    match (number % 7 + 5) % 7 {
+    match weekday(number) {
         0 => "Mon",
         1 => "Tue",
         2 => "Wed",

@@ -4,7 +4,7 @@ ghost use Rattle.std.specs.declared.io.Error.{Error};
 ghost use Rattle.textio.specs.Fronts.{WritesText};
 ghost use Rattle.record.specs.declared.types.Device.{Device};
 ghost use Rattle.floorlog.specs.Playing.{replay_text};
-ghost use Rattle.floorlog.specs.Cuts.{failure_line, end_text, EndFails, number_line};
+ghost use Rattle.floorlog.specs.Cuts.{failure_line, cut_text, end_text, EndFails, number_line};
 
 use std::io;
 use textio::forms::fill;
@@ -23,11 +23,36 @@ pub fn last_line(failure: &Failure) -> &'static [u8]
     }
 }
 
-/// What stands last where a log was cut short, and all that waits is handed on. After a failed write nothing is
-/// written, since more output would hide what is missing: its error is given back.
-pub fn end_output<W: ByteSink>(told: Result<(), Failure>, to: &mut W) -> io::Result<()>
+/// How the end of an output says that it is cut short.
+#[derive(Clone, Copy)]
+pub enum CutForm {
+    /// By a line.
+    Line,
+    /// By a row of comma-separated values, of seven fields.
+    Row,
+}
+
+impl CutForm {
+    // What says so for a failure.
+    fn last(self, failure: &Failure) -> &'static [u8]
+        ensures { result.now ≡ cut_text self failure.now }
+    {
+        match self {
+            CutForm::Line => last_line(failure),
+            CutForm::Row => match failure {
+                Failure::Read(_) => b",,,,,,! read failed\r\n",
+                Failure::Write(_) => b",,,,,,! write failed\r\n",
+                Failure::TooLong => b",,,,,,! broken off\r\n",
+            },
+        }
+    }
+}
+
+/// Ends an output: says in this form if a log was cut short, and hands on all that waits. After a failed write nothing
+/// is written, since more output would hide what is missing: its error is given back.
+pub fn end_output<W: ByteSink>(told: Result<(), Failure>, form: CutForm, to: &mut W) -> io::Result<()>
     ensures text { WritesText (EndFails W.fails_with told) (W.contents to.old) (W.contents to.new) result
-        (end_text told) }
+        (end_text form told) }
     ensures none_waits { OnOk result (W.waiting to.new ≡ []) }
     ensures failed { (e : Error) → told ≡ Err (Failure.Write e) → result ≡ Err e }
 {
@@ -35,7 +60,7 @@ pub fn end_output<W: ByteSink>(told: Result<(), Failure>, to: &mut W) -> io::Res
         Ok(()) => to.flush(),
         Err(Failure::Write(error)) => Err(error),
         Err(failure) => {
-            put(to, last_line(&failure))?;
+            put(to, form.last(&failure))?;
             to.flush()
         }
     }

@@ -3,3 +3,4 @@ pub mod About
 pub mod Said
 pub mod Joined
 pub mod Running
+pub mod Telling

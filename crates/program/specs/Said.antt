@@ -4,12 +4,13 @@
 --   unread_text n cause  that the file n cannot be read; the cause is a colon, a space and words, or nothing
 --   unwritten_text n cause   that the file n cannot be written
 --   refused_text n c     that the form in the file n does not load, with the number c
---   failed_text f n m    why a log that is read from n is not reported to its end on m
+--   failed_text c n m    why a log that is read from n is not reported to its end on m
 --   shown_name n         standard input in words; any other file by its name
 --   ending_text e        the words on a log that was read and reported to its end;    ending_status e   how the program
 --                        ends
 --   IsSaid fails old new t   the text t was written, or, where a write failed, a front of it
 --   endless_text n       that the log n is longer than can be counted
+--   changed_text         that a log was not the same each time that it was read
 --   stray_warning s      which line of a log does not belong to it, and why
 --   UnbegunSaid ..       what is said of a form in the file n that begins nothing: that it cannot be read, and why, or
 --                        with which number it does not load
@@ -29,7 +30,6 @@ use Rattle.std.specs.declared.option.Option.{Option}
 use Rattle.std.specs.declared.result.Result.{Result}
 use Rattle.std.specs.declared.io.Error.{Error}
 use Rattle.textio.specs.Fronts.{WritesFront, WritesText}
-use Rattle.textio.specs.declared.lines.Failure.{Failure}
 use Rattle.textio.specs.declared.lines.Failure.TheVariants.{Read, Write, TooLong}
 use Rattle.floorlog.specs.Unplayed.{unplayed_text}
 use Rattle.floorlog.specs.declared.unplayed.Unplayed.{Unplayed}
@@ -40,6 +40,8 @@ use Rattle.formfile.specs.declared.NotBegun.TheVariants.{Unread, Refused}
 use Rattle.reasons.specs.Reasons.{number_text}
 use Rattle.recorded.specs.Following.{FirstStray, stray_seen, stray_text}
 use Rattle.recorded.specs.declared.stray.StrayLine.{StrayLine}
+use Rattle.program.specs.declared.telling.CutCause.{CutCause}
+use Rattle.program.specs.declared.telling.CutCause.TheVariants.{Log, Changed}
 use Rattle.program.specs.declared.telling.Ending.{Ending}
 use Rattle.program.specs.declared.status.Status.{Status}
 use Rattle.program.specs.declared.status.Status.TheVariants.{Done, Strayed}
@@ -78,10 +80,14 @@ refused_text n c = (n ++ (codes ": " ++ (number_text c ++ codes " ("))) ++ form_
 abbrev pub endless_text : List ℕ → List ℕ
 endless_text n = n ++ (codes ": more lines, bytes or seconds" ++ (codes " than can be counted" ++ codes "\n"))
 
-abbrev pub failed_text : Failure → List ℕ → List ℕ → List ℕ
-failed_text (Read e) source sink = unread_text source (cause_of e)
-failed_text (Write e) source sink = unwritten_text sink (cause_of e)
-failed_text TooLong source sink = endless_text source
+abbrev pub changed_text : List ℕ
+changed_text = codes "the log changed while it was read\n"
+
+abbrev pub failed_text : CutCause → List ℕ → List ℕ → List ℕ
+failed_text (Log (Read e)) source sink = unread_text source (cause_of e)
+failed_text (Log (Write e)) source sink = unwritten_text sink (cause_of e)
+failed_text (Log TooLong) source sink = endless_text source
+failed_text Changed source sink = changed_text
 
 abbrev pub shown_name : List ℕ → List ℕ
 shown_name n = if bytes_eq n (codes "-") then codes "standard input" else n

@@ -2,8 +2,10 @@
 ghost use Rattle.std.specs.Prelude.{◌≡◌, ◌<◌, true, false, Ok, length, IfOk, List, ℕ, Option};
 ghost use Rattle.std.specs.Io.{ReadsAtMost};
 ghost use Rattle.std.specs.Io.KnownBytes.{Keeps, IsAtEnd, ReadConsumes};
-ghost use Rattle.program.specs.Joined.{join_known, joined_bytes, source_left, names_seen};
+ghost use Rattle.program.specs.Joined.{join_known, joined_bytes, source_left, names_seen, joined_left, files_asked};
+ghost use Rattle.command.specs.Asked.{asked_seen};
 
+use command::asked::Arguments;
 use std::io;
 use std::io::Read;
 
@@ -15,9 +17,22 @@ pub trait Opens {
     /// The bytes of the file with that name, if they are known.
     ghost log_bytes: { Self → List ℕ → Option (List ℕ) };
 
-    /// Opens the file with that name, at its start.
+    /// Opens the file with that name, at its start; each time anew.
     fn open_log(&self, name: &str) -> io::Result<Self::Source>
         ensures { IfOk result (λ source. Self.Source.remaining source ≡ log_bytes self.now name.now) };
+}
+
+// The files of a log where none is named.
+const UNNAMED: &[&str] = &["-"];
+
+/// Returns the files of the log that a command line asks for; standard input where it names none.
+pub fn files_of<'c, 'w>(command: &'c Arguments<'w>) -> &'c [&'w str]
+    ensures { names_seen result.now ≡ files_asked (asked_seen command.now) }
+{
+    if command.logs.is_empty() {
+        return UNNAMED;
+    }
+    command.logs.as_slice()
 }
 
 /// Files one after the other, each opened when the one before it has ended. A file that cannot be opened is a failed
@@ -34,8 +49,7 @@ pub struct Joined<'a, 'w, O: Opens> {
 impl<'a, 'w, O: Opens> Joined<'a, 'w, O> {
     /// Returns these files joined, from the start of the first.
     pub fn new(opens: &'a O, names: &'a [&'w str]) -> Joined<'a, 'w, O>
-        ensures { join_known (source_left O.Source.remaining result.source)
-            (joined_bytes (O.log_bytes result.opens.now) (names_seen result.later.now))
+        ensures { joined_left O.Source.remaining (O.log_bytes result.opens.now) result.source result.later.now
             ≡ joined_bytes (O.log_bytes opens.now) (names_seen names.now) }
     {
         Joined {

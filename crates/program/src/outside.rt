@@ -3,11 +3,24 @@ ghost use Rattle.std.specs.Prelude.{◌≡◌, [], None, ⊤, ℕ, List, Option,
 
 use crate::joined::Opens;
 use crate::progress::{Progress, ProgressShown};
+use crate::said::shown;
 use std::fs::File;
-use std::io::{Error, ErrorKind, Read, Stdin};
-use std::{fs, io};
+use std::io::{Error, ErrorKind, Read, Seek, SeekFrom, Stdin};
+use std::os::unix::fs::OpenOptionsExt;
+use std::{env, fs, io};
+use textio::lines::Failure;
+use textio::reader::ByteSource;
 use textio::streams::Stream;
-use textio::writer::{BufferedWriter, ByteSink};
+use textio::writer::{self, BufferedWriter, ByteSink};
+
+/// Why a file of a log that can be read only once is not kept.
+#[derive(Drop)]
+pub enum NotKept<'w> {
+    /// The file with that name could not be read.
+    Unread(&'w str, Error),
+    /// The temporary file with that name could not be made, or not be written.
+    Unwritten(String, Error),
+}
 
 /// What a program uses besides its two output streams.
 pub trait Outside: Opens {
@@ -29,6 +42,13 @@ pub trait Outside: Opens {
     fn open_form(&self, name: &str) -> io::Result<Self::Form>
         ensures { IfOk result (λ form. Self.Form.remaining form ≡ form_bytes self.now name.now) };
 
+    /// Keeps what of these files of a log can be read only once, as standard input, so that each opening from now on
+    /// gives it from its start. Errors: `Unread`, `Unwritten`, at the first that fails.
+    fn keep_input<'w>(&mut self, names: &[&'w str]) -> Result<(), NotKept<'w>>
+        ensures logs { Self.log_bytes self.new ≡ Self.log_bytes self.old }
+        ensures fresh { fresh self.new ≡ fresh self.old }
+        ensures stands { (name text : List ℕ) → stands self.new name text → stands self.old name text };
+
     /// Begins an output's file beside the file with that name, which stays as it is.
     fn create(&self, name: &str) -> io::Result<Self::Sink>
         ensures { IfOk result (λ sink. Self.Sink.contents sink ≡ fresh self.now) };
@@ -42,10 +62,19 @@ pub trait Outside: Opens {
 }
 
 /// The files of the system.
-#[derive(Clone, Copy)]
+#[derive(Drop)]
 pub struct System<'a> {
     rt: &'a HostRuntime,
     shown: ProgressShown,
+    kept: Vec<KeptInput>,
+}
+
+// What could be read only once, in a file that has no name any more.
+#[derive(Drop)]
+struct KeptInput {
+    // the name of what it was read from
+    name: String,
+    file: File,
 }
 
 /// Standard input, or a file of a log; reading it shows progress at a terminal.
@@ -78,22 +107,20 @@ impl<'a> Opens for System<'a> {
     ghost log_bytes = { λ _ _. None };
 
     fn open_log(&self, name: &str) -> io::Result<LogInput<'a>> {
-        if name == "-" {
-            let progress = Progress::of(self.rt, self.shown, "standard input", None);
+        if let Some(kept) = self.kept_of(name) {
+            let mut file = kept.try_clone()?;
+            file.seek(SeekFrom::Start(0))?;
+            return Ok(self.input_of(name, file));
+        }
+        if name == DASH {
+            let progress = Progress::of(self.rt, self.shown, shown(name), None);
             return Ok(LogInput {
                 from: From::Standard(self.rt.stdin()),
                 progress,
             });
         }
         let file = File::open(self.rt, name)?;
-        let length = match file.metadata() {
-            Ok(found) if found.is_file() => Some(found.len()),
-            _ => None,
-        };
-        Ok(LogInput {
-            from: From::File(file),
-            progress: Progress::of(self.rt, self.shown, name, length),
-        })
+        Ok(self.input_of(name, file))
     }
 }
 
@@ -125,8 +152,32 @@ impl ByteSink for Saved {
     }
 }
 
-// So many names are tried for a file beside another.
+// So many names are tried for a file beside another, and for a temporary file.
 const TRIES: u32 = 1000;
+
+// Read and written by the user alone.
+const PRIVATE: u32 = 0o600;
+
+// So many bytes are copied at once.
+const COPIED: usize = 65536;
+
+// The name of standard input.
+const DASH: &str = "-";
+
+// Copies what is left of a file of a log.
+fn copy(from: &mut LogInput<'_>, to: &File) -> Result<(), Failure> {
+    let mut from = Stream(from);
+    let mut to = Stream(to);
+    let mut bytes = [0; COPIED];
+    for _ in 0..u64::MAX {
+        let count = ByteSource::read(&mut from, &mut bytes).map_err(Failure::Read)?;
+        if count == 0 {
+            return Ok(());
+        }
+        writer::put(&mut to, &bytes[..count]).map_err(Failure::Write)?;
+    }
+    Err(Failure::TooLong)
+}
 
 impl<'a> System<'a> {
     /// Returns the files of this process, which has just begun.
@@ -134,11 +185,109 @@ impl<'a> System<'a> {
         System {
             rt,
             shown: ProgressShown::of(rt),
+            kept: Vec::new(rt.alloc()),
+        }
+    }
+
+    // A file of a log with that name.
+    fn input_of(&self, name: &str, file: File) -> LogInput<'a> {
+        let length = match file.metadata() {
+            Ok(found) if found.is_file() => Some(found.len()),
+            _ => None,
+        };
+        LogInput {
+            from: From::File(file),
+            progress: Progress::of(self.rt, self.shown, shown(name), length),
         }
     }
 }
 
 impl System<'_> {
+    fn kept_of(&self, name: &str) -> Option<&File> {
+        for kept in &self.kept {
+            if kept.name.as_str() == name {
+                return Some(&kept.file);
+            }
+        }
+        None
+    }
+
+    // Whether a second reading gives something else than the first: of standard input, and of what is no plain file.
+    fn is_read_once(&self, name: &str) -> bool {
+        if name == DASH {
+            return true;
+        }
+        match fs::metadata(self.rt, name) {
+            Ok(found) => !found.is_file() && !found.is_dir(),
+            Err(_) => false,
+        }
+    }
+
+    fn temporary_name(&self, number: u32) -> io::Result<String> {
+        let found = env::temp_dir(self.rt)?;
+        let folder = match found.as_str() {
+            "" => "/tmp",
+            folder => folder,
+        };
+        let name = format!(in self.rt.alloc(); "{folder}/log-{number}.part")?;
+        Ok(name)
+    }
+
+    // A file that was not there, for this user alone. Its name is removed at once: it goes with the process.
+    fn create_nameless(&self, name: &str) -> io::Result<File> {
+        let mut options = File::options();
+        options.read(true).write(true).create_new(true).mode(PRIVATE);
+        let file = options.open(self.rt, name)?;
+        fs::remove_file(self.rt, name)?;
+        Ok(file)
+    }
+
+    // A temporary file for a file of a log, and the name that it had.
+    fn create_temporary<'w>(&self, name: &'w str) -> Result<(File, String), NotKept<'w>> {
+        for number in 0..TRIES {
+            let written = match self.temporary_name(number) {
+                Ok(written) => written,
+                Err(error) => return Err(NotKept::Unread(name, error)),
+            };
+            match self.create_nameless(written.as_str()) {
+                Ok(file) => return Ok((file, written)),
+                Err(error) if error.kind() == ErrorKind::AlreadyExists => {}
+                Err(error) => return Err(NotKept::Unwritten(written, error)),
+            }
+        }
+        Err(NotKept::Unread(name, Error::from(ErrorKind::AlreadyExists)))
+    }
+
+    // What a file of a log has, in a temporary file.
+    fn kept_file<'w>(&self, name: &'w str) -> Result<File, NotKept<'w>> {
+        let mut input = match self.open_log(name) {
+            Ok(input) => input,
+            Err(error) => return Err(NotKept::Unread(name, error)),
+        };
+        let (file, written) = self.create_temporary(name)?;
+        match copy(&mut input, &file) {
+            Ok(()) => Ok(file),
+            Err(Failure::Read(error)) => Err(NotKept::Unread(name, error)),
+            Err(Failure::Write(error)) => Err(NotKept::Unwritten(written, error)),
+            Err(Failure::TooLong) => Err(NotKept::Unwritten(
+                written,
+                Error::from(ErrorKind::FileTooLarge),
+            )),
+        }
+    }
+
+    fn keep_file<'w>(&mut self, name: &'w str) -> Result<(), NotKept<'w>> {
+        let file = self.kept_file(name)?;
+        let named = match String::from_str(self.rt.alloc(), name) {
+            Ok(named) => named,
+            Err(error) => return Err(NotKept::Unread(name, Error::from(error))),
+        };
+        match self.kept.push(KeptInput { name: named, file }) {
+            Ok(()) => Ok(()),
+            Err(_) => Err(NotKept::Unread(name, Error::from(ErrorKind::OutOfMemory))),
+        }
+    }
+
     // A file that is there is replaced where it lies, and not a link to it; what is no plain file, as a device or a
     // pipe, is written straight into.
     fn place_of(&self, name: &str) -> io::Result<Option<String>> {
@@ -212,6 +361,15 @@ impl Outside for System<'_> {
 
     fn open_form(&self, name: &str) -> io::Result<File> {
         File::open(self.rt, name)
+    }
+
+    fn keep_input<'w>(&mut self, names: &[&'w str]) -> Result<(), NotKept<'w>> {
+        for name in names {
+            if self.is_read_once(*name) {
+                self.keep_file(*name)?;
+            }
+        }
+        Ok(())
     }
 
     fn create(&self, name: &str) -> io::Result<Saved> {

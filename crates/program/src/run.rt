@@ -1,9 +1,10 @@
 // A command line answered.
-ghost use Rattle.std.specs.Prelude.{◌≡◌, ◌++◌, map, codes, IfOk, IfErr};
+ghost use Rattle.std.specs.Prelude.{◌≡◌, ◌++◌, true, ℕ, List, map, codes, IsErr, IfOk, IfErr};
 ghost use Rattle.program.specs.Said.{UnbegunSaid, unread_text, unwritten_text, cause_of, failed_text, shown_name};
 ghost use Rattle.program.specs.Said.{IsSaid, ending_status, ending_text};
-ghost use Rattle.program.specs.Joined.{names_seen, files_asked, joined_left};
+ghost use Rattle.program.specs.Joined.{joined_bytes, files_asked};
 ghost use Rattle.program.specs.Running.{TellsOut, TellsSaved, BeginsBy, is_lines, is_lined, LeavesLine, AboutEnds};
+ghost use Rattle.program.specs.Running.{cut_form, IsLast, LastSaid, is_page, IsUnkeptSaid, LeavesFailure};
 ghost use Rattle.program.specs.Running.{StopsSo, Does, Runs, SaysAlone};
 ghost use Rattle.program.specs.About.{help_text, version_text};
 ghost use Rattle.textio.specs.Fronts.{WritesText};
@@ -11,30 +12,29 @@ ghost use Rattle.command.specs.Asked.{asked_seen, text_seen};
 ghost use Rattle.program.specs.declared.status.Status.TheVariants as Status;
 
 use crate::about::About;
-use crate::joined::{Joined, Opens};
-use crate::outside::{Outside, System};
+use crate::joined;
+use crate::joined::Opens;
+use crate::outside::{NotKept, Outside, System};
 use crate::said;
+use crate::said::shown;
 use crate::status::Status;
-use crate::telling::{Ending, Telling};
+use crate::telling::{CutCause, CutOff, Ending, Telling};
 use command::asked;
 use command::asked::{Arguments, Shape, Stop};
 use floorlog::cut;
+use floorlog::cut::CutForm;
 use formfile::{Begun, NotBegun};
 use reasons::about::version_line;
 use std::alloc::Global;
 use std::convert::AsStr;
-use std::io::Error;
+use std::io::{Error, ErrorKind};
 use std::{env, io};
 use text::numbered::Numbered;
 use textio::lines::Failure;
-use textio::reader::BufferedReader;
 use textio::streams::Stream;
 use textio::writer::{BufferedWriter, ByteSink, put};
 
 const STANDARD_OUTPUT: &str = "standard output";
-
-// The files of a log where none is named.
-const STANDARD_INPUT: &[&str] = &["-"];
 
 fn put_two<W: ByteSink>(to: &mut W, first: &str, last: &str) -> io::Result<()>
     ensures { WritesText W.fails_with (W.contents to.old) (W.contents to.new) result (first.now ++ last.now) }
@@ -129,29 +129,23 @@ fn unwritten<E: ByteSink>(name: &str, error: &Error, errors: &mut E) -> Status
 
 // Why a log was not reported to its end.
 #[tactic(auto, using(crate::proofs::SaidSo::said_so))]
-fn failed<E: ByteSink>(failure: &Failure, source: &str, sink: &str, errors: &mut E) -> Status
+fn failed<E: ByteSink>(cause: &CutCause, source: &str, sink: &str, errors: &mut E) -> Status
     ensures status { result ≡ Status.Failed }
     ensures said { IsSaid E.fails_with (E.contents errors.old) (E.contents errors.new)
-        (failed_text failure.now source.now sink.now) }
+        (failed_text cause.now source.now sink.now) }
 {
-    match failure {
-        Failure::Read(error) => unread(source, error, errors),
-        Failure::Write(error) => unwritten(sink, error, errors),
-        Failure::TooLong => {
+    match cause {
+        CutCause::Log(Failure::Read(error)) => unread(source, error, errors),
+        CutCause::Log(Failure::Write(error)) => unwritten(sink, error, errors),
+        CutCause::Log(Failure::TooLong) => {
             let _said = said::say_endless(errors, source).is_ok();
             Status::Failed
         }
+        CutCause::Changed => {
+            let _said = said::say_changed(errors).is_ok();
+            Status::Failed
+        }
     }
-}
-
-// The name of standard input in words.
-fn shown(name: &str) -> &str
-    ensures { result.now ≡ shown_name name.now }
-{
-    if name == "-" {
-        return "standard input";
-    }
-    name
 }
 
 // How a log ended that was read to its end and reported.
@@ -171,18 +165,56 @@ fn ended<E: ByteSink>(ending: &Ending, errors: &mut E) -> Status
     Status::Strayed
 }
 
+// Whether a failure has its last line as a row of comma-separated values.
+fn cut_form(shape: Shape) -> CutForm
+    ensures { result ≡ cut_form shape }
+{
+    match shape {
+        Shape::Csv => CutForm::Row,
+        Shape::Lines | Shape::Page => CutForm::Line,
+    }
+}
+
+// The failure that an output which is cut off ends with: a log that changed is one that cannot be read.
+fn last_failure(cause: CutCause) -> Failure
+    ensures { IsLast cause result }
+{
+    match cause {
+        CutCause::Log(failure) => failure,
+        CutCause::Changed => Failure::Read(Error::from(ErrorKind::Other)),
+    }
+}
+
+// A log that was cut off on standard output: its last line there, and words on standard error.
+fn cut_off<W: ByteSink, E: ByteSink>(
+    cut: CutOff<'_>,
+    shape: Shape,
+    to: &mut W,
+    errors: &mut E,
+) -> Status
+    ensures status { result ≡ Status.Failed }
+    ensures said { IsSaid E.fails_with (E.contents errors.old) (E.contents errors.new)
+        (failed_text cut.entry.cause (shown_name cut.entry.file.now) (codes "standard output")) }
+    ensures last { LastSaid W.fails_with (cut_form shape) (W.contents to.old) (W.contents to.new) cut.entry.cause }
+{
+    let status = failed(&cut.cause, shown(cut.file), STANDARD_OUTPUT, errors);
+    let _ended = cut::end_output(Err(last_failure(cut.cause)), cut_form(shape), to).is_ok();
+    status
+}
+
 // The log on standard output. A failure has its line there too, and words on standard error.
 fn tell_out<P: Telling, O: Opens, W: ByteSink, E: ByteSink>(
     program: &P,
     begun: &Begun,
     command: &Arguments<'_>,
-    mut log: Joined<'_, '_, O>,
+    opens: &O,
     to: &mut W,
     errors: &mut E,
 ) -> Status
-    ensures { TellsOut W.fails_with E.fails_with (joined_left O.Source.remaining (O.log_bytes log.entry.opens.now)
-        log.entry.source log.entry.later.now) (P.told program.now (asked_seen command.now) begun.now)
-        (P.ends program.now begun.now)
+    ensures { TellsOut W.fails_with E.fails_with
+        (joined_bytes (O.log_bytes opens.now) (files_asked (asked_seen command.now)))
+        (P.told program.now (asked_seen command.now) begun.now) (P.ends program.now begun.now)
+        (cut_form (asked_seen command.now).shape)
         (record {
           out = W.contents to.old;
           out_then = W.contents to.new;
@@ -190,22 +222,12 @@ fn tell_out<P: Telling, O: Opens, W: ByteSink, E: ByteSink>(
           errors_then = E.contents errors.new;
         }) result }
 {
-    let told = program.tell(
-        begun,
-        command,
-        &mut BufferedReader::new(Stream(&mut log)),
-        to,
-    );
-    match told {
-        Ok(ending) => match cut::end_output(Ok(()), to) {
+    match program.tell(begun, command, opens, to) {
+        Ok(ending) => match cut::end_output(Ok(()), cut_form(command.shape), to) {
             Ok(()) => ended(&ending, errors),
             Err(error) => unwritten(STANDARD_OUTPUT, &error, errors),
         },
-        Err(failure) => {
-            let status = failed(&failure, shown(log.name()), STANDARD_OUTPUT, errors);
-            let _ended = cut::end_output(Err(failure), to).is_ok();
-            status
-        }
+        Err(cut) => cut_off(cut, command.shape, to, errors),
     }
 }
 
@@ -214,13 +236,12 @@ fn tell_saved<P: Telling, O: Outside, E: ByteSink>(
     program: &P,
     begun: &Begun,
     command: &Arguments<'_>,
-    mut log: Joined<'_, '_, O>,
     outside: &O,
     name: &str,
     errors: &mut E,
 ) -> Status
-    ensures { TellsSaved E.fails_with (joined_left O.Source.remaining (O.log_bytes log.entry.opens.now)
-        log.entry.source log.entry.later.now) (O.fresh outside.now)
+    ensures { TellsSaved E.fails_with
+        (joined_bytes (O.log_bytes outside.now) (files_asked (asked_seen command.now))) (O.fresh outside.now)
         (P.told program.now (asked_seen command.now) begun.now) (P.ends program.now begun.now)
         (O.stands outside.now) name.now (E.contents errors.old) (E.contents errors.new) result }
 {
@@ -228,21 +249,37 @@ fn tell_saved<P: Telling, O: Outside, E: ByteSink>(
         Ok(sink) => sink,
         Err(error) => return unwritten(name, &error, errors),
     };
-    let told = program.tell(
-        begun,
-        command,
-        &mut BufferedReader::new(Stream(&mut log)),
-        &mut to,
-    );
-    match told {
+    match program.tell(begun, command, outside, &mut to) {
         Ok(ending) => match outside.keep(name, to) {
             Ok(()) => ended(&ending, errors),
             Err(error) => unwritten(name, &error, errors),
         },
-        Err(failure) => {
+        Err(cut) => {
             outside.discard(to);
-            failed(&failure, shown(log.name()), name, errors)
+            failed(&cut.cause, shown(cut.file), name, errors)
         }
+    }
+}
+
+// A log that could not be kept for its later readings: words on standard error.
+#[tactic(auto, using(crate::proofs::SaidSo::said_so))]
+fn unkept<E: ByteSink>(why: &NotKept<'_>, errors: &mut E) -> Status
+    ensures status { result ≡ Status.Failed }
+    ensures said { IsUnkeptSaid E.fails_with (E.contents errors.old) (E.contents errors.new) }
+{
+    match why {
+        NotKept::Unread(name, error) => unread(shown(name), error, errors),
+        NotKept::Unwritten(name, error) => unwritten(name.as_str(), error, errors),
+    }
+}
+
+// And the line of a failed read where the log was to go to standard output.
+fn leave_unkept<W: ByteSink>(command: &Arguments<'_>, to: &mut W)
+    ensures { LeavesFailure W.fails_with (asked_seen command.now).output (W.contents to.old) (W.contents to.new) }
+{
+    if command.output.is_none() {
+        let failure = Failure::Read(Error::from(ErrorKind::Other));
+        let _ended = cut::end_output(Err(failure), CutForm::Line, to).is_ok();
     }
 }
 
@@ -264,7 +301,7 @@ fn unbegun<W: ByteSink, E: ByteSink>(
         NotBegun::Unread(error) => {
             let said = said::say_unread(errors, name, said::cause(&error));
             if lined {
-                let _told = cut::end_output(Err(Failure::Read(error)), to).is_ok();
+                let _told = cut::end_output(Err(Failure::Read(error)), CutForm::Line, to).is_ok();
             }
             (Status::Failed, said)
         }
@@ -304,26 +341,42 @@ fn is_lined(command: &Arguments<'_>) -> bool
     is_lines(command.shape) && command.output.is_none()
 }
 
-// The files of the log; standard input where none is named.
-fn files_of<'c, 'w>(command: &'c Arguments<'w>) -> &'c [&'w str]
-    ensures { names_seen result.now ≡ files_asked (asked_seen command.now) }
+// Whether the log is read more than once.
+fn is_page(shape: Shape) -> bool
+    ensures { result ≡ is_page shape }
 {
-    if command.logs.is_empty() {
-        return STANDARD_INPUT;
+    match shape {
+        Shape::Page => true,
+        Shape::Lines | Shape::Csv => false,
     }
-    command.logs.as_slice()
+}
+
+// What can be read only once is kept, where a page is asked for.
+fn keep_for_page<'w, O: Outside>(
+    command: &Arguments<'w>,
+    outside: &mut O,
+) -> Result<(), NotKept<'w>>
+    ensures page { IsErr result → is_page (asked_seen command.now).shape ≡ true }
+    ensures logs { O.log_bytes outside.new ≡ O.log_bytes outside.old }
+    ensures fresh { O.fresh outside.new ≡ O.fresh outside.old }
+    ensures stands { (name text : List ℕ) → O.stands outside.new name text → O.stands outside.old name text }
+{
+    if !is_page(command.shape) {
+        return Ok(());
+    }
+    outside.keep_input(joined::files_of(command))
 }
 
 fn tell<P: Telling, O: Outside, W: ByteSink, E: ByteSink>(
     program: &P,
     alloc: Global,
     command: &Arguments<'_>,
-    outside: &O,
+    outside: &mut O,
     to: &mut W,
     errors: &mut E,
 ) -> Status
-    ensures { Does W.fails_with E.fails_with (O.log_bytes outside.now) (O.form_bytes outside.now) (O.fresh outside.now)
-        (O.stands outside.now) (P.told program.now) (P.ends program.now) (asked_seen command.now)
+    ensures { Does W.fails_with E.fails_with (O.log_bytes outside.old) (O.form_bytes outside.old) (O.fresh outside.old)
+        (O.stands outside.old) (P.told program.now) (P.ends program.now) (asked_seen command.now)
         (record {
           out = W.contents to.old;
           out_then = W.contents to.new;
@@ -341,10 +394,13 @@ fn tell<P: Telling, O: Outside, W: ByteSink, E: ByteSink>(
             return status;
         }
     };
-    let log = Joined::new(outside, files_of(command));
+    if let Err(why) = keep_for_page(command, outside) {
+        leave_unkept(command, to);
+        return unkept(&why, errors);
+    }
     match command.output {
-        None => tell_out(program, &begun, command, log, to, errors),
-        Some(name) => tell_saved(program, &begun, command, log, outside, name, errors),
+        None => tell_out(program, &begun, command, outside, to, errors),
+        Some(name) => tell_saved(program, &begun, command, outside, name, errors),
     }
 }
 
@@ -354,12 +410,12 @@ fn answer<P: Telling, S: AsStr, O: Outside, W: ByteSink, E: ByteSink>(
     about: &About,
     alloc: Global,
     words: &[S],
-    outside: &O,
+    outside: &mut O,
     to: &mut W,
     errors: &mut E,
 ) -> Status
-    ensures { Runs W.fails_with E.fails_with (O.log_bytes outside.now) (O.form_bytes outside.now) (O.fresh outside.now)
-        (O.stands outside.now) (P.told program.now) (P.ends program.now) (map S.text words.now) about.now
+    ensures { Runs W.fails_with E.fails_with (O.log_bytes outside.old) (O.form_bytes outside.old) (O.fresh outside.old)
+        (O.stands outside.old) (P.told program.now) (P.ends program.now) (map S.text words.now) about.now
         (record {
           out = W.contents to.old;
           out_then = W.contents to.new;
@@ -380,12 +436,12 @@ pub fn run<P: Telling, S: AsStr, O: Outside, W: ByteSink, E: ByteSink>(
     about: &About,
     alloc: Global,
     words: Result<&[S], &Error>,
-    outside: &O,
+    outside: &mut O,
     to: &mut W,
     errors: &mut E,
 ) -> Status
-    ensures answers { IfOk words.entry (λ words. Runs W.fails_with E.fails_with (O.log_bytes outside.now)
-        (O.form_bytes outside.now) (O.fresh outside.now) (O.stands outside.now) (P.told program.now)
+    ensures answers { IfOk words.entry (λ words. Runs W.fails_with E.fails_with (O.log_bytes outside.old)
+        (O.form_bytes outside.old) (O.fresh outside.old) (O.stands outside.old) (P.told program.now)
         (P.ends program.now) (map S.text words.now) about.now
         (record {
           out = W.contents to.old;
@@ -418,7 +474,7 @@ pub fn on_system<P: Telling>(rt: &HostRuntime, program: &P, about: &About) -> St
         about,
         rt.alloc(),
         words.as_ref().map(|words| words.as_slice()),
-        &System::of(rt),
+        &mut System::of(rt),
         &mut BufferedWriter::new(Stream(rt.stdout())),
         &mut Stream(rt.stderr()),
     )

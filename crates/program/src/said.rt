@@ -1,8 +1,8 @@
 // The words on standard error. Where a write fails, a front of them is there.
 ghost use Rattle.std.specs.Prelude.{◌≡◌, ◌++◌};
 ghost use Rattle.textio.specs.Fronts.{WritesText};
-ghost use Rattle.program.specs.Said.{unread_text, unwritten_text, refused_text, endless_text, stop_text};
-ghost use Rattle.program.specs.Said.{cause_of, stray_warning};
+ghost use Rattle.program.specs.Said.{unread_text, unwritten_text, refused_text, endless_text, changed_text, stop_text};
+ghost use Rattle.program.specs.Said.{cause_of, shown_name, stray_warning};
 ghost use Rattle.floorlog.specs.Unplayed.{unplayed_text};
 ghost use Rattle.recorded.specs.Following.{stray_seen};
 
@@ -35,6 +35,16 @@ pub fn cause(error: &Error) -> &'static str
         ErrorKind::OutOfMemory => ": out of memory",
         _ => "",
     }
+}
+
+/// Returns the name of a file in words: "standard input" for `-`, any other as it is.
+pub fn shown(name: &str) -> &str
+    ensures { result.now ≡ shown_name name.now }
+{
+    if name == "-" {
+        return "standard input";
+    }
+    name
 }
 
 // Four texts, one after the other.
@@ -81,6 +91,13 @@ pub fn say_endless<E: ByteSink>(to: &mut E, name: &str) -> io::Result<()>
         " than can be counted",
         "\n",
     )
+}
+
+/// Writes that a log was not the same each time that it was read.
+pub fn say_changed<E: ByteSink>(to: &mut E) -> io::Result<()>
+    ensures { WritesText E.fails_with (E.contents to.old) (E.contents to.new) result changed_text }
+{
+    put(to, b"the log changed while it was read\n")
 }
 
 /// Writes that the form in a file does not load, with the number that says why.

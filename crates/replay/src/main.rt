@@ -16,12 +16,14 @@ ghost use Rattle.replay.specs.LogText.{any_log_text, log_stray, log_unplayed};
 use command::asked::Arguments;
 use formfile::Begun;
 use program::about::About;
+use program::joined;
+use program::joined::{Joined, Opens};
 use program::outside::System;
 use program::run;
-use program::telling::{Ending, Telling};
+use program::telling::{CutCause, CutOff, Ending, Telling};
 use std::process::ExitCode;
-use textio::lines::Failure;
-use textio::reader::{BufferedReader, ByteSource};
+use textio::reader::BufferedReader;
+use textio::streams::Stream;
 use textio::writer::ByteSink;
 
 const USAGE: &str = "usage: replay [-o FILE] [--form FORM] [FORM] [LOG..]\n";
@@ -58,14 +60,27 @@ impl Telling for Replay {
 
     ghost is_too_much = { IsTooLong };
 
-    fn tell<R: ByteSource, W: ByteSink>(
+    fn tell<'w, O: Opens, W: ByteSink>(
         &self,
         begun: &Begun,
-        _command: &Arguments<'_>,
-        from: &mut BufferedReader<R>,
+        command: &Arguments<'w>,
+        opens: &O,
         to: &mut W,
-    ) -> Result<Ending, Failure> {
-        logs::replay_log(begun.device, begun.sum, from, to)
+    ) -> Result<Ending, CutOff<'w>> {
+        let mut log = Joined::new(opens, joined::files_of(command));
+        let told = logs::replay_log(
+            begun.device,
+            begun.sum,
+            &mut BufferedReader::new(Stream(&mut log)),
+            to,
+        );
+        match told {
+            Ok(ending) => Ok(ending),
+            Err(failure) => Err(CutOff {
+                cause: CutCause::Log(failure),
+                file: log.name(),
+            }),
+        }
     }
 }
 

@@ -11,10 +11,13 @@ use Rattle.text.proofs.Choices.{if_yes, if_no}
 use Rattle.textio.specs.Fronts.{WritesText}
 use Rattle.textio.proofs.Fronts.{writes_after, writes_fails}
 use Rattle.report.specs.Days.{day_length, days_of, is_any_lit, is_drawn, bars, bars_in, drawn_in, stretch_drawn}
-use Rattle.report.specs.Days.{at, note_of, each_from, after_each, days_between, row_drawn, row_after, day_name, day_row}
-use Rattle.report.specs.Days.{row_ended_if_any, head_begun, first_name, idle_ended, idle_days, rows_opened, row_opened}
+use Rattle.report.specs.Rows.{span_of}
+use Rattle.report.specs.Days.{at, note_of, each_from, after_each, days_between, row_drawn, row_after, day_name}
+use Rattle.report.specs.Days.{row_ended, row_begun, head_begun, first_name, days_name, idle_days, rows_opened}
 use Rattle.report.specs.declared.days.StretchNote.{StretchNote}
-use Rattle.report.specs.declared.days.DayRow.{DayRow}
+use Rattle.report.specs.declared.days.PageRow.{PageRow}
+use Rattle.report.specs.declared.rows.Layout.{Layout}
+use Rattle.report.specs.declared.rows.Span.{Span}
 use Rattle.calendar.specs.declared.Moment.{Moment}
 
 module _ {S : Type 0} (text : S → ℕ → List ℕ) (next : S → ℕ → S) where
@@ -75,14 +78,15 @@ module _ {S : Type 0} (text : S → ℕ → List ℕ) (next : S → ℕ → S) w
       ++ (text t k ++ each_from text next (next t k) (range_with_len (a + i + 1) most))) (sym is) in
       subst (WritesText fails x z r) (sym whole) (writes_after _ p (writes_fails rest q failed))
 
-module _ (day : ℕ) (lit : List Bool) (note : StretchNote) (first last from to x y : ℕ)
-    (begins : x ≡ first - (day - 1) * day_length)
-    (ends : y ≡ min (last - (day - 1) * day_length) day_length) where
-  pub bars_in_none : y ≤ x → bars_in day lit note first last from to ≡ []
+module _ (s : Span) (lit : List Bool) (note : StretchNote) (first last from to x y : ℕ)
+    (begins : x ≡ first - s.before * day_length)
+    (ends : y ≡ min (last - s.before * day_length) ((s.last - s.before) * day_length)) where
+  pub bars_in_none : y ≤ x → bars_in s lit note first last from to ≡ []
   unfolding bars_in
   bars_in_none h = if_no _ _ (le-ltb _ _ (rw (begins, ends) at h))
 
-  pub bars_in_some : x < y → bars_in day lit note first last from to ≡ bars lit note from to x (y - x)
+  pub bars_in_some : x < y
+      → bars_in s lit note first last from to ≡ bars lit note from to (s.lead * day_length + x) (y - x)
   unfolding bars_in
   bars_in_some h = rw (begins, ends) (if_yes _ _ (lt-ltb _ _ (rw (begins, ends) at h)))
 
@@ -90,40 +94,42 @@ and_no : (b : Bool) → (b && false) ≡ false
 and_no true = refl
 and_no false = refl
 
-module _ (began : Option Moment) (long : Option ℕ) (row : DayRow) (lit : List Bool) (from to first last : ℕ)
-    (begins : first ≡ at began from) (ends : last ≡ at began to) where
-  is_drawn_as : is_drawn lit (at began from) (at began to) ≡ is_drawn lit first last
+module _ (v : Layout) (row : PageRow) (lit : List Bool) (from to first last : ℕ)
+    (begins : first ≡ at v.began from) (ends : last ≡ at v.began to) where
+  is_drawn_as : is_drawn lit (at v.began from) (at v.began to) ≡ is_drawn lit first last
   is_drawn_as = (λ i. is_drawn lit (sym begins i) (sym ends i))
 
-  pub drawn_none : last ≤ first → stretch_drawn began long row lit from to ≡ []
+  pub drawn_none : last ≤ first → stretch_drawn v row lit from to ≡ []
   unfolding stretch_drawn
   drawn_none h = if_no _ _ (is_drawn_as ∙ ap (λ b. b && is_any_lit lit) (le-ltb first last h))
 
-  pub drawn_unlit : is_any_lit lit ≡ false → stretch_drawn began long row lit from to ≡ []
+  pub drawn_unlit : is_any_lit lit ≡ false → stretch_drawn v row lit from to ≡ []
   unfolding stretch_drawn
   drawn_unlit h = if_no _ _ (is_drawn_as ∙ (ap (λ b. nat_lt first last && b) h ∙ and_no _))
 
-  pub drawn_some : first < last → is_any_lit lit ≡ true → stretch_drawn began long row lit from to
-      ≡ each_from (drawn_in began lit (note_of began long from to) first last from to) (row_after first last) row
-      (days_between first last)
+  pub drawn_some : first < last → is_any_lit lit ≡ true → stretch_drawn v row lit from to
+      ≡ each_from (drawn_in v lit (note_of v.began v.long from to) first last from to)
+      (row_after v (note_of v.began v.long from to) first last) row (days_between first last)
   unfolding stretch_drawn
   drawn_some h any =
       if_yes _ _ (is_drawn_as ∙ (ap (λ b. b && is_any_lit lit) (lt-ltb first last h) ∙ any))
       ∙ (λ i. let f = sym begins i in
       let l = sym ends i in
-      each_from (drawn_in began lit (note_of began long from to) f l from to) (row_after f l) row (days_between f l))
+      let note = note_of v.began v.long from to in
+      each_from (drawn_in v lit note f l from to) (row_after v note f l) row (days_between f l))
 
-  pub row_some : first < last → is_any_lit lit ≡ true
-      → row_drawn began row lit from to ≡ after_each (row_after first last) row (days_between first last)
+  pub row_some : first < last → is_any_lit lit ≡ true → row_drawn v row lit from to
+      ≡ after_each (row_after v (note_of v.began v.long from to) first last) row (days_between first last)
   row_some h any =
       if_yes _ _ (is_drawn_as ∙ (ap (λ b. b && is_any_lit lit) (lt-ltb first last h) ∙ any))
       ∙ (λ i. let f = sym begins i in
-      let l = sym ends i in after_each (row_after f l) row (days_between f l))
+      let l = sym ends i in
+      after_each (row_after v (note_of v.began v.long from to) f l) row (days_between f l))
 
-  pub row_none : last ≤ first → row_drawn began row lit from to ≡ row
-  row_none h = if_no _ _ (is_drawn_as ∙ ap (λ b. b && is_any_lit lit) (le-ltb first last h))
+  pub row_undrawn : last ≤ first → row_drawn v row lit from to ≡ row
+  row_undrawn h = if_no _ _ (is_drawn_as ∙ ap (λ b. b && is_any_lit lit) (le-ltb first last h))
 
-  pub row_unlit : is_any_lit lit ≡ false → row_drawn began row lit from to ≡ row
+  pub row_unlit : is_any_lit lit ≡ false → row_drawn v row lit from to ≡ row
   row_unlit h = if_no _ _ (is_drawn_as ∙ (ap (λ b. nat_lt first last && b) h ∙ and_no _))
 
 module _ (began : Option Moment) (rows day : ℕ) where
@@ -132,7 +138,7 @@ module _ (began : Option Moment) (rows day : ℕ) where
   idle_none h = if_no _ _ (le-ltb rows day h)
 
   pub idle_some : rows < day → idle_days began rows day
-      ≡ head_begun ++ (first_name began rows day ++ (day_name began day ++ idle_ended))
+      ≡ head_begun ++ (days_name began rows day ++ codes "</th><td colspan=\"3\">no lamp burnt</td></tr>\n")
   unfolding idle_days
   idle_some h = if_yes _ _ (lt-ltb rows day h)
 
@@ -142,21 +148,15 @@ module _ (began : Option Moment) (rows day : ℕ) where
   pub first_some : rows + 1 < day → first_name began rows day ≡ day_name began (rows + 1) ++ codes " to "
   first_some h = if_yes _ _ (lt-ltb (rows + 1) day h)
 
-module _ (began : Option Moment) (lamps : ℕ) (row : DayRow) (day : ℕ) where
-  pub opened_none : day ≤ row.day → rows_opened began lamps row day ≡ []
+module _ (v : Layout) (lamps : ℕ) (row : PageRow) (day : ℕ) where
+  pub opened_none : day ≤ row.last → rows_opened v lamps row day ≡ []
   unfolding rows_opened
-  opened_none h = if_no _ _ (le-ltb row.day day h)
+  opened_none h = if_no _ _ (le-ltb row.last day h)
 
-  pub opened_some : row.day < day → rows_opened began lamps row day
-      ≡ row_ended_if_any row ++ (idle_days began row.day (day - 1) ++ day_row began lamps day)
+  pub opened_some : row.last < day → rows_opened v lamps row day ≡ row_ended v row
+      ++ (idle_days v.began row.last (span_of v day).before ++ row_begun v lamps (span_of v day))
   unfolding rows_opened
-  opened_some h = if_yes _ _ (lt-ltb row.day day h)
-
-  pub row_stays : day ≤ row.day → row_opened row day ≡ row
-  row_stays h = if_no _ _ (le-ltb row.day day h)
-
-  pub row_opens : row.day < day → row_opened row day ≡ record { day = day; sum = 0 }
-  row_opens h = if_yes _ _ (lt-ltb row.day day h)
+  opened_some h = if_yes _ _ (lt-ltb row.last day h)
 
 -- the day of the first second of a stretch is not after that of its last
 pub days_of_after : (from to : ℕ) → from < to → from / day_length < days_of to

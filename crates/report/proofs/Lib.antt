@@ -1,3 +1,4 @@
 mod Told
 mod Drawn
+mod Named
 pub mod Settled

@@ -1,31 +1,35 @@
--- What stands around the days of a page (RULES, Floor log): "one HTML document with no script in it".
+-- What stands around the rows of a page (RULES, Floor log): "one HTML document with no script in it".
+--   layout_of q n what the rows follow, of a log of n seconds
 --   head         the document's head and title
---   clock_text began   what the page is, and when the log began, where that is known
---   head_of_days       the head of the table of the days, up to the hours
---   hours began  "the hours along the top": since the log began, or of the clock
---   projector_text p  the projector's name, maker and model, as its settings have them; `<`, `>` and `&` as HTML
---                 writes them
+--   about_list p form logs   "projector, manufacturer, model", as the settings have them, and the files: `form`, or the
+--                 sample set-up, and each `log`; `<`, `>` and `&` as HTML writes them
+--   log_span began n   "from when to when and how long": of a log of n seconds
+--   clock_text v  when the log began, where that is known, and what a row is
+--   head_of_rows scale   the head of the table of the rows, up to the labels
+--   labels v     what a place along a row is: "the hours", or the days
 --   table q seconds n starts burnt lasts   "each lamp's hours and minutes, and its seconds, at the start, burnt, and
 --                 now", of n lamps; where it is said how many hours a lamp lives, what is left of them, and until when,
 --                 at the log's own pace
---   page_begun q  what stands above the rows
+--   page_begun q n form logs  what stands above the rows, of a log of n seconds
 --   days_told p seconds n ..   the rows up to the end of a log of so many seconds, and what stands below them: the
---                 lamps, the longest stretch, and how long the log is
+--                 lamps, and the longest stretch
 --   until_text seconds lines  until when a log of the second kind goes (RULES, History of a board: "that a log's end is
 --                    missing cannot be seen from it"): the seconds that it lets pass, and the lines that belong to it
 --   paragraph s      what is said of a log, if anything is
---   page_ended .. unplayed    all that, and the page's end, for a log of the first kind: last what was not played of
---                    it, if anything was not
+--   page_ended .. unplayed    all that, for a log of the first kind: last what was not played of it, if anything was
+--                    not
 --   page_ended_until .. lines stray    the same of the second kind: last what is said of the line that does not belong,
 --                    if there is one
 -- Assumes nothing.
 use Rattle.std.specs.Prelude.{ℕ, ◌+◌, ◌-◌, ◌*◌, ◌/◌, ◌%◌, ◌^◌, ◌==◌, min, nat_lt, List, [], ◌∷◌, ◌++◌}
 use Rattle.std.specs.Prelude.{if◌then◌else◌, Bool, true, false, ◌&&◌, codes, slice_index_or, take, length}
 use Rattle.std.specs.Prelude.{Option, Some, None}
+use Rattle.std.specs.Str.{bytes_eq}
 use Prim.Native.Char.{code}
 use Rattle.std.specs.List.{flat_map, range_with_len}
 use Rattle.textio.specs.Forms.{form_filled}
 use Rattle.calendar.specs.declared.Moment.{Moment}
+use Rattle.report.specs.Rows.{scale_of}
 use Rattle.report.specs.Days.{day_length, dated, at, days_of, days_ended}
 use Rattle.report.specs.Times.{hours_minutes, spent_text, instant_text}
 use Rattle.record.specs.declared.types.Text.{Text}
@@ -33,6 +37,13 @@ use Rattle.report.specs.declared.page.Projector.{Projector}
 use Rattle.report.specs.declared.page.Query.{Query}
 use Rattle.report.specs.declared.page.Sheet.{Sheet}
 use Rattle.report.specs.declared.page.Stretch.{Stretch}
+use Rattle.report.specs.declared.rows.Layout.{Layout}
+use Rattle.report.specs.declared.rows.Scale.{Scale}
+use Rattle.report.specs.declared.rows.Scale.TheVariants.{Day, Week, Month}
+
+abbrev pub layout_of : Query → ℕ → Layout
+layout_of q seconds =
+    record { began = q.began; long = q.long; scale = scale_of (days_of (at q.began seconds)) }
 
 unfoldable pub head : List ℕ
 head = codes "<!DOCTYPE html>\n"
@@ -53,7 +64,7 @@ head = codes "<!DOCTYPE html>\n"
     ++ (codes ".n span{display:block;font-size:13px;line-height:18px;white-space:nowrap}\n"
     ++ (codes ".o{position:relative;height:1.4em;font-size:13px;font-weight:normal}\n"
     ++ (codes ".o span{position:absolute;transform:translateX(-50%);white-space:nowrap}\n"
-    ++ (codes ".o .f{transform:none}\n"
+    ++ (codes ".o .f,.o .g{transform:none}\n"
     ++ (codes ".o .t{transform:translateX(-100%)}\n"
     ++ (codes "svg{display:block;width:100%}\n"
     ++ (codes "svg *{vector-effect:non-scaling-stroke}\n"
@@ -91,52 +102,100 @@ head = codes "<!DOCTYPE html>\n"
     ++ (codes "@media print{\n"
     ++ (codes "body{font-size:10pt;margin:0;padding:0}\n"
     ++ (codes "thead{display:table-header-group}\n"
+    ++ (codes ".d th,.d td{white-space:nowrap}\n"
     ++ (codes "tr,svg{break-inside:avoid}\n"
     ++ (codes ".b,.l,.m{-webkit-print-color-adjust:exact;print-color-adjust:exact}}\n"
     ++ (codes "</style></head><body><main>\n"
-    ++ codes "<h1>Which lamp burnt when</h1>\n"))))))))))))))))))))))))))))))))))))))))))))))))))))))))))
+    ++ codes "<h1>Which lamp burnt when</h1>\n")))))))))))))))))))))))))))))))))))))))))))))))))))))))))))
 
-unfoldable pub no_clock : List ℕ
-no_clock = codes "<p>This page knows no clock: days and hours count from the log's first second. A row is a "
-    ++ (codes "day of 24 hours; in it each lamp has a band, and a bar on the band is a stretch that the "
-    ++ codes "lamp burnt.</p>\n")
+abbrev pub no_clock : List ℕ
+no_clock = codes "<p>This page knows no clock: days and hours count from the log's first second."
 
 abbrev pub time_of_day : ℕ → List ℕ
-time_of_day second = form_filled
-    (codes " at #:##:##, and days and hours are that clock's. A row is a day of 24 hours; in it each "
-    ++ codes "lamp has a band, and a bar on the band is a stretch that the lamp burnt.</p>\n")
+time_of_day second = form_filled (codes " at #:##:##, and days and hours are that clock's.")
     ((second / 3600) ∷ (second / 60 % 60 / 10) ∷ (second / 60 % 10) ∷ (second % 60 / 10) ∷ (second % 10) ∷ [])
 
 unfoldable pub moment_text : Moment → List ℕ
 moment_text m = codes "<p>The log began on " ++ (dated m 0 ++ time_of_day m.second)
 
-abbrev pub clock_text : Option Moment → List ℕ
-clock_text None = no_clock
-clock_text (Some m) = moment_text m
+abbrev pub clock_begun : Option Moment → List ℕ
+clock_begun None = no_clock
+clock_begun (Some m) = moment_text m
 
-unfoldable pub head_of_days : List ℕ
-head_of_days = codes "<table class=\"d\"><caption>The days</caption><thead><tr><th scope=\"col\">day</th><th "
-    ++ codes "scope=\"col\">lamp</th><th scope=\"col\"><div class=\"o\">\n"
+abbrev pub row_words : Scale → Option Moment → List ℕ
+row_words Day began = codes "day of 24 hours"
+row_words Week None = codes "week of 7 days"
+row_words Week (Some m) = codes "week, from Monday to Sunday"
+row_words Month None = codes "month of 30 days"
+row_words Month (Some m) = codes "month of the calendar"
 
-unfoldable pub hours_since : List ℕ
+unfoldable pub clock_text : Layout → List ℕ
+clock_text v = clock_begun v.began ++ (codes " A row is a " ++ (row_words v.scale v.began
+    ++ codes "; in it each lamp has a band, and a bar on the band is a stretch that the lamp burnt.</p>\n"))
+
+abbrev pub head_words : Scale → List ℕ
+head_words Day = codes "The days</caption><thead><tr><th scope=\"col\">day"
+head_words Week = codes "The weeks</caption><thead><tr><th scope=\"col\">week"
+head_words Month = codes "The months</caption><thead><tr><th scope=\"col\">month"
+
+unfoldable pub head_of_rows : Scale → List ℕ
+head_of_rows scale = codes "<table class=\"d\"><caption>" ++ (head_words scale
+    ++ codes "</th><th scope=\"col\">lamp</th><th scope=\"col\"><div class=\"o\">\n")
+
+abbrev pub hours_since : List ℕ
 hours_since = codes "<span class=\"f\" style=\"left:0%\">+0 h</span>\n"
     ++ (codes "<span class=\"s\" style=\"left:12.5%\">+3 h</span><span style=\"left:25%\">+6 h</span>\n"
     ++ (codes "<span class=\"s\" style=\"left:37.5%\">+9 h</span><span style=\"left:50%\">+12 h</span>\n"
     ++ (codes "<span class=\"s\" style=\"left:62.5%\">+15 h</span><span style=\"left:75%\">+18 h</span>\n"
-    ++ (codes "<span class=\"s\" style=\"left:87.5%\">+21 h</span><span class=\"t\" style=\"left:100%\">+24 h</span>\n"
-    ++ codes "</div></th><th scope=\"col\">burnt</th></tr></thead><tbody>\n"))))
+    ++ (codes "<span class=\"s\" style=\"left:87.5%\">+21 h</span>"
+    ++ codes "<span class=\"t\" style=\"left:100%\">+24 h</span>\n"))))
 
-unfoldable pub hours_of_day : List ℕ
+abbrev pub hours_of_day : List ℕ
 hours_of_day = codes "<span class=\"f\" style=\"left:0%\">00:00</span>\n"
     ++ (codes "<span class=\"s\" style=\"left:12.5%\">03:00</span><span style=\"left:25%\">06:00</span>\n"
     ++ (codes "<span class=\"s\" style=\"left:37.5%\">09:00</span><span style=\"left:50%\">12:00</span>\n"
     ++ (codes "<span class=\"s\" style=\"left:62.5%\">15:00</span><span style=\"left:75%\">18:00</span>\n"
-    ++ (codes "<span class=\"s\" style=\"left:87.5%\">21:00</span><span class=\"t\" style=\"left:100%\">24:00</span>\n"
-    ++ codes "</div></th><th scope=\"col\">burnt</th></tr></thead><tbody>\n"))))
+    ++ (codes "<span class=\"s\" style=\"left:87.5%\">21:00</span>"
+    ++ codes "<span class=\"t\" style=\"left:100%\">24:00</span>\n"))))
 
-abbrev pub hours : Option Moment → List ℕ
-hours None = hours_since
-hours (Some m) = hours_of_day
+abbrev pub days_since : List ℕ
+days_since =
+    codes "<span class=\"f\" style=\"left:0%\">+0 d</span><span class=\"s\" style=\"left:14.29%\">+1 d</span>\n"
+    ++ (codes "<span style=\"left:28.57%\">+2 d</span><span class=\"s\" style=\"left:42.86%\">+3 d</span>\n"
+    ++ (codes "<span style=\"left:57.14%\">+4 d</span><span class=\"s\" style=\"left:71.43%\">+5 d</span>\n"
+    ++ codes "<span style=\"left:85.71%\">+6 d</span><span class=\"t\" style=\"left:100%\">+7 d</span>\n"))
+
+abbrev pub days_of_week : List ℕ
+days_of_week =
+    codes "<span class=\"f\" style=\"left:0%\">Mon</span><span class=\"g\" style=\"left:14.29%\">Tue</span>\n"
+    ++ (codes "<span class=\"g\" style=\"left:28.57%\">Wed</span><span class=\"g\" style=\"left:42.86%\">Thu</span>\n"
+    ++ (codes "<span class=\"g\" style=\"left:57.14%\">Fri</span><span class=\"g\" style=\"left:71.43%\">Sat</span>\n"
+    ++ codes "<span class=\"g\" style=\"left:85.71%\">Sun</span>\n"))
+
+abbrev pub weeks_since : List ℕ
+weeks_since =
+    codes "<span class=\"f\" style=\"left:0%\">+0 d</span><span class=\"g\" style=\"left:22.58%\">+7 d</span>\n"
+    ++ (codes "<span class=\"g\" style=\"left:45.16%\">+14 d</span>"
+    ++ (codes "<span class=\"g\" style=\"left:67.74%\">+21 d</span>\n"
+    ++ codes "<span class=\"g\" style=\"left:90.32%\">+28 d</span>\n"))
+
+abbrev pub days_of_month : List ℕ
+days_of_month =
+    codes "<span class=\"f\" style=\"left:0%\">1</span><span class=\"g\" style=\"left:22.58%\">8</span>\n"
+    ++ (codes "<span class=\"g\" style=\"left:45.16%\">15</span><span class=\"g\" style=\"left:67.74%\">22</span>\n"
+    ++ codes "<span class=\"g\" style=\"left:90.32%\">29</span>\n")
+
+abbrev pub label_words : Scale → Option Moment → List ℕ
+label_words Day None = hours_since
+label_words Day (Some m) = hours_of_day
+label_words Week None = days_since
+label_words Week (Some m) = days_of_week
+label_words Month None = weeks_since
+label_words Month (Some m) = days_of_month
+
+abbrev pub labels : Layout → List ℕ
+labels v =
+    label_words v.scale v.began ++ codes "</div></th><th scope=\"col\">burnt</th></tr></thead><tbody>\n"
 
 abbrev pub days_closed : List ℕ
 days_closed = codes "</tbody></table>\n"
@@ -200,19 +259,16 @@ table q seconds lamps starts burnt lasts =
     table_begun ++ (life_heads q.life ++ (codes "</tr></thead><tbody>\n"
     ++ (table_rows q seconds lamps starts burnt lasts ++ codes "</tbody></table>\n")))
 
-unfoldable pub stretch_said : Option Moment → Stretch → List ℕ
-stretch_said began s = codes "<p>The longest burn is from " ++ (instant_text began s.from
-    ++ (codes " to " ++ (instant_text began s.to ++ (codes ": " ++ (spent_text (s.to - s.from) ++ codes ".</p>\n")))))
+unfoldable pub span_said : List ℕ → Option Moment → ℕ → ℕ → List ℕ
+span_said words began from to = words ++ (instant_text began from
+    ++ (codes " to " ++ (instant_text began to ++ (codes ": " ++ (spent_text (to - from) ++ codes ".</p>\n")))))
+
+abbrev pub log_span : Option Moment → ℕ → List ℕ
+log_span began seconds = span_said (codes "<p>The log goes from ") began 0 seconds
 
 abbrev pub longest_text : Option Moment → Stretch → List ℕ
-longest_text began s = if nat_lt s.from s.to then stretch_said began s else []
-
-unfoldable pub span_said : Option Moment → ℕ → List ℕ
-span_said began seconds = codes "<p>The log ends at " ++ (instant_text began seconds
-    ++ (codes ", after " ++ (spent_text seconds ++ codes ".</p>\n")))
-
-abbrev pub page_closed : List ℕ
-page_closed = codes "</main></body></html>\n"
+longest_text began s =
+    if nat_lt s.from s.to then span_said (codes "<p>The longest burn is from ") began s.from s.to else []
 
 -- what a stripe on a bar says
 abbrev pub stripe_long : Option ℕ → List ℕ
@@ -253,13 +309,31 @@ settings_text t = take t.len t.bytes
 
 -- a name is UTF-8; a maker and a model have any bytes (RULES, Texts)
 unfoldable pub projector_text : Projector → List ℕ
-projector_text p = codes "<dl>\n" ++ (about_item_if false (codes "projector") (settings_text p.name)
+projector_text p = about_item_if false (codes "projector") (settings_text p.name)
     ++ (about_item_if true (codes "manufacturer") (settings_text p.maker)
-    ++ (about_item_if true (codes "model") (settings_text p.model) ++ codes "</dl>\n")))
+    ++ about_item_if true (codes "model") (settings_text p.model))
 
-unfoldable pub page_begun : Query → List ℕ
-page_begun q = head ++ (projector_text q.projector ++ (clock_text q.began
-    ++ (stripe_text q.began q.long ++ (head_of_days ++ hours q.began))))
+abbrev pub form_item : Option (List ℕ) → List ℕ
+form_item None = about_item false (codes "form") (codes "sample set-up")
+form_item (Some name) = about_item false (codes "form") name
+
+abbrev pub log_item : List ℕ → List ℕ
+log_item name =
+    if bytes_eq name (codes "-") then about_item false (codes "log") (codes "standard input")
+    else about_item false (codes "log") name
+
+unfoldable pub log_items : List (List ℕ) → List ℕ
+log_items names = flat_map log_item names
+
+unfoldable pub about_list : Projector → Option (List ℕ) → List (List ℕ) → List ℕ
+about_list p form logs =
+    codes "<dl>\n" ++ (projector_text p ++ (form_item form ++ (log_items logs ++ codes "</dl>\n")))
+
+unfoldable pub page_begun : Query → ℕ → Option (List ℕ) → List (List ℕ) → List ℕ
+page_begun q seconds form logs =
+    let v = layout_of q seconds in
+    head ++ (about_list q.projector form logs ++ (log_span q.began seconds ++ (clock_text v
+    ++ (stripe_text q.began q.long ++ (head_of_rows v.scale ++ labels v)))))
 
 abbrev pub paragraph : Option (List ℕ) → List ℕ
 paragraph None = []
@@ -267,13 +341,12 @@ paragraph (Some s) = codes "<p>" ++ (s ++ codes "</p>\n")
 
 unfoldable pub days_told : Sheet → ℕ → ℕ → List ℕ → List ℕ → List ℕ → List ℕ
 days_told p seconds lamps starts burnt lasts =
-    days_ended p.query.began p.row (days_of (at p.query.began seconds))
-    ++ (days_closed ++ (table p.query seconds lamps starts burnt lasts
-    ++ (longest_text p.query.began p.longest ++ span_said p.query.began seconds)))
+    days_ended (layout_of p.query p.seconds) p.row (days_of (at p.query.began seconds))
+    ++ (days_closed ++ (table p.query seconds lamps starts burnt lasts ++ longest_text p.query.began p.longest))
 
 unfoldable pub page_ended : Sheet → ℕ → ℕ → List ℕ → List ℕ → List ℕ → Option (List ℕ) → List ℕ
 page_ended p seconds lamps starts burnt lasts unplayed =
-    days_told p seconds lamps starts burnt lasts ++ (paragraph unplayed ++ page_closed)
+    days_told p seconds lamps starts burnt lasts ++ paragraph unplayed
 
 abbrev pub until_text : ℕ → ℕ → List ℕ
 until_text seconds lines = form_filled
@@ -281,5 +354,5 @@ until_text seconds lines = form_filled
     (seconds ∷ lines ∷ [])
 
 unfoldable pub page_ended_until : Sheet → ℕ → ℕ → List ℕ → List ℕ → List ℕ → ℕ → Option (List ℕ) → List ℕ
-page_ended_until p seconds lamps starts burnt lasts lines stray = days_told p seconds lamps starts burnt lasts
-    ++ (until_text seconds lines ++ (paragraph stray ++ page_closed))
+page_ended_until p seconds lamps starts burnt lasts lines stray =
+    days_told p seconds lamps starts burnt lasts ++ (until_text seconds lines ++ paragraph stray)

@@ -1,4 +1,5 @@
 pub mod LampLines
+pub mod Rows
 pub mod Days
 pub mod Times
 pub mod Table

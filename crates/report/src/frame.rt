@@ -1,16 +1,18 @@
-// What stands around the rows of the days: the head and the hours above them, the table of totals below.
-ghost use Rattle.std.specs.Prelude.{◌≡◌, ◌+◌, ◌*◌, ◌<◌, ◌≤◌};
+// What stands around the rows of a page: above them the head, what the page is of, and what a place along a row is;
+// below them the table of totals.
+ghost use Rattle.std.specs.Prelude.{◌≡◌, ◌+◌, ◌-◌, ◌*◌, ◌<◌, ◌≤◌};
 ghost use Rattle.textio.specs.Fronts.{WritesText};
-ghost use Rattle.report.specs.Frame.{head, no_clock, moment_text, clock_text, stripe_long, stripe_midnight};
-ghost use Rattle.report.specs.Frame.{stripe_text, head_of_days, hours_since, hours_of_day, hours, life_heads};
-ghost use Rattle.report.specs.Frame.{days_left, day_left, until_day, until_when, life_left, life_cells, lamp_cells};
-ghost use Rattle.report.specs.Frame.{table_row, table_rows, table_begun, table, longest_text, stretch_said, span_said};
-ghost use Rattle.report.specs.Frame.{until_text, paragraph, escaped, html_text, about_item, about_item_if};
-ghost use Rattle.report.specs.Frame.{settings_text, projector_text};
-ghost use Rattle.report.specs.Reports.{given_text};
+ghost use Rattle.report.specs.Frame.{head, no_clock, moment_text, clock_begun, row_words, clock_text, stripe_long};
+ghost use Rattle.report.specs.Frame.{stripe_midnight, stripe_text, head_of_rows, head_words, label_words, labels};
+ghost use Rattle.report.specs.Frame.{life_heads, days_left, day_left, until_day, until_when, life_left, life_cells};
+ghost use Rattle.report.specs.Frame.{lamp_cells, table_row, table_rows, table_begun, table, longest_text, span_said};
+ghost use Rattle.report.specs.Frame.{log_span, until_text, paragraph, escaped, html_text, about_item, about_item_if};
+ghost use Rattle.report.specs.Frame.{settings_text, projector_text, form_item, log_item, log_items, about_list};
+ghost use Rattle.report.specs.Reports.{given_text, texts_given};
 
 use crate::lamps::Totals;
-use crate::page::{self, DAY, Projector, Query, Stretch};
+use crate::page::{self, DAY, FileNames, Projector, Query, Stretch};
+use crate::rows::{Layout, Scale};
 use crate::{days, times};
 use calendar::Moment;
 use record::types::Text;
@@ -43,7 +45,7 @@ pub fn put_head<W: ByteSink>(out: &mut W) -> io::Result<()>
         .n span{display:block;font-size:13px;line-height:18px;white-space:nowrap}\n\
         .o{position:relative;height:1.4em;font-size:13px;font-weight:normal}\n\
         .o span{position:absolute;transform:translateX(-50%);white-space:nowrap}\n\
-        .o .f{transform:none}\n\
+        .o .f,.o .g{transform:none}\n\
         .o .t{transform:translateX(-100%)}\n\
         svg{display:block;width:100%}\n\
         svg *{vector-effect:non-scaling-stroke}\n\
@@ -81,6 +83,7 @@ pub fn put_head<W: ByteSink>(out: &mut W) -> io::Result<()>
         @media print{\n\
         body{font-size:10pt;margin:0;padding:0}\n\
         thead{display:table-header-group}\n\
+        .d th,.d td{white-space:nowrap}\n\
         tr,svg{break-inside:avoid}\n\
         .b,.l,.m{-webkit-print-color-adjust:exact;print-color-adjust:exact}}\n\
         </style></head><body><main>\n\
@@ -135,14 +138,56 @@ fn put_item_if<W: ByteSink>(out: &mut W, is_ascii: bool, term: &str, text: Text)
     put_item(out, is_ascii, term, shown)
 }
 
-/// The projector's name, maker and model.
-pub fn put_about<W: ByteSink>(out: &mut W, projector: Projector) -> io::Result<()>
+fn put_projector<W: ByteSink>(out: &mut W, projector: Projector) -> io::Result<()>
     ensures { WritesText W.fails_with (W.contents out.old) (W.contents out.new) result (projector_text projector) }
 {
-    put(out, b"<dl>\n")?;
     put_item_if(out, false, "projector", projector.name)?;
     put_item_if(out, true, "manufacturer", projector.maker)?;
-    put_item_if(out, true, "model", projector.model)?;
+    put_item_if(out, true, "model", projector.model)
+}
+
+fn put_form<W: ByteSink>(out: &mut W, form: Option<&str>) -> io::Result<()>
+    ensures { WritesText W.fails_with (W.contents out.old) (W.contents out.new) result
+        (form_item (given_text form.entry)) }
+{
+    match form {
+        None => put_item(out, false, "form", b"sample set-up"),
+        Some(name) => put_item(out, false, "form", name.as_bytes()),
+    }
+}
+
+fn put_log<W: ByteSink>(out: &mut W, name: &str) -> io::Result<()>
+    ensures { WritesText W.fails_with (W.contents out.old) (W.contents out.new) result (log_item name.now) }
+{
+    if name == "-" {
+        return put_item(out, false, "log", b"standard input");
+    }
+    put_item(out, false, "log", name.as_bytes())
+}
+
+fn put_logs<W: ByteSink>(out: &mut W, logs: &[&str]) -> io::Result<()>
+    ensures { WritesText W.fails_with (W.contents out.old) (W.contents out.new) result
+        (log_items (texts_given logs.now)) }
+{
+    for name in logs {
+        put_log(out, *name)?;
+    }
+    Ok(())
+}
+
+/// What the page is of: the projector's name, maker and model, and the files.
+pub fn put_about<W: ByteSink>(
+    out: &mut W,
+    projector: Projector,
+    names: FileNames<'_>,
+) -> io::Result<()>
+    ensures { WritesText W.fails_with (W.contents out.old) (W.contents out.new) result
+        (about_list projector (given_text names.entry.form) (texts_given names.entry.logs.now)) }
+{
+    put(out, b"<dl>\n")?;
+    put_projector(out, projector)?;
+    put_form(out, names.form)?;
+    put_logs(out, names.logs)?;
     put(out, b"</dl>\n")
 }
 
@@ -151,9 +196,7 @@ fn put_no_clock<W: ByteSink>(out: &mut W) -> io::Result<()>
 {
     put(
         out,
-        b"<p>This page knows no clock: days and hours count from the log's first second. A row is a \
-        day of 24 hours; in it each lamp has a band, and a bar on the band is a stretch that the \
-        lamp burnt.</p>\n",
+        b"<p>This page knows no clock: days and hours count from the log's first second.",
     )
 }
 
@@ -165,8 +208,7 @@ fn put_moment<W: ByteSink>(out: &mut W, m: Moment) -> io::Result<()>
     let second = m.second;
     fill(
         out,
-        " at #:##:##, and days and hours are that clock's. A row is a day of 24 hours; in it each \
-        lamp has a band, and a bar on the band is a stretch that the lamp burnt.</p>\n",
+        " at #:##:##, and days and hours are that clock's.",
         &[
             second / 3600,
             second / 60 % 60 / 10,
@@ -177,14 +219,39 @@ fn put_moment<W: ByteSink>(out: &mut W, m: Moment) -> io::Result<()>
     )
 }
 
-/// What the page is, and when the log began, where that is known.
-pub fn put_clock<W: ByteSink>(out: &mut W, began: Option<Moment>) -> io::Result<()>
-    ensures { WritesText W.fails_with (W.contents out.old) (W.contents out.new) result (clock_text began) }
+fn put_clock_begun<W: ByteSink>(out: &mut W, began: Option<Moment>) -> io::Result<()>
+    ensures { WritesText W.fails_with (W.contents out.old) (W.contents out.new) result (clock_begun began) }
 {
     match began {
         None => put_no_clock(out),
         Some(m) => put_moment(out, m),
     }
+}
+
+fn row_words(v: Layout) -> &'static str
+    ensures { result.now ≡ row_words v.scale v.began }
+{
+    match (v.scale, v.began) {
+        (Scale::Day, _) => "day of 24 hours",
+        (Scale::Week, None) => "week of 7 days",
+        (Scale::Week, Some(_)) => "week, from Monday to Sunday",
+        (Scale::Month, None) => "month of 30 days",
+        (Scale::Month, Some(_)) => "month of the calendar",
+    }
+}
+
+/// What the page is, when the log began, where that is known, and what a row is.
+pub fn put_clock<W: ByteSink>(out: &mut W, v: Layout) -> io::Result<()>
+    ensures { WritesText W.fails_with (W.contents out.old) (W.contents out.new) result (clock_text v) }
+{
+    let words = row_words(v);
+    put_clock_begun(out, v.began)?;
+    put(out, b" A row is a ")?;
+    days::put_word(out, words)?;
+    put(
+        out,
+        b"; in it each lamp has a band, and a bar on the band is a stretch that the lamp burnt.</p>\n",
+    )
 }
 
 fn put_stripe_long<W: ByteSink>(out: &mut W, long: Option<u32>) -> io::Result<()>
@@ -230,53 +297,83 @@ pub fn put_stripe_text<W: ByteSink>(
     }
 }
 
-/// The head of the table of the days, up to the hours.
-pub fn put_head_of_days<W: ByteSink>(out: &mut W) -> io::Result<()>
-    ensures { WritesText W.fails_with (W.contents out.old) (W.contents out.new) result head_of_days }
+fn head_words(scale: Scale) -> &'static str
+    ensures { result.now ≡ head_words scale }
 {
-    put(
-        out,
-        b"<table class=\"d\"><caption>The days</caption><thead><tr><th scope=\"col\">day</th><th \
-        scope=\"col\">lamp</th><th scope=\"col\"><div class=\"o\">\n",
-    )
-}
-
-fn put_hours_since<W: ByteSink>(out: &mut W) -> io::Result<()>
-    ensures { WritesText W.fails_with (W.contents out.old) (W.contents out.new) result hours_since }
-{
-    put(
-        out,
-        b"<span class=\"f\" style=\"left:0%\">+0 h</span>\n\
-        <span class=\"s\" style=\"left:12.5%\">+3 h</span><span style=\"left:25%\">+6 h</span>\n\
-        <span class=\"s\" style=\"left:37.5%\">+9 h</span><span style=\"left:50%\">+12 h</span>\n\
-        <span class=\"s\" style=\"left:62.5%\">+15 h</span><span style=\"left:75%\">+18 h</span>\n\
-        <span class=\"s\" style=\"left:87.5%\">+21 h</span><span class=\"t\" style=\"left:100%\">+24 h</span>\n\
-        </div></th><th scope=\"col\">burnt</th></tr></thead><tbody>\n",
-    )
-}
-
-fn put_hours_of_day<W: ByteSink>(out: &mut W) -> io::Result<()>
-    ensures { WritesText W.fails_with (W.contents out.old) (W.contents out.new) result hours_of_day }
-{
-    put(
-        out,
-        b"<span class=\"f\" style=\"left:0%\">00:00</span>\n\
-        <span class=\"s\" style=\"left:12.5%\">03:00</span><span style=\"left:25%\">06:00</span>\n\
-        <span class=\"s\" style=\"left:37.5%\">09:00</span><span style=\"left:50%\">12:00</span>\n\
-        <span class=\"s\" style=\"left:62.5%\">15:00</span><span style=\"left:75%\">18:00</span>\n\
-        <span class=\"s\" style=\"left:87.5%\">21:00</span><span class=\"t\" style=\"left:100%\">24:00</span>\n\
-        </div></th><th scope=\"col\">burnt</th></tr></thead><tbody>\n",
-    )
-}
-
-/// The hours along the top: since the log began, or of the clock.
-pub fn put_hours<W: ByteSink>(out: &mut W, began: Option<Moment>) -> io::Result<()>
-    ensures { WritesText W.fails_with (W.contents out.old) (W.contents out.new) result (hours began) }
-{
-    match began {
-        None => put_hours_since(out),
-        Some(_) => put_hours_of_day(out),
+    match scale {
+        Scale::Day => "The days</caption><thead><tr><th scope=\"col\">day",
+        Scale::Week => "The weeks</caption><thead><tr><th scope=\"col\">week",
+        Scale::Month => "The months</caption><thead><tr><th scope=\"col\">month",
     }
+}
+
+/// The head of the table of the rows, up to the labels along the top.
+pub fn put_head_of_rows<W: ByteSink>(out: &mut W, scale: Scale) -> io::Result<()>
+    ensures { WritesText W.fails_with (W.contents out.old) (W.contents out.new) result (head_of_rows scale) }
+{
+    let words = head_words(scale);
+    put(out, b"<table class=\"d\"><caption>")?;
+    days::put_word(out, words)?;
+    put(
+        out,
+        b"</th><th scope=\"col\">lamp</th><th scope=\"col\"><div class=\"o\">\n",
+    )
+}
+
+fn label_words(v: Layout) -> &'static str
+    ensures { result.now ≡ label_words v.scale v.began }
+{
+    match (v.scale, v.began) {
+        (Scale::Day, None) => {
+            "<span class=\"f\" style=\"left:0%\">+0 h</span>\n\
+            <span class=\"s\" style=\"left:12.5%\">+3 h</span><span style=\"left:25%\">+6 h</span>\n\
+            <span class=\"s\" style=\"left:37.5%\">+9 h</span><span style=\"left:50%\">+12 h</span>\n\
+            <span class=\"s\" style=\"left:62.5%\">+15 h</span><span style=\"left:75%\">+18 h</span>\n\
+            <span class=\"s\" style=\"left:87.5%\">+21 h</span><span class=\"t\" style=\"left:100%\">+24 h</span>\n"
+        }
+        (Scale::Day, Some(_)) => {
+            "<span class=\"f\" style=\"left:0%\">00:00</span>\n\
+            <span class=\"s\" style=\"left:12.5%\">03:00</span><span style=\"left:25%\">06:00</span>\n\
+            <span class=\"s\" style=\"left:37.5%\">09:00</span><span style=\"left:50%\">12:00</span>\n\
+            <span class=\"s\" style=\"left:62.5%\">15:00</span><span style=\"left:75%\">18:00</span>\n\
+            <span class=\"s\" style=\"left:87.5%\">21:00</span><span class=\"t\" style=\"left:100%\">24:00</span>\n"
+        }
+        (Scale::Week, None) => {
+            "<span class=\"f\" style=\"left:0%\">+0 d</span><span class=\"s\" style=\"left:14.29%\">+1 d</span>\n\
+            <span style=\"left:28.57%\">+2 d</span><span class=\"s\" style=\"left:42.86%\">+3 d</span>\n\
+            <span style=\"left:57.14%\">+4 d</span><span class=\"s\" style=\"left:71.43%\">+5 d</span>\n\
+            <span style=\"left:85.71%\">+6 d</span><span class=\"t\" style=\"left:100%\">+7 d</span>\n"
+        }
+        (Scale::Week, Some(_)) => {
+            "<span class=\"f\" style=\"left:0%\">Mon</span><span class=\"g\" style=\"left:14.29%\">Tue</span>\n\
+            <span class=\"g\" style=\"left:28.57%\">Wed</span><span class=\"g\" style=\"left:42.86%\">Thu</span>\n\
+            <span class=\"g\" style=\"left:57.14%\">Fri</span><span class=\"g\" style=\"left:71.43%\">Sat</span>\n\
+            <span class=\"g\" style=\"left:85.71%\">Sun</span>\n"
+        }
+        (Scale::Month, None) => {
+            "<span class=\"f\" style=\"left:0%\">+0 d</span><span class=\"g\" style=\"left:22.58%\">+7 d</span>\n\
+            <span class=\"g\" style=\"left:45.16%\">+14 d</span><span class=\"g\" style=\"left:67.74%\">+21 d</span>\n\
+            <span class=\"g\" style=\"left:90.32%\">+28 d</span>\n"
+        }
+        (Scale::Month, Some(_)) => {
+            "<span class=\"f\" style=\"left:0%\">1</span><span class=\"g\" style=\"left:22.58%\">8</span>\n\
+            <span class=\"g\" style=\"left:45.16%\">15</span><span class=\"g\" style=\"left:67.74%\">22</span>\n\
+            <span class=\"g\" style=\"left:90.32%\">29</span>\n"
+        }
+    }
+}
+
+/// What a place along a row is: hours since the day began or of the clock, days since the row's first or of the week or
+/// the month.
+pub fn put_labels<W: ByteSink>(out: &mut W, v: Layout) -> io::Result<()>
+    ensures { WritesText W.fails_with (W.contents out.old) (W.contents out.new) result (labels v) }
+{
+    let words = label_words(v);
+    days::put_word(out, words)?;
+    put(
+        out,
+        b"</div></th><th scope=\"col\">burnt</th></tr></thead><tbody>\n",
+    )
 }
 
 fn put_life_heads<W: ByteSink>(out: &mut W, life: Option<u32>) -> io::Result<()>
@@ -477,16 +574,38 @@ pub fn put_table<W: ByteSink>(
     put(out, b"</tbody></table>\n")
 }
 
-fn put_stretch_said<W: ByteSink>(out: &mut W, began: Option<Moment>, s: Stretch) -> io::Result<()>
-    ensures { WritesText W.fails_with (W.contents out.old) (W.contents out.new) result (stretch_said began s) }
+// From when to when, and how long that is.
+fn put_span_said<W: ByteSink>(
+    out: &mut W,
+    words: &str,
+    began: Option<Moment>,
+    s: Stretch,
+) -> io::Result<()>
+    ensures { WritesText W.fails_with (W.contents out.old) (W.contents out.new) result
+        (span_said words.now began s.from s.to) }
 {
-    put(out, b"<p>The longest burn is from ")?;
+    days::put_word(out, words)?;
     times::put_instant(out, began, s.from)?;
     put(out, b" to ")?;
     times::put_instant(out, began, s.to)?;
     put(out, b": ")?;
     times::put_spent(out, s.to.saturating_sub(s.from))?;
     put(out, b".</p>\n")
+}
+
+/// From when to when a log of so many seconds goes.
+pub fn put_log_span<W: ByteSink>(out: &mut W, began: Option<Moment>, seconds: u64) -> io::Result<()>
+    ensures { WritesText W.fails_with (W.contents out.old) (W.contents out.new) result (log_span began seconds) }
+{
+    put_span_said(
+        out,
+        "<p>The log goes from ",
+        began,
+        Stretch {
+            from: 0,
+            to: seconds,
+        },
+    )
 }
 
 /// The longest stretch, if there is one.
@@ -500,22 +619,7 @@ pub fn put_longest<W: ByteSink>(
     if stretch.to <= stretch.from {
         return Ok(());
     }
-    put_stretch_said(out, began, stretch)
-}
-
-/// When the log ends, and how long it is.
-pub fn put_span_said<W: ByteSink>(
-    out: &mut W,
-    began: Option<Moment>,
-    seconds: u64,
-) -> io::Result<()>
-    ensures { WritesText W.fails_with (W.contents out.old) (W.contents out.new) result (span_said began seconds) }
-{
-    put(out, b"<p>The log ends at ")?;
-    times::put_instant(out, began, seconds)?;
-    put(out, b", after ")?;
-    times::put_spent(out, seconds)?;
-    put(out, b".</p>\n")
+    put_span_said(out, "<p>The longest burn is from ", began, stretch)
 }
 
 /// Until when a log goes: the seconds that it lets pass, and the lines that belong to it.

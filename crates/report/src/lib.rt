@@ -1,21 +1,24 @@
-// What is told of a watched log: lines, or a page where one is wanted (RULES, Floor log).
+// What is told of a watched log: lines, a table of values, or a part of a page (RULES, Floor log). A page has three
+// parts, each of which is told of the whole log: a survey, a picture, and a table of the stretches.
 #![tactic(auto)]
 
 mod days;
 mod frame;
 pub mod lamps;
 pub mod page;
-mod table;
+mod rows;
+pub mod table;
 pub mod theorems;
 mod times;
 
 ghost use Rattle.std.specs.Prelude.{◌≡◌, ◌≤◌, length, OnOk, OnErr};
 ghost use Rattle.textio.specs.Fronts.{WritesText};
 ghost use Rattle.report.specs.Reports.{begun_text, report_told, told_text, ended_text, ended_until};
-ghost use Rattle.report.specs.Reports.{stray_line, given_text};
+ghost use Rattle.report.specs.Reports.{stray_line, given_text, texts_given};
 
 use crate::lamps::Totals;
-use crate::page::{Query, Sheet, Stretch};
+use crate::page::{FileNames, Query, Sheet, Stretch};
+use crate::table::StretchTable;
 use std::io;
 use textio::writer::{ByteSink, put};
 
@@ -24,10 +27,14 @@ use textio::writer::{ByteSink, put};
 pub enum Report {
     /// A line for each stretch, and one for each lamp at the end.
     Lines,
-    /// Comma-separated values: a row for each stretch.
+    /// Comma-separated values: a row for each stretch, and a last one for the end.
     Csv(Query),
-    /// An HTML page.
-    Page(Sheet),
+    /// The first part of a page, which writes nothing: the log is read for its seconds alone.
+    Survey,
+    /// The second: what the page is of, the rows with the bars, and what stands below them.
+    Picture(Sheet),
+    /// The third: the table of the stretches, and the page's end.
+    Table(StretchTable),
 }
 
 /// How far a log of the second kind goes (RULES, History of a board).
@@ -52,14 +59,17 @@ fn put_stray<W: ByteSink>(out: &mut W, stray: Option<&[u8]>) -> io::Result<()>
 }
 
 impl Report {
-    /// What stands before the first stretch.
-    pub fn begin<W: ByteSink>(self, out: &mut W) -> io::Result<()>
-        ensures { WritesText W.fails_with (W.contents out.old) (W.contents out.new) result (begun_text self) }
+    /// What stands before the first stretch, of a log in these files.
+    pub fn begin<W: ByteSink>(self, out: &mut W, names: FileNames<'_>) -> io::Result<()>
+        ensures { WritesText W.fails_with (W.contents out.old) (W.contents out.new) result
+            (begun_text self (given_text names.entry.form) (texts_given names.entry.logs.now)) }
     {
         match self {
             Report::Lines => Ok(()),
             Report::Csv(_) => table::put_csv_head(out),
-            Report::Page(sheet) => page::begin(out, sheet.query),
+            Report::Survey => Ok(()),
+            Report::Picture(sheet) => page::begin(out, sheet.query, sheet.seconds, names),
+            Report::Table(_) => Ok(()),
         }
     }
 
@@ -79,20 +89,31 @@ impl Report {
         match *self {
             Report::Lines => lamps::put_stretches(out, lit, stretch.from, stretch.to),
             Report::Csv(query) => table::put_csv_rows(out, query, lit, stretch),
-            Report::Page(sheet) => {
-                let row = page::draw(out, sheet, lit, stretch)?;
-                *self = Report::Page(Sheet {
+            Report::Survey => Ok(()),
+            Report::Picture(sheet) => {
+                let layout = page::layout_of(sheet.query, sheet.seconds);
+                let row = page::draw(out, layout, sheet.row, lit, stretch)?;
+                *self = Report::Picture(Sheet {
                     query: sheet.query,
+                    seconds: sheet.seconds,
                     row,
                     longest: page::longest_of(sheet.longest, lit, stretch),
+                });
+                Ok(())
+            }
+            Report::Table(t) => {
+                table::put_stretch(out, t, lit, stretch)?;
+                *self = Report::Table(StretchTable {
+                    query: t.query,
+                    is_begun: t.is_begun || page::is_any(lit),
                 });
                 Ok(())
             }
         }
     }
 
-    /// The end of a log of the first kind, of so many seconds; a page says too what was not played of it, if anything
-    /// was not.
+    /// The end of a log of the first kind, of so many seconds; a page and a table say too what was not played of it, if
+    /// anything was not.
     pub fn end<W: ByteSink>(
         self,
         out: &mut W,
@@ -106,8 +127,10 @@ impl Report {
     {
         match self {
             Report::Lines => lamps::put_totals(out, totals),
-            Report::Csv(_) => Ok(()),
-            Report::Page(sheet) => page::end(out, sheet, seconds, totals, unplayed),
+            Report::Csv(query) => table::put_csv_end(out, query, seconds, unplayed),
+            Report::Survey => Ok(()),
+            Report::Picture(sheet) => page::end(out, sheet, seconds, totals, unplayed),
+            Report::Table(t) => table::end(out, t.is_begun),
         }
     }
 
@@ -129,8 +152,10 @@ impl Report {
                 lamps::put_totals(out, totals)?;
                 put_stray(out, until.stray)
             }
-            Report::Csv(_) => Ok(()),
-            Report::Page(sheet) => page::end_until(out, sheet, seconds, totals, until),
+            Report::Csv(query) => table::put_csv_end(out, query, seconds, until.stray),
+            Report::Survey => Ok(()),
+            Report::Picture(sheet) => page::end_until(out, sheet, seconds, totals, until),
+            Report::Table(t) => table::end(out, t.is_begun),
         }
     }
 }

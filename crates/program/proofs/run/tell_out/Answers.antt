@@ -1,16 +1,29 @@
-use Rattle.std.proofs.Common.{[]}
+use Rattle.std.proofs.Common.{[], inr}
 use Rattle.textio.specs.declared.lines.Failure.TheVariants.{Write}
-use Rattle.program.proofs.Doing.{cut_off, last_so}
+use Rattle.program.specs.declared.telling.CutCause.TheVariants.{Log}
+use Rattle.program.proofs.Doing.{not_changed, changed_so}
 use Rattle.program.proofs.run.tell_out.Goals as goal
 
-pub returns-in-Ok : goal.returns-in-Ok
-returns-in-Ok g c =
-    cut_off (Write c.in-Err-end_output.error) [] _ _ c.new.ensures c.tell-told.ensures.front
-    c.end_output.ensures.text.front c.unwritten.ensures.said c.unwritten.ensures.status
+pub returns-in-Err-end_output : goal.returns-in-Err-end_output
+returns-in-Err-end_output g c = inr (record {
+  cause = Log (Write c.in-Err-end_output.error);
+  changed = not_changed _;
+  source = [];
+  mid = _;
+  front = c.tell.ensures.front;
+  last = c.end_output.ensures.text.front;
+  said = c.unwritten.ensures.said;
+  status_is = c.unwritten.ensures.status;
+})
 
-pub returns : goal.returns
-returns g c =
-    cut_off c.in-Err.failure c.name.result.now _ _ c.new.ensures c.tell-told.ensures.front
-    (last_so g.W.ByteSink.fails_with c.in-Err.failure c.end_output-in-Err.ensures.text)
-    (rw c.shown.ensures at c.failed-status.ensures.said)
-    c.failed-status.ensures.status
+pub returns-in-Err : goal.returns-in-Err
+returns-in-Err g c = inr (record {
+  cause = c.in-Err.cut.cause;
+  changed = changed_so g.W.ByteSink.fails_with (g.P.Telling.is_too_much) _ c.in-Err.ensures.err;
+  source = c.in-Err.cut.file.now;
+  mid = _;
+  front = c.tell.ensures.front;
+  last = c.cut_off.ensures.last;
+  said = c.cut_off.ensures.said;
+  status_is = c.cut_off.ensures.status;
+})

@@ -13,22 +13,14 @@ returns-in_err-put g c =
     rw (idle_some c.args.began c.args.rows c.args.day c.if-day-rows.false)
     (writes_fails _ c.in_err-put.ensures c.from_residual.ensures)
 
-pub returns-in_err-put_first : goal.returns-in_err-put_first
-returns-in_err-put_first g c =
+pub returns-in_err-put_days : goal.returns-in_err-put_days
+returns-in_err-put_days g c =
     rw (idle_some c.args.began c.args.rows c.args.day c.if-day-rows.false)
     (writes_then c.in_ok-put.ensures
-    (writes_fails _ c.in_err-put_first.ensures c.from_residual-in_err-put_first.ensures))
-
-pub returns-in_err-put_day : goal.returns-in_err-put_day
-returns-in_err-put_day g c =
-    rw (idle_some c.args.began c.args.rows c.args.day c.if-day-rows.false)
-    (writes_then c.in_ok-put.ensures
-    (writes_then c.in_ok-put_first.ensures
-    (writes_fails _ c.in_err-put_day.ensures c.from_residual-in_err-put_day.ensures)))
+    (writes_fails _ c.in_err-put_days.ensures c.from_residual-in_err-put_days.ensures))
 
 pub returns : goal.returns
 returns g c =
     rw (idle_some c.args.began c.args.rows c.args.day c.if-day-rows.false)
     (writes_then c.in_ok-put.ensures
-    (writes_then c.in_ok-put_first.ensures
-    (writes_then c.in_ok-put_day.ensures c.put-2.ensures)))
+    (writes_then c.in_ok-put_days.ensures c.put-2.ensures))

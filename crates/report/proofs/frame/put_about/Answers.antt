@@ -1,37 +1,37 @@
 use Rattle.textio.proofs.Fronts.{writes_then, writes_fails}
-use Rattle.report.specs.Frame.{projector_text}
+use Rattle.report.specs.Frame.{about_list}
 use Rattle.report.proofs.frame.put_about.Goals as goal
 
 pub returns-in_err-put : goal.returns-in_err-put
-unfolding projector_text
+unfolding about_list
 returns-in_err-put g c =
     writes_fails _ c.in_err-put.ensures c.from_residual.ensures
 
-pub returns-in_err-put_item_if : goal.returns-in_err-put_item_if
-unfolding projector_text
-returns-in_err-put_item_if g c =
+pub returns-in_err-put_projector : goal.returns-in_err-put_projector
+unfolding about_list
+returns-in_err-put_projector g c =
     writes_then c.in_ok-put.ensures
-    (writes_fails _ c.in_err-put_item_if.ensures c.from_residual-in_err-put_item_if.ensures)
+    (writes_fails _ c.in_err-put_projector.ensures c.from_residual-in_err-put_projector.ensures)
 
-pub returns-in_err-put_item_if-2 : goal.returns-in_err-put_item_if-2
-unfolding projector_text
-returns-in_err-put_item_if-2 g c =
+pub returns-in_err-put_form : goal.returns-in_err-put_form
+unfolding about_list
+returns-in_err-put_form g c =
     writes_then c.in_ok-put.ensures
-    (writes_then c.in_ok-put_item_if.ensures
-    (writes_fails _ c.in_err-put_item_if-2.ensures c.from_residual-in_err-put_item_if-2.ensures))
+    (writes_then c.in_ok-put_projector.ensures
+    (writes_fails _ c.in_err-put_form.ensures c.from_residual-in_err-put_form.ensures))
 
-pub returns-in_err-put_item_if-3 : goal.returns-in_err-put_item_if-3
-unfolding projector_text
-returns-in_err-put_item_if-3 g c =
+pub returns-in_err-put_logs : goal.returns-in_err-put_logs
+unfolding about_list
+returns-in_err-put_logs g c =
     writes_then c.in_ok-put.ensures
-    (writes_then c.in_ok-put_item_if.ensures
-    (writes_then c.in_ok-put_item_if-2.ensures
-    (writes_fails _ c.in_err-put_item_if-3.ensures c.from_residual-in_err-put_item_if-3.ensures)))
+    (writes_then c.in_ok-put_projector.ensures
+    (writes_then c.in_ok-put_form.ensures
+    (writes_fails _ c.in_err-put_logs.ensures c.from_residual-in_err-put_logs.ensures)))
 
 pub returns : goal.returns
-unfolding projector_text
+unfolding about_list
 returns g c =
     writes_then c.in_ok-put.ensures
-    (writes_then c.in_ok-put_item_if.ensures
-    (writes_then c.in_ok-put_item_if-2.ensures
-    (writes_then c.in_ok-put_item_if-3.ensures c.put-2.ensures)))
+    (writes_then c.in_ok-put_projector.ensures
+    (writes_then c.in_ok-put_form.ensures
+    (writes_then c.in_ok-put_logs.ensures c.put-2.ensures)))

@@ -1,4 +1,4 @@
-use Rattle.std.proofs.Common.{ℕ, List, ◌≡◌, false, length, arith, slice_index_or}
+use Rattle.std.proofs.Common.{ℕ, List, ◌≡◌, length, arith, slice_index_or}
 use Rattle.textio.proofs.Each.{each_more, each_fails}
 use Rattle.textio.proofs.Fronts.{writes_all}
 use Rattle.report.specs.Frame.{escaped}

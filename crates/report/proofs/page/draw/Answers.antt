@@ -2,36 +2,36 @@ use Rattle.std.proofs.Common.{ℕ, ◌≡◌, ◌+◌, ◌-◌, ◌/◌, ◌<◌
 use Rattle.std.proofs.KnownBytes.{Appends-nil}
 use Rattle.textio.proofs.Fronts.{writes_all}
 use Rattle.report.specs.Days.{each_from, after_each, days_of, drawn_in, row_after, note_of}
-use Rattle.report.specs.declared.days.DayRow.{DayRow}
-use Rattle.report.proofs.Drawn.{drawn_none, drawn_unlit, drawn_some, row_none, row_unlit, row_some}
+use Rattle.report.specs.declared.days.PageRow.{PageRow}
+use Rattle.report.proofs.Drawn.{drawn_none, drawn_unlit, drawn_some, row_undrawn, row_unlit, row_some}
 use Rattle.report.proofs.Drawn.{turn_more, turn_fails, after_one, days_of_after}
 use Rattle.report.proofs.page.draw.Goals as goal
 
 pub returns-then-last-first-clause-text : goal.returns-then-last-first-clause-text
 returns-then-last-first-clause-text g c =
-    let p = c.args.sheet in
-    rw (drawn_none p.query.began p.query.long p.row c.args.lit.now c.args.stretch.from c.args.stretch.to _ _
+    let v = c.args.layout in
+    rw (drawn_none v c.args.row c.args.lit.now c.args.stretch.from c.args.stretch.to _ _
     c.at-first.ensures
     c.at-last.ensures c.if-last-first.true) (writes_all [] (Appends-nil _))
 
 pub returns-then-last-first-clause-row : goal.returns-then-last-first-clause-row
 returns-then-last-first-clause-row g c =
-    let p = c.args.sheet in
-    sym (row_none p.query.began p.query.long p.row c.args.lit.now c.args.stretch.from c.args.stretch.to _ _
+    let v = c.args.layout in
+    sym (row_undrawn v c.args.row c.args.lit.now c.args.stretch.from c.args.stretch.to _ _
     c.at-first.ensures
     c.at-last.ensures c.if-last-first.true)
 
 pub returns-then-not-burns-clause-text : goal.returns-then-not-burns-clause-text
 returns-then-not-burns-clause-text g c =
-    let p = c.args.sheet in
-    rw (drawn_unlit p.query.began p.query.long p.row c.args.lit.now c.args.stretch.from c.args.stretch.to _ _
+    let v = c.args.layout in
+    rw (drawn_unlit v c.args.row c.args.lit.now c.args.stretch.from c.args.stretch.to _ _
     c.at-first.ensures
     c.at-last.ensures (sym c.is_any-burns.ensures ∙ c.if-not-burns.true)) (writes_all [] (Appends-nil _))
 
 pub returns-then-not-burns-clause-row : goal.returns-then-not-burns-clause-row
 returns-then-not-burns-clause-row g c =
-    let p = c.args.sheet in
-    sym (row_unlit p.query.began p.query.long p.row c.args.lit.now c.args.stretch.from c.args.stretch.to _ _
+    let v = c.args.layout in
+    sym (row_unlit v c.args.row c.args.lit.now c.args.stretch.from c.args.stretch.to _ _
     c.at-first.ensures
     c.at-last.ensures (sym c.is_any-burns.ensures ∙ c.if-not-burns.true))
 
@@ -43,7 +43,7 @@ loop-before-init g c =
 
 pub loop-before-preserved : goal.loop-before-preserved
 loop-before-preserved g c =
-    let p = c.args.sheet in
+    let v = c.args.layout in
     let s = c.args.stretch in
     let at = c.at-first.result in
     let last = c.at-last.result in
@@ -51,21 +51,24 @@ loop-before-preserved g c =
     let before = c.loop-before.before in
     let begun = c.loop-before.auto.before in
     let known = c.loop-before.invariant in
-    let told = c.in_ok-row.ensures in
-    let drawn : DayRow → ℕ → List ℕ
-    = drawn_in p.query.began c.args.lit.now (note_of p.query.began p.query.long s.from s.to) at last s.from s.to in
+    let told = c.in_ok-open.ensures in
+    let drawn : PageRow → ℕ → List ℕ
+    = drawn_in v c.args.lit.now (note_of v.began v.long s.from s.to) at last s.from s.to in
+    let note = c.note_of-note.ensures in
     record {
-      row = (rw known.row at told.row)
-          ∙ sym (after_one drawn (row_after at last) p.row (first + 1) (before - first) _ (before + 1)
+      row = (rw (known.row, note) at told.row)
+          ∙ sym (after_one drawn (row_after v (note_of v.began v.long s.from s.to) at last) c.args.row (first + 1)
+          (before - first) _ (before + 1)
           (omega (arith, begun)) (omega (arith, begun)));
-      written = turn_more drawn (row_after at last) p.row (first + 1) (before - first) _ (before + 1) _ _ _
+      written = turn_more drawn (row_after v (note_of v.began v.long s.from s.to) at last) c.args.row (first + 1)
+          (before - first) _ (before + 1) _ _ _
           (omega (arith, begun)) (omega (arith, begun)) known.written
           (rw (known.row, c.note_of-note.ensures) at told.text.whole);
     }
 
-pub returns-in_err-row-clause-text : goal.returns-in_err-row-clause-text
-returns-in_err-row-clause-text g c =
-    let p = c.args.sheet in
+pub returns-in_err-open-clause-text : goal.returns-in_err-open-clause-text
+returns-in_err-open-clause-text g c =
+    let v = c.args.layout in
     let s = c.args.stretch in
     let at = c.at-first.result in
     let last = c.at-last.result in
@@ -75,17 +78,18 @@ returns-in_err-row-clause-text g c =
     let inside : before - first < days_of last - first
     = omega (arith, begun, c.loop-before-test.true, c.days_until-before-end.ensures) in
     let known = c.loop-before.invariant in
-    let drawn : DayRow → ℕ → List ℕ
-    = drawn_in p.query.began c.args.lit.now (note_of p.query.began p.query.long s.from s.to) at last s.from s.to in
-    rw (drawn_some p.query.began p.query.long p.row c.args.lit.now s.from s.to at last c.at-first.ensures
+    let drawn : PageRow → ℕ → List ℕ
+    = drawn_in v c.args.lit.now (note_of v.began v.long s.from s.to) at last s.from s.to in
+    rw (drawn_some v c.args.row c.args.lit.now s.from s.to at last c.at-first.ensures
     c.at-last.ensures c.if-last-first.false (sym c.is_any-burns.ensures ∙ c.if-not-burns.false))
-    (turn_fails drawn (row_after at last) p.row (first + 1) (before - first) (days_of last - first) (before + 1)
+    (turn_fails drawn (row_after v (note_of v.began v.long s.from s.to) at last) c.args.row (first + 1)
+    (before - first) (days_of last - first) (before + 1)
     (omega (arith, begun)) inside known.written
-    (rw (known.row, c.note_of-note.ensures) at c.in_err-row.ensures.text) c.from_residual.ensures)
+    (rw (known.row, c.note_of-note.ensures) at c.in_err-open.ensures.text) c.from_residual.ensures)
 
 pub returns-clause-text : goal.returns-clause-text
 returns-clause-text g c =
-    let p = c.args.sheet in
+    let v = c.args.layout in
     let s = c.args.stretch in
     let at = c.at-first.result in
     let last = c.at-last.result in
@@ -95,13 +99,13 @@ returns-clause-text g c =
     let end = c.loop-before.auto.before-end (omega (arith, some, until)) in
     let all : c.loop-before.before - first ≡ days_of last - first
     = omega (arith, c.loop-before-test.false, end, until) in
-    rw (drawn_some p.query.began p.query.long p.row c.args.lit.now s.from s.to at last c.at-first.ensures
+    rw (drawn_some v c.args.row c.args.lit.now s.from s.to at last c.at-first.ensures
     c.at-last.ensures c.if-last-first.false (sym c.is_any-burns.ensures ∙ c.if-not-burns.false))
     (writes_all _ (rw all at c.loop-before.invariant.written))
 
 pub returns-clause-row : goal.returns-clause-row
 returns-clause-row g c =
-    let p = c.args.sheet in
+    let v = c.args.layout in
     let s = c.args.stretch in
     let at = c.at-first.result in
     let last = c.at-last.result in
@@ -112,5 +116,5 @@ returns-clause-row g c =
     let all : c.loop-before.before - first ≡ days_of last - first
     = omega (arith, c.loop-before-test.false, end, until) in
     (rw all at c.loop-before.invariant.row)
-    ∙ sym (row_some p.query.began p.query.long p.row c.args.lit.now s.from s.to at last c.at-first.ensures
+    ∙ sym (row_some v c.args.row c.args.lit.now s.from s.to at last c.at-first.ensures
     c.at-last.ensures c.if-last-first.false (sym c.is_any-burns.ensures ∙ c.if-not-burns.false))

@@ -9,9 +9,10 @@ abbrev pub invariant-loop-before : goal.invariant-loop-before
 invariant-loop-before g l =
     let days = range_with_len (l.first / 86400 + 1) (l.before - l.first / 86400) in
     let s = l.fn.stretch in
+    let note = note_of l.layout.began l.layout.long s.from s.to in
     record {
-      row : l.row ≡ after_each (row_after l.first l.last) l.fn.sheet.row days;
+      row : l.open ≡ after_each (row_after l.layout note l.first l.last) l.fn.row days;
       written : Appends (g.W.ByteSink.contents l.initial.out) (g.W.ByteSink.contents l.out)
-          (each_from (drawn_in l.began l.lit (note_of l.began l.fn.sheet.query.long s.from s.to)
-          l.first l.last s.from s.to) (row_after l.first l.last) l.fn.sheet.row days);
+          (each_from (drawn_in l.layout l.lit note l.first l.last s.from s.to) (row_after l.layout note l.first l.last)
+          l.fn.row days);
     }

@@ -7,14 +7,7 @@ unfolding page_ended
 returns-in_err-end_days g c =
     writes_fails _ c.in_err-end_days.ensures c.from_residual.ensures
 
-pub returns-in_err-put_paragraph : goal.returns-in_err-put_paragraph
-unfolding page_ended
-returns-in_err-put_paragraph g c =
-    writes_then c.in_ok-end_days.ensures
-    (writes_fails _ c.in_err-put_paragraph.ensures c.from_residual-in_err-put_paragraph.ensures)
-
 pub returns : goal.returns
 unfolding page_ended
 returns g c =
-    writes_then c.in_ok-end_days.ensures
-    (writes_then c.in_ok-put_paragraph.ensures c.close.ensures)
+    writes_then c.in_ok-end_days.ensures c.put_paragraph.ensures

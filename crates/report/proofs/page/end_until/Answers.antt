@@ -13,16 +13,8 @@ returns-in_err-put_until g c =
     writes_then c.in_ok-end_days.ensures
     (writes_fails _ c.in_err-put_until.ensures c.from_residual-in_err-put_until.ensures)
 
-pub returns-in_err-put_paragraph : goal.returns-in_err-put_paragraph
-unfolding page_ended_until
-returns-in_err-put_paragraph g c =
-    writes_then c.in_ok-end_days.ensures
-    (writes_then c.in_ok-put_until.ensures
-    (writes_fails _ c.in_err-put_paragraph.ensures c.from_residual-in_err-put_paragraph.ensures))
-
 pub returns : goal.returns
 unfolding page_ended_until
 returns g c =
     writes_then c.in_ok-end_days.ensures
-    (writes_then c.in_ok-put_until.ensures
-    (writes_then c.in_ok-put_paragraph.ensures c.close.ensures))
+    (writes_then c.in_ok-put_until.ensures c.put_paragraph.ensures)

@@ -40,6 +40,7 @@ returns-clause-ok g c =
         h.2 ∙ line_left s e (map floor_event (texts_of ls)) watched,
         line_unplayed t line ls more (ap (λ (x : Watching). x.device) watched.state)
             (rw (more, c.text.ensures, c.in-Some-play.ensures.answer) at c.note.ensures.noted) h.3,
+        omega (arith, more, h.4),
       );
       overflows = λ ls h. line_over t line ls more watched h;
     })
