@@ -4,9 +4,8 @@
 --   numbers_of why rows         the same rows with the number that `why` gives each error
 --   by_rows rows refuse done    what is refused with that row; what is done where no row applies
 --   NoneOf rows                 no row applies
---   is_numbered row             its number is not 0, which no refusal has
 -- Assumes nothing.
-use Rattle.std.specs.Prelude.{ℕ, ◌≡◌, Bool, false, not, List, [], ◌∷◌, if◌then◌else◌, ◌==◌}
+use Rattle.std.specs.Prelude.{ℕ, ◌≡◌, Bool, false, List, [], ◌∷◌, if◌then◌else◌}
 
 infix 30 ◌when◌
 pub record RefusalRow (E : Type 0) : Type 0 where
@@ -31,6 +30,3 @@ by_rows (row ∷ rows) refuse done = if row.applies then refuse row.refusal else
 abbrev pub NoneOf : {E : Type 0} → List (RefusalRow E) → Type 0
 NoneOf [] = Unit {0}
 NoneOf (row ∷ rows) = (row.applies ≡ false) × NoneOf rows
-
-abbrev pub is_numbered : RefusalRow ℕ → Bool
-is_numbered row = not (row.refusal == 0)
