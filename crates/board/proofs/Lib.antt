@@ -4,5 +4,6 @@ pub mod Zipping
 mod FitsADay
 pub mod OneOfLists
 mod Unsayable
+mod LinesSent
 mod Played
 pub mod SessionsTold

@@ -2,7 +2,7 @@
 -- lasts until its connection is closed, and comes back by no call but an opening with its number.
 -- Assumes nothing.
 use Rattle.std.proofs.Common.{arith, ℕ, ◌≤◌, ◌<◌, ◌≡◌, refl, sym, ap, ◌∙◌, Bool, true, false, ◌&&◌}
-use Rattle.std.proofs.Common.{List, [], ◌∷◌, length, ◌⊎◌, ◌==◌, eqb-true, eq-eqb, Err}
+use Rattle.std.proofs.Common.{List, [], ◌∷◌, length, ◌⊎◌, ◌==◌, eqb-true, eq-eqb}
 use Rattle.text.specs.Outcomes.{CallResult, refused_as, call_number}
 use Rattle.text.specs.Rows.{first_of, numbers_of}
 use Rattle.text.proofs.Choices.{if_yes, both_left, both_right}
@@ -19,8 +19,7 @@ use Rattle.clock.proofs.ConnectionsAge.{untimed_stays}
 use Rattle.device.specs.Calls.{reply_room, new_connection, received_at, closed_by}
 use Rattle.device.proofs.Cases.{received_by, closed_by_lem, greeted_by_lem}
 use Rattle.device.proofs.Numbers.{received_number, closed_number}
-use Rattle.ours.specs.Board.{Lent, ours, given_in, received_in}
-use Rattle.ours.specs.Tied.{given_as}
+use Rattle.ours.specs.Board.{Given, Lent, ours, given_in, received_in}
 use Rattle.demands.specs.Calls.{Call, opens, closes, receives, passes, faults, reports, enables, after, run}
 use Rattle.demands.specs.Beside.{ClosedOr}
 use Rattle.demands.proofs.CallsDo.{call_by, connection_at-served, connection_left, IsServed}
@@ -63,15 +62,17 @@ module _ (d : Device) (p r : ℕ) where
         → (session_received d p r bs m).number ≡ 4
     others_number other legal enough there = grind arith
 
+  abbrev refused_given : ℕ → Given Device
+  refused_given n = record { number = n; device = d }
+
   closing_refused : (e : Refusal) → (refusal_number e ≡ 0 → ⊥)
       → call_number refusal_number (closed_by d p) ≡ refusal_number e
-      → given_as refusal_number (Err e) d ≡ given_in refusal_number (closed_by d p)
+      → refused_given (refusal_number e) ≡ given_in refusal_number (closed_by d p)
   closing_refused e some =
       closed_by_lem d p
       (λ c. call_number refusal_number c ≡ refusal_number e
-      → given_as refusal_number (Err e) d ≡ given_in refusal_number c)
-      (λ k other same. ap (λ (n : ℕ). record { number = n; device = d }) (sym same))
-      (λ h t c same. absurd (some (sym same)))
+      → refused_given (refusal_number e) ≡ given_in refusal_number c)
+      (λ k other same. ap refused_given (sym same)) (λ h t c same. absurd (some (sym same)))
 
   pub own_closing : is_session d p r ≡ true → session_closed d p r ≡ ours.closing d p
   own_closing its = grind (arith, closing_refused, closed_number)

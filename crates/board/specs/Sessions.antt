@@ -12,7 +12,7 @@
 --   places_closed d e      the places that are: bit p for place p
 --   passing_of d g         the result of passing time on d that gave g
 -- Assumes nothing.
-use Rattle.std.specs.Prelude.{ℕ, ◌+◌, Bool, true, not, ◌&&◌, List, [], ◌∷◌, length, if◌then◌else◌, nat_lt, ◌==◌, Err}
+use Rattle.std.specs.Prelude.{ℕ, ◌+◌, Bool, true, not, ◌&&◌, List, [], ◌∷◌, length, if◌then◌else◌, nat_lt, ◌==◌}
 use Rattle.text.specs.Rows.{RefusalRow, ◌when◌, by_rows}
 use Rattle.text.specs.Outcomes.{refused_as}
 use Rattle.record.specs.Legal.{is_legal}
@@ -24,7 +24,6 @@ use Rattle.record.specs.declared.types.Connection.{Connection}
 use Rattle.record.specs.declared.types.Device.{Device}
 use Rattle.device.specs.Calls.{reply_room, is_no_place}
 use Rattle.ours.specs.Board.{Given, Lent, received_in, ours}
-use Rattle.ours.specs.Tied.{given_as}
 use Rattle.demands.specs.Calls.{Call, opens}
 use Rattle.board.specs.declared.sessions.Passing.{Passing}
 
@@ -49,7 +48,7 @@ session_closing_rows d p r =
 
 abbrev pub session_closed : Device → ℕ → ℕ → Given Device
 session_closed d p r =
-    by_rows (session_closing_rows d p r) (λ e. given_as refusal_number (Err e) d) (ours.closing d p)
+    by_rows (session_closing_rows d p r) (λ e. record { number = refusal_number e; device = d }) (ours.closing d p)
 
 -- ---- over any calls
 

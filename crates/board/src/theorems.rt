@@ -2,7 +2,7 @@
 // is that the theorems stand.
 ghost use Rattle.std.specs.Prelude.{[], ◌∷◌, ◌≡◌, ◌≢◌, ◌≤◌, ℕ, ℤ, List, length, Bool, true, not, if◌then◌else◌, nat_lt};
 ghost use Rattle.std.specs.Prelude.{Option, Some, None, Result, ◌<◌, ◌==◌, ◌⊎◌, false};
-ghost use Rattle.text.specs.Rows.{first_of};
+ghost use Rattle.text.specs.Rows.{first_of, numbers_of};
 ghost use Rattle.record.specs.Legal.{is_legal};
 ghost use Rattle.record.specs.Limits.{places_count};
 ghost use Rattle.record.specs.Places.{connection_at, is_closed};

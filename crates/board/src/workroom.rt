@@ -70,6 +70,7 @@ pub extern "C" fn pj_panel_add_in_place(panel: &mut Panel, password: &[u8]) -> u
 
 /// Writes the line of a command to a projector to the start of `out`. Errors, in this order: 1, 2, 3, 9.
 #[unsafe(no_mangle)]
+#[tactic(auto, using(crate::proofs::LinesSent::length_sent))]
 pub extern "C" fn pj_panel_command_in_place(
     panel: &mut Panel,
     projector: usize,
