@@ -113,8 +113,8 @@ pub extern "C" fn pj_log_received(
     bytes: &[u8],
     out: &mut [u8],
 ) -> Written
-    ensures says { result
-        ≡ writing_of refusal_number (with_length (recorded_by log.old (call (receives place bytes.now)) (length out.old))) }
+    ensures says { result ≡ writing_of refusal_number
+        (with_length (recorded_by log.old (call (receives place bytes.now)) (length out.old))) }
     ensures kept { log.new ≡ (recorded_by log.old (call (receives place bytes.now)) (length out.old)).leaves }
     ensures written { out.new
         ≡ over (recorded_by log.old (call (receives place bytes.now)) (length out.old)).bytes out.old }

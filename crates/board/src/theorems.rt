@@ -160,7 +160,8 @@ pub fn one_result()
     ensures connection_lost { (p : Panel) (i : ℕ) (r s : PanelChanged)
         → r ≡ panel_changed_of (ours_panel.lose p i) → s ≡ panel_changed_of (ours_panel.lose p i) → r ≡ s }
     ensures setting { (w : Wanted) (r s : ℕ)
-        → r ≡ setting_number (setting_told (set_up w).says) → s ≡ setting_number (setting_told (set_up w).says) → r ≡ s }
+        → r ≡ setting_number (setting_told (set_up w).says) → s ≡ setting_number (setting_told (set_up w).says)
+        → r ≡ s }
 {}
 
 /// A session's own bytes get what receiving gives, and its closing what closing gives. A call that names another

@@ -12,9 +12,10 @@ module _ (d : Device) (n : ℕ) where
   abbrev number : Bool → ℕ
   number legal = if legal then 0 else 1
 
-  pub time_passed-number : call_number refusal_number (time_passed d n) ≡ (if is_legal d then 0 else 1)
-  time_passed-number =
-      passed_by (λ r. call_number refusal_number r ≡ number (is_legal d)) d n (λ h. sym (ap number h)) (λ h. sym (ap number h))
+  pub passed_number : call_number refusal_number (time_passed d n) ≡ (if is_legal d then 0 else 1)
+  passed_number =
+      passed_by (λ r. call_number refusal_number r ≡ number (is_legal d)) d n (λ h. sym (ap number h))
+      (λ h. sym (ap number h))
 
   pub passed_refusal : (call_number refusal_number (time_passed d n) ≡ 0 → ⊥) → (time_passed d n).leaves ≡ d
   passed_refusal =

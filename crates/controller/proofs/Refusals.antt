@@ -20,8 +20,8 @@ module _ (c : Command) (secured : Bool) (random : ℕ) (password : List ℕ) (ro
   pub refusal_writes_nothing : (call_number unwritten_number (written_command c secured random password room) ≡ 0 → ⊥)
       → (written_command c secured random password room).bytes ≡ []
   refusal_writes_nothing =
-      written_by c secured random password room (λ w. (call_number unwritten_number w ≡ 0 → ⊥) → w.bytes ≡ []) (λ h n. refl)
-      (λ h w n. refl) (λ h w n. absurd (n refl))
+      written_by c secured random password room (λ w. (call_number unwritten_number w ≡ 0 → ⊥) → w.bytes ≡ [])
+      (λ h n. refl) (λ h w n. refl) (λ h w n. absurd (n refl))
 
 module _ (c : Command) where
   unsaid : (m : Said) → ((saying m).outcome ≡ means_it → ⊥) → m ≡ nothing

@@ -13,7 +13,8 @@ use Rattle.record.proofs.LegalTold.{own_of_legal}
 use Rattle.record.proofs.MarksTold.{marks_long}
 use Rattle.record.proofs.Calls.{set_up_accepted}
 use Rattle.record.proofs.Started.{started_parts}
-use Rattle.stored.specs.Form.{form_version, marked_form_of, old_form_of, stored_of, marks_stored, stored_form, stored_by}
+use Rattle.stored.specs.Form.{form_version, marked_form_of, old_form_of, stored_of, marks_stored, stored_form}
+use Rattle.stored.specs.Form.{stored_by}
 use Rattle.stored.proofs.Results.{StoredTold, stored_told, accepted_set_up, older_is_class_1}
 use Rattle.stored.specs.Loading.{started_with, loaded_from}
 use Rattle.stored.specs.Told.{load_error_number}

@@ -120,7 +120,8 @@ call_by d (faults fault) P refused serves =
     (λ legal. serves (record { legal = legal; there = tt }))
 call_by d (reports errors) P refused serves =
     errors_set_by d (λ c. P (gave_number (given_in refusal_number c)) c.leaves) errors
-    (refused 1 (λ z. omega arith)) (refused 3 (λ z. omega arith)) (λ legal right. serves (record { legal = legal; there = tt }))
+    (refused 1 (λ z. omega arith)) (refused 3 (λ z. omega arith))
+    (λ legal right. serves (record { legal = legal; there = tt }))
 call_by d (enables lamp mark) P refused serves =
     mark_set_by d (λ c. P (gave_number (given_in refusal_number c)) c.leaves) lamp mark
     (λ e. refused (refusal_number e))

@@ -3,8 +3,8 @@
 -- given, takes nothing and writes nothing; and none makes a legal record otherwise. A refusal replies nothing; a
 -- reply has at most 136 bytes, and a digest with a command's line at most 168: no more than what the calls ask for.
 -- Assumes nothing.
-use Rattle.std.proofs.Common.{ℕ, ◌≤◌, ◌≡◌, ap, List, [], arith, length, take, drop, length-append, length-drop, Bool, ◌++◌}
-use Rattle.std.proofs.Common.{true, false, refl, ◌∙◌, not, ◌∷◌, if◌then◌else◌}
+use Rattle.std.proofs.Common.{ℕ, ◌≤◌, ◌≡◌, ap, List, [], arith, length, take, drop, length-append, length-drop, Bool}
+use Rattle.std.proofs.Common.{◌++◌, true, false, refl, ◌∙◌, not, ◌∷◌, if◌then◌else◌}
 use Rattle.std.proofs.Math.Seq.{take-append_seam, drop-append_seam}
 use Rattle.text.specs.Outcomes.{CallResult, call_number, number_answered}
 use Rattle.text.specs.Words.{over}
@@ -39,7 +39,7 @@ use Rattle.record.specs.Wanted.{Wanted}
 use Rattle.record.specs.Legal.{is_legal}
 use Rattle.record.proofs.Results.{set_up_number as set-up-table, fault_number, errors_number, mark_number}
 use Rattle.record.proofs.Results.{fault_refusal, errors_refusal, mark_refusal, set_up_refusal}
-use Rattle.clock.proofs.Results.{time_passed-number, passed_refusal}
+use Rattle.clock.proofs.Results.{passed_number, passed_refusal}
 use Rattle.device.proofs.Numbers.{received_number, opened_number, closed_number}
 use Rattle.controller.specs.Reading.{reading_outcome_number, means_it, erra_said, not_a_line, other_command, disallowed}
 use Rattle.pjlink.specs.Greetings.{greets, random_in, read_greeting, greeting_number}
@@ -88,9 +88,10 @@ module _ (d : Device) (m : List ℕ) where
 
 pub stays_inside : (d : Device) (c : Call) → StaysInside ours d c
 stays_inside d (opens random m) = lent_inside d m 0 _ (opened_fits d m random)
-stays_inside d (receives p bs m) =
-    (lent_inside d m (number_answered (received_at d p bs (length m))) _ (received_fits d m p bs),
-    received_within d p bs (length m))
+stays_inside d (receives p bs m) = (
+  lent_inside d m (number_answered (received_at d p bs (length m))) _ (received_fits d m p bs),
+  received_within d p bs (length m),
+)
 stays_inside d c = tt
 
 -- what a call that writes gives in numbers has its number
@@ -128,7 +129,7 @@ number_is_first d c =
       opened_number,
       closed_number,
       received_number,
-      time_passed-number,
+      passed_number,
       fault_number,
       errors_number,
       mark_number,

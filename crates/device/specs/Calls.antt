@@ -46,7 +46,8 @@ opening_rows d room =
 
 abbrev pub closing_rows : Device → ℕ → List (RefusalRow Refusal)
 closing_rows d p =
-    (NotLegal when not (is_legal d)) ∷ (OutOfRange when is_no_place p) ∷ (Closed when is_closed (connection_at d p)) ∷ []
+    (NotLegal when not (is_legal d)) ∷ (OutOfRange when is_no_place p)
+    ∷ (Closed when is_closed (connection_at d p)) ∷ []
 
 abbrev pub accepted_taken : Device → ℕ → Taken → CallResult Refusal ℕ Device
 accepted_taken d p t = served_as t.taken t.ended.reply (with_place d t.ended.own p t.ended.connection)

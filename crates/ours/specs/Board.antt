@@ -9,6 +9,8 @@
 --   given_in why c      the call's result c in a board's numbers: the number, by `why`, and the record
 --   lent_in why taken c m   the same of one that borrows the reply memory m and takes so many bytes
 --   received_in c m, opened_in c m   of receiving, which answers how many bytes it takes; of opening, which takes none
+--   wrote_in why c m    of one that writes, and leaves no record;    wrote_as why r m   of what it returned, and the
+--                       memory that it left
 --   ours          our calls: beside each, the function whose contract says this very definition
 -- Assumes nothing.
 use Rattle.std.specs.Prelude.{ℕ, Bool, List, Option, Result, length, take}

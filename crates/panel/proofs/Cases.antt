@@ -17,8 +17,8 @@ use Rattle.panel.specs.Entries.{fresh_entry, blank_entry}
 use Rattle.panel.specs.Stepping.{is_unready}
 use Rattle.panel.specs.Hearing.{HeardAs, line_heard}
 use Rattle.panel.specs.LegalPanels.{panel_most, is_panel}
-use Rattle.panel.specs.PanelCalls.{entry_at, grown_by, adding_rows, commanding_rows, projector_rows, added_to, sent_at, command_at}
-use Rattle.panel.specs.PanelCalls.{heard_at, stepped_at, told_at, lost_as, lost_at}
+use Rattle.panel.specs.PanelCalls.{entry_at, grown_by, adding_rows, commanding_rows, projector_rows, added_to}
+use Rattle.panel.specs.PanelCalls.{sent_at, command_at, heard_at, stepped_at, told_at, lost_as, lost_at}
 use Rattle.panel.specs.Refusals.{panel_refusal_number}
 use Rattle.panel.specs.declared.types.PanelEntry.{PanelEntry}
 use Rattle.panel.specs.declared.types.Panel.{Panel}

@@ -3,7 +3,8 @@
 --   AnyPanel        `none`: the panel of no projector; `add p s`: a projector more, with the password s; `command p i k
 --                   room`: the command k to the projector i, with so much memory for its line; `hear p i l`: the line l
 --                   from the projector i; `tell p i l`: what that line was; `lose p i`: its connection is gone
---   PanelAs         what a call gives: its number, the line to be sent, the panel;    panel_in c   of a call's result
+--   PanelAs         what a call gives: its number, the line to be sent, the panel
+--   panel_in c      this of our call's result;    panel_made p   of a call that sends nothing and leaves p
 --   ours_panel      our calls: beside each, the function whose contract says this field, and with it the one of C
 --   ours_hearing f  our panel, with f in the place of the step
 -- Assumes nothing.

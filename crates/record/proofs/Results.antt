@@ -60,10 +60,11 @@ module _ (w : Wanted) where
   gives_8_password = grind (arith, set_up_cases)
 
   -- the first that is out of its range, a short password being in its range
-  pub gives_3_first : call_number set_up_error_number (set_up w) ≡ 3 → setting_told (set_up w).says ≡ first_out_of_range w
+  pub gives_3_first : call_number set_up_error_number (set_up w) ≡ 3
+      → setting_told (set_up w).says ≡ first_out_of_range w
   gives_3_first =
-      set_up_cases w (λ r. call_number set_up_error_number r ≡ 3 → setting_told r.says ≡ first_out_of_range w) (λ s e h. sym e)
-      (λ k l h. cc) (λ k l h. cc)
+      set_up_cases w (λ r. call_number set_up_error_number r ≡ 3 → setting_told r.says ≡ first_out_of_range w)
+      (λ s e h. sym e) (λ k l h. cc) (λ k l h. cc)
 
 module _ (d : Device) where
   abbrev illegal : Bool

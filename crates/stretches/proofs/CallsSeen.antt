@@ -45,8 +45,8 @@ module _ (w : Wanted) (g : Stage) (ms : List Bool) (n : ℕ → ℕ) (stream : S
       if_all (Seen g 0) _ (one_or_none (Seen g 0) _ _ (nothing refl) (λ wanted. power wanted refl)) (nothing refl)
   seen_of_call (passes k) =
       subst (Seen g k) (sym (if_yes _ _
-      (ap (λ (r : CallResult Refusal (Unit {0}) Device). call_number refusal_number r == 0) (passed_accepted d k legal))))
-      time
+      (ap (λ (r : CallResult Refusal (Unit {0}) Device). call_number refusal_number r == 0)
+      (passed_accepted d k legal)))) time
   seen_of_call (enables lamp to) =
       mark_set_by d
       (λ c. Seen g 0 (if call_number refusal_number c == 0 then mark_switched lamp to ∷ [] else [])) lamp to

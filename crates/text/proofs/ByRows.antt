@@ -30,8 +30,8 @@ module _ {R : Type 0} (refuse : ℕ → R) (done : R) where
 
 -- of any refusals: numbers, or errors
 module _ {E R : Type 0} (refuse : E → R) (done : R) where
-  pub by_rows_cases : (P : R → Type 0) → ((e : E) → P (refuse e)) → (rows : List (RefusalRow E)) → (NoneOf rows → P done)
-      → P (by_rows rows refuse done)
+  pub by_rows_cases : (P : R → Type 0) → ((e : E) → P (refuse e)) → (rows : List (RefusalRow E))
+      → (NoneOf rows → P done) → P (by_rows rows refuse done)
   by_rows_cases P refused [] does = does tt
   by_rows_cases P refused (row ∷ rows) does =
       if_by P row.applies (λ e. refused row.refusal)

@@ -1,6 +1,6 @@
 -- The result of a call (RULES, The numbers a call gives): it is refused for an error, or served.
---   CallResult E A D        what a call gives: an error of E, or an answer of A; the bytes that it writes from the start
---                           of the memory that it borrows; and the record, of D, that it leaves
+--   CallResult E A D        what a call gives: an error of E, or an answer of A; the bytes that it writes from the
+--                           start of the memory that it borrows; and the record, of D, that it leaves
 --   served_as a bs d        what a served call gives
 --   refused_as d e          what a refused one gives: no bytes, and the record as it was
 --   outcome_number why r    the number of what a call returns: 0 if it is served, else that of its error, by `why`

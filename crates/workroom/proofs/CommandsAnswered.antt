@@ -37,7 +37,8 @@ use Rattle.controller.proofs.ReadsBack.{reply_read}
 use Rattle.codes.specs.Commands.{coded_command}
 use Rattle.codes.specs.declared.command.Coded.{Coded}
 use Rattle.codes.proofs.CodesBack.{command_writable}
-use Rattle.panel.specs.AnyPanel.{ours_panel}
+use Rattle.panel.specs.AnyPanel.{panel_in, ours_panel}
+use Rattle.panel.specs.Refusals.{panel_refusal_number}
 use Rattle.panel.specs.Entries.{Talk, talk_of, shown_of, password_in, ungreeted, is_secured_talk, leads_next}
 use Rattle.panel.specs.Showing.{showing}
 use Rattle.panel.specs.Stepping.{answered_entry, sent_entry, heard_line, is_unready, line_sent}
@@ -119,7 +120,7 @@ module _ (i p : ℕ) (w : Workroom) (j : IsJoined i p w) where
     abbrev led_line : List ℕ
     led_line = leading_digest connection.random (set_up_password device.settings) ++ command_line c
 
-    taken_by_fit : (r : ℕ → Result Device) → (connection.phase ≡ phase_open → Answers r (command_line c))
+    taken_by_fit : (r : ℕ → CallResult Refusal ℕ Device) → (connection.phase ≡ phase_open → Answers r (command_line c))
         → (connection.phase ≡ phase_awaiting → Answers r led_line) → Fit (talk_of entry) connection → Answers r sent
     taken_by_fit r plain led (both_open phase greeted later) =
         subst (Answers r) (sym (led_alike false later refl)) (plain phase)
@@ -179,7 +180,8 @@ module _ (i p : ℕ) (w : Workroom) (j : IsJoined i p w) where
       asking = happened ours_panel i p w (asks k there back)
 
       -- a line that is taken whole, and what comes back of it
-      asked_as_lem : (r : ℕ → Result Device) → Answers r sent → number_answered (r (length sent)) ≡ length sent
+      asked_as_lem : (r : ℕ → CallResult Refusal ℕ Device) → Answers r sent
+          → number_answered (r (length sent)) ≡ length sent
           → asking
           ≡ room_of (delivered ours_panel i sending.leaves back (r (length sent)).bytes) (r (length sent)).leaves
       asked_as_lem r taken whole = grind (arith, done_sending, handed_in_cuts, fit_live)
@@ -245,8 +247,8 @@ module _ (i p : ℕ) (w : Workroom) (j : IsJoined i p w) where
     -- of a code that stands for nothing nothing is sent
     refused_so : coded_command k ≡ None → then ≡ w
     refused_so none =
-        commanded_by w.panel i k command_room (λ r. asked_as ours_panel i p r device there back ≡ w)
-        (λ n other. if_no _ _ (ne_eqb n 0 other)) (λ can. cc (ap is_some none, can.named))
+        commanded_by w.panel i k command_room (λ r. asked_as ours_panel i p (panel_in r) device there back ≡ w)
+        (λ e other. if_no _ _ (ne_eqb (panel_refusal_number e) 0 other)) (λ can. cc (ap is_some none, can.named))
 
     -- once something was asked the connection is open, answered or not, and an open one stays so
     pub asked_open : is_some (coded_command k) ≡ true → (our_connection p then).phase ≡ phase_open

@@ -160,8 +160,8 @@ module _ (i p : ℕ) (w : Workroom) (known : IsAcquainted i w) (place : p < plac
           closed_by_lem before p (λ r. is_closed (connection_at r.leaves p) ≡ true) (λ n other. e)
           (λ legal there live. ap is_closed (closes ∙ closed_spelt))
       by false e =
-          ap (λ (r : CallResult Refusal (Unit {0}) Device). is_closed (connection_at r.leaves p)) (closed_at_place before p known.device place
-          e)
+          ap (λ (r : CallResult Refusal (Unit {0}) Device). is_closed (connection_at r.leaves p))
+          (closed_at_place before p known.device place e)
           ∙ ap is_closed (closes ∙ closed_spelt)
 
   pub parted_apart : PartedAs i w (parted ours_panel i p w)

@@ -45,7 +45,8 @@ module _ (p : Panel) (i : ℕ) (served : IsServed p i) where
 
   pub entry_at-lost_at : entry_at (lost_at p i).leaves i ≡ lost_entry (entry_at p i)
   entry_at-lost_at =
-      ap (λ (r : CallResult PanelRefusal (Unit {0}) Panel). entry_at r.leaves i) (lost_done p i served.legal served.there)
+      ap (λ (r : CallResult PanelRefusal (Unit {0}) Panel). entry_at r.leaves i)
+      (lost_done p i served.legal served.there)
       ∙ placed _
 
   pub lost_served : IsServed (lost_at p i).leaves i

@@ -10,6 +10,7 @@ use Rattle.codes.specs.declared.command.Coded.{Coded}
 use Rattle.codes.proofs.CodesBack.{command_writable}
 use Rattle.panel.specs.AnyPanel.{PanelAs, panel_in, ours_panel}
 use Rattle.panel.specs.Entries.{fresh_entry, blank_entry}
+use Rattle.panel.specs.Hearing.{HeardAs}
 use Rattle.panel.specs.Stepping.{lost_entry, sent_entry, line_sent}
 use Rattle.panel.specs.LegalPanels.{panel_most, is_panel}
 use Rattle.panel.specs.PanelCalls.{entry_at, with_entry, grown_by, adding_rows, commanding_rows}
@@ -51,8 +52,8 @@ module _ (p : Panel) (line : List ℕ) (Left : Panel → Type 0) where
     pub line_sent_then : r.number ≡ 0 → r.line ≡ line
     pub left_then : r.number ≡ 0 → Left r.panel
 
-  refusals : {A : Type 0} → Refusals {A = A} p (λ c. ByCases (panel_in c))
-  refusals e some = record {
+  refusals : (A : Type 0) → Refusals {A = A} p (λ c. ByCases (panel_in c))
+  refusals A e some = record {
     kept = λ other. (refl, refl);
     line_sent_then = λ z. absurd (some z);
     left_then = λ z. absurd (some z);
@@ -76,7 +77,7 @@ module _ (p : Panel) where
   adds s =
       let Left = GrownBy p (fresh_entry s) in
       call_done p [] Left (adding_rows p s) (panel_in (added_to p s)) (adding_number p s)
-      (added_by p s (λ c. ByCases p [] Left (panel_in c)) (refusals p [] Left)
+      (added_by p s (λ c. ByCases p [] Left (panel_in c)) (refusals p [] Left (Unit {0}))
       (λ legal word free. done p [] Left refl refl (grown p legal free (fresh_entry s))))
       (λ legal. added_stays_legal p legal s)
 
@@ -97,7 +98,7 @@ module _ (p : Panel) where
         let Left = OnlyThere p i (sent_entry (entry_at p i) k) in
         call_done p line Left (commanding_rows p i k room) (panel_in (command_at p i k room))
         (commanding_number p i k room)
-        (commanded_by p i k room (λ c. ByCases p line Left (panel_in c)) (refusals p line Left)
+        (commanded_by p i k room (λ c. ByCases p line Left (panel_in c)) (refusals p line Left (Unit {0}))
         (λ can. done p line Left refl (due k room (coded_command k) refl can)
         (only_there p can.legal i can.there (sent_entry (entry_at p i) k))))
         (λ legal. commanded_stays_legal p legal i k room)
@@ -105,7 +106,7 @@ module _ (p : Panel) where
     hears : (l : List ℕ) → CallDone p (projector_rows p i) [] (λ q. Unit {0}) (panel_in (stepped_at p i l))
     hears l =
         call_done p [] (λ q. Unit {0}) (projector_rows p i) (panel_in (stepped_at p i l)) (hearing_number p i l)
-        (stepped_by p i l (λ c. ByCases p [] (λ q. Unit {0}) (panel_in c)) (refusals p [] (λ q. Unit {0}))
+        (stepped_by p i l (λ c. ByCases p [] (λ q. Unit {0}) (panel_in c)) (refusals p [] (λ q. Unit {0}) HeardAs)
         (λ legal there. done p [] (λ q. Unit {0}) refl refl tt))
         (λ legal. stepped_stays_legal p legal i l)
 
@@ -114,7 +115,7 @@ module _ (p : Panel) where
     loses =
         let Left = OnlyThere p i (lost_entry (entry_at p i)) in
         call_done p [] Left (projector_rows p i) (panel_in (lost_at p i)) (losing_number p i)
-        (lost_by p i (λ c. ByCases p [] Left (panel_in c)) (refusals p [] Left)
+        (lost_by p i (λ c. ByCases p [] Left (panel_in c)) (refusals p [] Left (Unit {0}))
         (λ legal there. done p [] Left refl refl (only_there p legal i there (lost_entry (entry_at p i)))))
         (λ legal. lost_stays_legal p legal i)
 
