@@ -134,7 +134,8 @@ pub const MISTAKES: &[(&str, Wrong)] = &[
         Some(sheet.with([(any(bands.collect(), random)?.lane.width.range(), wide)]))
     }),
     ("a band ends with the log", |sheet, _| {
-        let (place, span) = sheet.spans().into_iter().map(|place| (place, &sheet.drawn.spans[place])).last()?;
+        let place = sheet.spans().pop()?;
+        let span = &sheet.drawn.spans[place];
         let days = sheet.drawn.days.checked_sub(span.first - 1).filter(|days| *days < span.last + 1 - span.first)?;
         let band = sheet.picture_of(place).bands.first()?;
         Some(sheet.with([(band.lane.width.range(), (days as u64 * 86_400).to_string())]))

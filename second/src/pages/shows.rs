@@ -63,9 +63,8 @@ fn is_band(band: &Band, drawn: &Drawn, span: &Span) -> Result<(), String> {
     is_number(band.lane.x, from)?;
     is_number(band.lane.width, to - from)?;
     let lines = drawn.scale.lines();
-    match band.lines.iter().find(|line| !lines.contains(line) || **line < from || **line > to) {
-        Some(line) => return Err(format!("byte {}: a line at the second {line}", band.lane.range.start)),
-        None => (),
+    if let Some(line) = band.lines.iter().find(|line| !lines.contains(line) || **line < from || **line > to) {
+        return Err(format!("byte {}: a line at the second {line}", band.lane.range.start));
     }
     match lines.iter().find(|line| from < **line && **line < to && !band.lines.contains(line)) {
         Some(line) => Err(format!("byte {}: no line at the second {line}", band.lane.range.start)),
