@@ -1,7 +1,8 @@
 -- A page is what its parts write, one after the other; a log that is known does not change.
 -- Assumes nothing.
 use Rattle.std.proofs.Common.{ℕ, ◌≡◌, ◌&&◌, refl, sym, subst, ap, ◌∙◌, Bool, true, List, arith, eq-eqb}
-use Rattle.std.proofs.Common.{Result, Ok, Err, OnOk, IfOk, IfErr, IfSome, IsOk, Some, None}
+use Rattle.std.proofs.Common.{Result, Ok, Err, OnOk, IfOk, IfErr, IfSome, Some, None}
+use Rattle.std.specs.Prelude.{is_ok}
 use Rattle.std.specs.declared.option.Option.{Option}
 use Rattle.std.specs.declared.io.Error.{Error}
 use Rattle.std.specs.Io.KnownBytes.{Appends}
@@ -40,13 +41,12 @@ alike_so {e = e} {f = f} x y =
 pub changed_unknown : (writes : Error → Type 0) (long : List ℕ → Type 0) (known : Option (List ℕ)) (d : Device)
     (sum : ℕ) (e f : LogEnding) (r : Result LogEnding CutOff)
     → IfSome known (λ log. EndsSo d sum log e) → IfSome known (λ log. EndsSo d sum log f)
-    → (are_alike e f ≡ true → IsOk r) → IfErr r (λ cut. cut.cause ≡ Changed)
+    → is_ok r ≡ are_alike e f → IfErr r (λ cut. cut.cause ≡ Changed)
     → IfErr r (λ cut. CutsOff writes long known cut.cause)
-unfolding IsOk
 changed_unknown writes long known d sum e f (Ok v) x y alike is = tt
 changed_unknown writes long None d sum e f (Err cut) x y alike is =
     subst (λ (c : CutCause). CutsOff writes long None c) (sym is) refl
-changed_unknown writes long (Some log) d sum e f (Err cut) x y alike is = absurd (alike (alike_so x y))
+changed_unknown writes long (Some log) d sum e f (Err cut) x y alike is = let same = alike ∙ alike_so x y in cc
 
 module _ (a : AskedFor) (b : Begun) (q : Query) (o0 o1 : Option (List ℕ)) where
   pub survey_front : (k : Option (List ℕ)) → IfSome k (λ log. WritesFront o0 o1 (part_told a b Survey log))

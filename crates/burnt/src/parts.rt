@@ -1,5 +1,5 @@
 // A report in its parts: each reads the whole log, from its start (RULES, The programs).
-ghost use Rattle.std.specs.Prelude.{◌≡◌, [], true, false, IsOk, IsErr, OnOk, IfOk, IfErr, IfSome, option_map};
+ghost use Rattle.std.specs.Prelude.{◌≡◌, [], OnOk, IfOk, IfErr, IfSome, is_ok, option_map};
 ghost use Rattle.std.specs.Io.KnownBytes.{Appends};
 ghost use Rattle.textio.specs.Fronts.{WritesFront};
 ghost use Rattle.command.specs.Asked.{asked_seen};
@@ -61,8 +61,7 @@ fn are_alike(one: &LogEnding, other: &LogEnding) -> bool
 
 // The ending of a reading, if an earlier one ended alike; else the log changed.
 fn unchanged<'w>(earlier: &LogEnding, ending: LogEnding) -> Result<LogEnding, CutOff<'w>>
-    ensures alike { are_alike earlier.now ending ≡ true → IsOk result }
-    ensures unlike { are_alike earlier.now ending ≡ false → IsErr result }
+    ensures alike { is_ok result ≡ are_alike earlier.now ending }
     ensures same { IfOk result (λ e. e ≡ ending) }
     ensures changed { IfErr result (λ cut. cut.cause ≡ Changed) }
 {
