@@ -111,170 +111,175 @@ begun_so begun sum way a aw ar at al au b bw br bt bl bn bx o is kind = record {
 
 module _ {begun : Device} {sum : ℕ} (head : List ℕ) {way : Report} {o : Both} (n : IsBegun begun sum way o)
   where
-  of_kind : (ls : List LogLine) → is_history_from o.kind ls ≡ is_history ls
-  of_kind ls = ap (λ k. is_history_from k ls) n.kind
+    of_kind : (ls : List LogLine) → is_history_from o.kind ls ≡ is_history ls
+    of_kind ls = ap (λ k. is_history_from k ls) n.kind
 
-  pub all_told : (log : List ℕ)
-      → head ++ writes o (kept_lines log) ≡ told begun sum head way log
-  all_told log =
-      ap (λ (t : Bool). head
-      ++ (if t then teller_writes o.history (kept_lines log) else teller_told o.events (kept_lines log)))
-      (of_kind (kept_lines log))
-      ∙ by (is_history (kept_lines log))
-    where
-      by : (t : Bool)
-          → head
-          ++ (if t then teller_writes o.history (kept_lines log) else teller_told o.events (kept_lines log))
-          ≡ (if t then chain_told begun sum head way log else log_told begun head way log)
-      by true =
-          chain_begins begun sum head way o.history n.chain_starts n.chain_report n.chain_watch n.log n.lines n.stray
-          log
-      by false = teller_begun begun head way o.events n.starts n.report n.watch n.floor_lines n.unplayed log
+    pub all_told : (log : List ℕ)
+        → head ++ writes o (kept_lines log) ≡ told begun sum head way log
+    all_told log =
+        ap (λ (t : Bool). head
+        ++ (if t then teller_writes o.history (kept_lines log) else teller_told o.events (kept_lines log)))
+        (of_kind (kept_lines log))
+        ∙ by (is_history (kept_lines log))
+      where
+        by : (t : Bool)
+            → head
+            ++ (if t then teller_writes o.history (kept_lines log) else teller_told o.events (kept_lines log))
+            ≡ (if t then chain_told begun sum head way log else log_told begun head way log)
+        by true =
+            chain_begins begun sum head way o.history n.chain_starts n.chain_report n.chain_watch n.log n.lines n.stray
+            log
+        by false = teller_begun begun head way o.events n.starts n.report n.watch n.floor_lines n.unplayed log
 
-  pub too_much : (log : List ℕ) → IsTooLong log ⊎ Overflows o (kept_lines log) → IsTooMuch log
-  too_much log h = by (is_history (kept_lines log)) (moved h)
-    where
-      moved : IsTooLong log ⊎ Overflows o (kept_lines log)
-          → IsTooLong log ⊎ MatchBool (is_history (kept_lines log)) (ChainOverflows o.history (kept_lines log))
-          (TellerOverflows o.events (kept_lines log))
-      moved (inl e) = inl e
-      moved (inr e) =
-          inr (subst (λ (t : Bool). MatchBool t (ChainOverflows o.history (kept_lines log))
-          (TellerOverflows o.events (kept_lines log))) (of_kind (kept_lines log)) e)
+    pub too_much : (log : List ℕ) → IsTooLong log ⊎ Overflows o (kept_lines log) → IsTooMuch log
+    too_much log h = by (is_history (kept_lines log)) (moved h)
+      where
+        moved : IsTooLong log ⊎ Overflows o (kept_lines log)
+            → IsTooLong log ⊎ MatchBool (is_history (kept_lines log)) (ChainOverflows o.history (kept_lines log))
+            (TellerOverflows o.events (kept_lines log))
+        moved (inl e) = inl e
+        moved (inr e) =
+            inr (subst (λ (t : Bool). MatchBool t (ChainOverflows o.history (kept_lines log))
+            (TellerOverflows o.events (kept_lines log))) (of_kind (kept_lines log)) e)
 
-      by : (t : Bool)
-          → IsTooLong log ⊎ MatchBool t (ChainOverflows o.history (kept_lines log))
-          (TellerOverflows o.events (kept_lines log))
-          → MatchBool t (IsChainUntold log) (IsUntold log)
-      by true e = chain_untold o.history n.lines (ap (λ (s : Watching). s.time) n.chain_watch) log e
-      by false e = untold (ap (λ (s : Watching). s.time) n.watch) n.floor_lines log e
+        by : (t : Bool)
+            → IsTooLong log ⊎ MatchBool t (ChainOverflows o.history (kept_lines log))
+            (TellerOverflows o.events (kept_lines log))
+            → MatchBool t (IsChainUntold log) (IsUntold log)
+        by true e = chain_untold o.history n.lines (ap (λ (s : Watching). s.time) n.chain_watch) log e
+        by false e = untold (ap (λ (s : Watching). s.time) n.watch) n.floor_lines log e
 
-  -- the line that did not belong
-  pub stray_left_so : (last : Both) (log : List ℕ) → Left o (kept_lines log) last
-      → (if is_history_from last.kind [] then stray_now last.history else None) ≡ stray_in begun sum log
-  stray_left_so last log (kind, left) =
-      ap (λ (t : Bool). if t then stray_now last.history else None) (kind ∙ of_kind (kept_lines log))
-      ∙ by (is_history (kept_lines log))
-      (subst (λ (t : Bool). MatchBool t (IsChainLeft o.history (kept_lines log) last.history)
-      (TellerLeft o.events (kept_lines log) last.events)) (of_kind (kept_lines log)) left)
-    where
-      by : (t : Bool)
-          → MatchBool t (IsChainLeft o.history (kept_lines log) last.history)
-          (TellerLeft o.events (kept_lines log) last.events)
-          → (if t then stray_now last.history else None) ≡ (if t then chain_stray begun sum log else None)
-      by true h =
-          h.stray
-          ∙ begun_stray begun sum head way o.history n.chain_starts n.chain_report n.chain_watch n.log n.lines n.stray
-          (kept_lines log)
-      by false h = refl
+    -- the line that did not belong
+    pub stray_left_so : (last : Both) (log : List ℕ) → Left o (kept_lines log) last
+        → (if is_history_from last.kind [] then stray_now last.history else None) ≡ stray_in begun sum log
+    stray_left_so last log (kind, left) =
+        ap (λ (t : Bool). if t then stray_now last.history else None) (kind ∙ of_kind (kept_lines log))
+        ∙ by (is_history (kept_lines log))
+        (subst (λ (t : Bool). MatchBool t (IsChainLeft o.history (kept_lines log) last.history)
+        (TellerLeft o.events (kept_lines log) last.events)) (of_kind (kept_lines log)) left)
+      where
+        by : (t : Bool)
+            → MatchBool t (IsChainLeft o.history (kept_lines log) last.history)
+            (TellerLeft o.events (kept_lines log) last.events)
+            → (if t then stray_now last.history else None) ≡ (if t then chain_stray begun sum log else None)
+        by true h =
+            h.stray
+            ∙ begun_stray begun sum head way o.history n.chain_starts n.chain_report n.chain_watch n.log n.lines n.stray
+            (kept_lines log)
+        by false h = refl
 
-  -- what was not played
-  pub unplayed_left_so : (last : Both) (log : List ℕ) → Left o (kept_lines log) last
-      → (if is_history_from last.kind [] then none_unplayed else last.events.unplayed) ≡ unplayed_in begun log
-  unplayed_left_so last log (kind, left) =
-      ap (λ (t : Bool). if t then none_unplayed else last.events.unplayed) (kind ∙ of_kind (kept_lines log))
-      ∙ by (is_history (kept_lines log))
-      (subst (λ (t : Bool). MatchBool t (IsChainLeft o.history (kept_lines log) last.history)
-      (TellerLeft o.events (kept_lines log) last.events)) (of_kind (kept_lines log)) left)
-    where
-      by : (t : Bool)
-          → MatchBool t (IsChainLeft o.history (kept_lines log) last.history)
-          (TellerLeft o.events (kept_lines log) last.events)
-          → (if t then none_unplayed else last.events.unplayed)
-          ≡ (if t then none_unplayed else floor_unplayed begun log)
-      by true h = refl
-      by false h = h.3 ∙ all_unplayed o.events begun n.unplayed n.floor_lines n.watch log
+    -- what was not played
+    pub unplayed_left_so : (last : Both) (log : List ℕ) → Left o (kept_lines log) last
+        → (if is_history_from last.kind [] then none_unplayed else last.events.unplayed) ≡ unplayed_in begun log
+    unplayed_left_so last log (kind, left) =
+        ap (λ (t : Bool). if t then none_unplayed else last.events.unplayed) (kind ∙ of_kind (kept_lines log))
+        ∙ by (is_history (kept_lines log))
+        (subst (λ (t : Bool). MatchBool t (IsChainLeft o.history (kept_lines log) last.history)
+        (TellerLeft o.events (kept_lines log) last.events)) (of_kind (kept_lines log)) left)
+      where
+        by : (t : Bool)
+            → MatchBool t (IsChainLeft o.history (kept_lines log) last.history)
+            (TellerLeft o.events (kept_lines log) last.events)
+            → (if t then none_unplayed else last.events.unplayed)
+            ≡ (if t then none_unplayed else floor_unplayed begun log)
+        by true h = refl
+        by false h = h.3 ∙ all_unplayed o.events begun n.unplayed n.floor_lines n.watch log
 
-  -- its seconds, and its lines
-  pub seconds_left_so : (last : Both) (log : List ℕ) → Left o (kept_lines log) last
-      → (if is_history_from last.kind [] then last.history.watch.time else last.events.watch.time)
-      ≡ log_seconds begun sum log
-  seconds_left_so last log (kind, left) =
-      ap (λ (t : Bool). if t then last.history.watch.time else last.events.watch.time)
-      (kind ∙ of_kind (kept_lines log))
-      ∙ by (is_history (kept_lines log)) refl
-      (subst (λ (t : Bool). MatchBool t (IsChainLeft o.history (kept_lines log) last.history)
-      (TellerLeft o.events (kept_lines log) last.events)) (of_kind (kept_lines log)) left)
-    where
-      by : (t : Bool) → is_history (kept_lines log) ≡ t
-          → MatchBool t (IsChainLeft o.history (kept_lines log) last.history)
-          (TellerLeft o.events (kept_lines log) last.events)
-          → (if t then last.history.watch.time else last.events.watch.time) ≡ log_seconds begun sum log
-      by true is h =
-          h.watch.time
-          ∙ (λ i. (after_log (n.chain_watch i) (entry_steps (n.chain_watch i).device
-          (chain_entries i))).time)
-          ∙ ap (λ es. (after_log (watching_from begun) es).time) (sym (if_yes _ _ is))
-        where
-          chain_entries : entries_of o.history (kept_lines log) ≡ belonging (chain_begun sum) begun (kept_lines log)
-          chain_entries =
-              begun_entries begun sum head way o.history n.chain_starts n.chain_report n.chain_watch n.log n.lines
-              n.stray (kept_lines log)
-      by false is h =
-          ap (λ (s : Watching). s.time) h.2
-          ∙ (λ i. (after_log (n.watch i)
-          (floor_steps (n.watch i).device (map floor_event (texts_of (kept_lines log))))).time)
-          ∙ ap (λ es. (after_log (watching_from begun) es).time) (sym (if_no _ _ is))
+    -- its seconds, and its lines
+    pub seconds_left_so : (last : Both) (log : List ℕ) → Left o (kept_lines log) last
+        → (if is_history_from last.kind [] then last.history.watch.time else last.events.watch.time)
+        ≡ log_seconds begun sum log
+    seconds_left_so last log (kind, left) =
+        ap (λ (t : Bool). if t then last.history.watch.time else last.events.watch.time)
+        (kind ∙ of_kind (kept_lines log))
+        ∙ by (is_history (kept_lines log)) refl
+        (subst (λ (t : Bool). MatchBool t (IsChainLeft o.history (kept_lines log) last.history)
+        (TellerLeft o.events (kept_lines log) last.events)) (of_kind (kept_lines log)) left)
+      where
+        by : (t : Bool) → is_history (kept_lines log) ≡ t
+            → MatchBool t (IsChainLeft o.history (kept_lines log) last.history)
+            (TellerLeft o.events (kept_lines log) last.events)
+            → (if t then last.history.watch.time else last.events.watch.time) ≡ log_seconds begun sum log
+        by true is h =
+            h.watch.time
+            ∙ (λ i. (after_log (n.chain_watch i) (entry_steps (n.chain_watch i).device
+            (chain_entries i))).time)
+            ∙ ap (λ es. (after_log (watching_from begun) es).time) (sym (if_yes _ _ is))
+          where
+            chain_entries : entries_of o.history (kept_lines log) ≡ belonging (chain_begun sum) begun (kept_lines log)
+            chain_entries =
+                begun_entries begun sum head way o.history n.chain_starts n.chain_report n.chain_watch n.log n.lines
+                n.stray (kept_lines log)
+        by false is h =
+            ap (λ (s : Watching). s.time) h.2
+            ∙ (λ i. (after_log (n.watch i)
+            (floor_steps (n.watch i).device (map floor_event (texts_of (kept_lines log))))).time)
+            ∙ ap (λ es. (after_log (watching_from begun) es).time) (sym (if_no _ _ is))
 
-  pub count_left_so : (last : Both) (log : List ℕ) → Left o (kept_lines log) last
-      → (if is_history_from last.kind [] then last.history.lines else last.events.lines) ≡ count_in begun sum log
-  count_left_so last log (kind, left) =
-      ap (λ (t : Bool). if t then last.history.lines else last.events.lines) (kind ∙ of_kind (kept_lines log))
-      ∙ by (is_history (kept_lines log))
-      (subst (λ (t : Bool). MatchBool t (IsChainLeft o.history (kept_lines log) last.history)
-      (TellerLeft o.events (kept_lines log) last.events)) (of_kind (kept_lines log)) left)
-    where
-      by : (t : Bool) → MatchBool t (IsChainLeft o.history (kept_lines log) last.history)
-          (TellerLeft o.events (kept_lines log) last.events)
-          → (if t then last.history.lines else last.events.lines)
-          ≡ (if t then length (belonging (chain_begun sum) begun (kept_lines log)) else length (kept_lines log))
-      by true h =
-          omega (arith, h.lines, n.lines, ap length (begun_entries begun sum head way o.history n.chain_starts
-          n.chain_report n.chain_watch n.log n.lines n.stray (kept_lines log)))
-      by false h = omega (arith, h.4, n.floor_lines)
+    pub count_left_so : (last : Both) (log : List ℕ) → Left o (kept_lines log) last
+        → (if is_history_from last.kind [] then last.history.lines else last.events.lines) ≡ count_in begun sum log
+    count_left_so last log (kind, left) =
+        ap (λ (t : Bool). if t then last.history.lines else last.events.lines) (kind ∙ of_kind (kept_lines log))
+        ∙ by (is_history (kept_lines log))
+        (subst (λ (t : Bool). MatchBool t (IsChainLeft o.history (kept_lines log) last.history)
+        (TellerLeft o.events (kept_lines log) last.events)) (of_kind (kept_lines log)) left)
+      where
+        by : (t : Bool) → MatchBool t (IsChainLeft o.history (kept_lines log) last.history)
+            (TellerLeft o.events (kept_lines log) last.events)
+            → (if t then last.history.lines else last.events.lines)
+            ≡ (if t then length (belonging (chain_begun sum) begun (kept_lines log)) else length (kept_lines log))
+        by true h =
+            omega (
+              arith,
+              h.lines,
+              n.lines,
+              ap length (begun_entries begun sum head way o.history n.chain_starts
+                  n.chain_report n.chain_watch n.log n.lines n.stray (kept_lines log)),
+            )
+        by false h = omega (arith, h.4, n.floor_lines)
 
-  -- where a read fails
-  pub told_so_far : {after : Both} {log left : List ℕ} {old mid now : Option (List ℕ)}
-      → Appends old mid (head) → BreaksOff writes Left o after log left mid now
-      → IsToldSoFar begun sum head way log left old now
-  told_so_far {after} {log} {left} {old} {mid} {now} w b = record {
-    lines_told = b.told;
-    part = b.part;
-    one_line = b.one_line;
-    lines = b.lines;
-    printed = Appends-trans old mid now _ _ w (subst (Appends mid now) text_is b.written);
-  }
-    where
-      at : Left o b.told after
-      at = b.leaves after (itself after)
+    -- where a read fails
+    pub told_so_far : {after : Both} {log left : List ℕ} {old mid now : Option (List ℕ)}
+        → Appends old mid (head) → BreaksOff writes Left o after log left mid now
+        → IsToldSoFar begun sum head way log left old now
+    told_so_far {after} {log} {left} {old} {mid} {now} w b = record {
+      lines_told = b.told;
+      part = b.part;
+      one_line = b.one_line;
+      lines = b.lines;
+      printed = Appends-trans old mid now _ _ w (subst (Appends mid now) text_is b.written);
+    }
+      where
+        at : Left o b.told after
+        at = b.leaves after (itself after)
 
-      all : writes o b.told ≡ b.text ++ writes after []
-      all = broken_text b
+        all : writes o b.told ≡ b.text ++ writes after []
+        all = broken_text b
 
-      by : (t : Bool) → is_history b.told ≡ t
-          → b.text ≡ tellings_text way
-          (told_within (watching_from begun) (steps_in begun sum b.told))
-      by true is =
-          let mine : is_history_from o.kind b.told ≡ true = of_kind b.told ∙ is in
-          let chain : IsChainLeft o.history b.told after.history
-          = subst (λ (t : Bool). MatchBool t (IsChainLeft o.history b.told after.history)
-          (TellerLeft o.events b.told after.events)) mine at.1 in
-          chain_so_far begun sum head way o.history n.chain_starts n.chain_report n.chain_watch n.log n.lines n.stray
-          after.history b.told chain b.text
-          (sym (if_yes (teller_writes o.history b.told) (teller_told o.events b.told) mine)
-          ∙ all ∙ ap (λ (l : List ℕ). b.text ++ l) (if_yes _ _ (at.0 ∙ mine)))
-          ∙ sym (ap (λ es. tellings_text way (told_within (watching_from begun) es)) (if_yes _ _ is))
-      by false is =
-          let mine : is_history_from o.kind b.told ≡ false = of_kind b.told ∙ is in
-          let floor : TellerLeft o.events b.told after.events
-          = subst (λ (t : Bool). MatchBool t (IsChainLeft o.history b.told after.history)
-          (TellerLeft o.events b.told after.events)) mine at.1 in
-          teller_so_far begun head way o.events n.starts n.report n.watch n.floor_lines n.unplayed after.events b.told
-          b.text
-          (sym (if_no (teller_writes o.history b.told) (teller_told o.events b.told) mine)
-          ∙ all ∙ ap (λ (l : List ℕ). b.text ++ l) (if_no _ _ (at.0 ∙ mine))) floor
-          ∙ sym (ap (λ es. tellings_text way (told_within (watching_from begun) es)) (if_no _ _ is))
+        by : (t : Bool) → is_history b.told ≡ t
+            → b.text ≡ tellings_text way
+            (told_within (watching_from begun) (steps_in begun sum b.told))
+        by true is =
+            let mine : is_history_from o.kind b.told ≡ true = of_kind b.told ∙ is in
+            let chain : IsChainLeft o.history b.told after.history
+            = subst (λ (t : Bool). MatchBool t (IsChainLeft o.history b.told after.history)
+            (TellerLeft o.events b.told after.events)) mine at.1 in
+            chain_so_far begun sum head way o.history n.chain_starts n.chain_report n.chain_watch n.log n.lines n.stray
+            after.history b.told chain b.text
+            (sym (if_yes (teller_writes o.history b.told) (teller_told o.events b.told) mine)
+            ∙ all ∙ ap (λ (l : List ℕ). b.text ++ l) (if_yes _ _ (at.0 ∙ mine)))
+            ∙ sym (ap (λ es. tellings_text way (told_within (watching_from begun) es)) (if_yes _ _ is))
+        by false is =
+            let mine : is_history_from o.kind b.told ≡ false = of_kind b.told ∙ is in
+            let floor : TellerLeft o.events b.told after.events
+            = subst (λ (t : Bool). MatchBool t (IsChainLeft o.history b.told after.history)
+            (TellerLeft o.events b.told after.events)) mine at.1 in
+            teller_so_far begun head way o.events n.starts n.report n.watch n.floor_lines n.unplayed after.events b.told
+            b.text
+            (sym (if_no (teller_writes o.history b.told) (teller_told o.events b.told) mine)
+            ∙ all ∙ ap (λ (l : List ℕ). b.text ++ l) (if_no _ _ (at.0 ∙ mine))) floor
+            ∙ sym (ap (λ es. tellings_text way (told_within (watching_from begun) es)) (if_no _ _ is))
 
-      text_is : b.text ≡ tellings_text way
-          (told_within (watching_from begun) (steps_in begun sum b.told))
-      text_is = by (is_history b.told) refl
+        text_is : b.text ≡ tellings_text way
+            (told_within (watching_from begun) (steps_in begun sum b.told))
+        text_is = by (is_history b.told) refl

@@ -64,9 +64,9 @@ pub record EndsSo (d : Device) (sum : ℕ) (log : List ℕ) (e : LogEnding) : Ty
 
 pub record IsToldSoFar (d : Device) (sum : ℕ) (head : List ℕ) (way : Report) (log left : List ℕ)
     (old new : Option (List ℕ)) : Type 0 where
-    pub lines_told : List LogLine
-    pub part : List ℕ
-    pub one_line : All (λ b. b ≢ 10) part
-    pub lines : kept_lines log ≡ lines_told ++ kept_lines (part ++ left)
-    pub printed : Appends old new (head
-        ++ tellings_text way (told_within (watching_from d) (steps_in d sum lines_told)))
+  pub lines_told : List LogLine
+  pub part : List ℕ
+  pub one_line : All (λ b. b ≢ 10) part
+  pub lines : kept_lines log ≡ lines_told ++ kept_lines (part ++ left)
+  pub printed : Appends old new (head
+      ++ tellings_text way (told_within (watching_from d) (steps_in d sum lines_told)))

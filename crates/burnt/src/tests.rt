@@ -33,7 +33,14 @@ fn source(most: usize, until: usize) -> BufferedReader<Pieces> {
 fn a_log_in_odd_pieces(rt: HostRuntime) {
     for most in 1..12 {
         let mut to = TrialSink::new(most, 64);
-        let told = tell_log(sample(), 0, Report::Lines, NAMES, &mut source(most, 1000), &mut to);
+        let told = tell_log(
+            sample(),
+            0,
+            Report::Lines,
+            NAMES,
+            &mut source(most, 1000),
+            &mut to,
+        );
         assert!(rt; told.is_ok());
         assert!(rt; to.text() == TOLD);
     }
@@ -42,7 +49,14 @@ fn a_log_in_odd_pieces(rt: HostRuntime) {
 #[test]
 fn a_read_that_fails_after_a_stretch(rt: HostRuntime) {
     let mut to = TrialSink::new(6, 64);
-    let told = tell_log(sample(), 0, Report::Lines, NAMES, &mut source(5, 42), &mut to);
+    let told = tell_log(
+        sample(),
+        0,
+        Report::Lines,
+        NAMES,
+        &mut source(5, 42),
+        &mut to,
+    );
     assert!(rt; matches!(told, Err(Failure::Read(_))));
     assert!(rt; to.text() == b"lamp 1 from 0 to 2400\n".as_slice());
     // it is handed on before the read that fails
@@ -52,7 +66,14 @@ fn a_read_that_fails_after_a_stretch(rt: HostRuntime) {
 #[test]
 fn a_write_that_fails_in_mid_line(rt: HostRuntime) {
     let mut to = TrialSink::new(2, 15);
-    let told = tell_log(sample(), 0, Report::Lines, NAMES, &mut source(7, 1000), &mut to);
+    let told = tell_log(
+        sample(),
+        0,
+        Report::Lines,
+        NAMES,
+        &mut source(7, 1000),
+        &mut to,
+    );
     assert!(rt; matches!(told, Err(Failure::Write(_))));
     // and nothing is written after it
     to.set_room(64);

@@ -51,7 +51,11 @@ impl CutForm {
 
 /// Ends an output: if the log was not reported to its end, writes that in this form; then flushes the sink. After a
 /// failed write it writes nothing, since more output would hide what is missing, and returns the error of that write.
-pub fn end_output<W: ByteSink>(told: Result<(), Failure>, form: CutForm, to: &mut W) -> io::Result<()>
+pub fn end_output<W: ByteSink>(
+    told: Result<(), Failure>,
+    form: CutForm,
+    to: &mut W,
+) -> io::Result<()>
     ensures text { WritesText (EndFails W.fails_with told) (W.contents to.old) (W.contents to.new) result
         (end_text form told) }
     ensures none_waits { OnOk result (W.waiting to.new ≡ []) }

@@ -65,7 +65,9 @@ fn recorded_lines(rt: HostRuntime) {
     assert!(rt;
         records(
             &mut log,
-            &RecordedCall::Errors(ErrorStatus { digits: [0, 1, 2, 0, 0, 0] }),
+            &RecordedCall::Errors(ErrorStatus {
+                digits: [0, 1, 2, 0, 0, 0]
+            }),
             b"E 012000\n"
         )
     );
@@ -88,7 +90,12 @@ fn unsayable_calls(rt: HostRuntime) {
     assert!(rt; !RecordedCall::Opens(4, 0).is_sayable());
     assert!(rt; !can_receive(&long));
     assert!(rt; can_receive(&long[1..]));
-    assert!(rt; !RecordedCall::Errors(ErrorStatus { digits: [0, 3, 0, 0, 0, 0] }).is_sayable());
+    assert!(rt;
+        !RecordedCall::Errors(ErrorStatus {
+            digits: [0, 3, 0, 0, 0, 0]
+        })
+        .is_sayable()
+    );
     assert!(rt; !RecordedCall::Mark(8, true).is_sayable());
 }
 

@@ -236,7 +236,11 @@ impl System<'_> {
     // A file that was not there, for this user alone. Its name is removed at once: it goes with the process.
     fn create_nameless(&self, name: &str) -> io::Result<File> {
         let mut options = File::options();
-        options.read(true).write(true).create_new(true).mode(PRIVATE);
+        options
+            .read(true)
+            .write(true)
+            .create_new(true)
+            .mode(PRIVATE);
         let file = options.open(self.rt, name)?;
         fs::remove_file(self.rt, name)?;
         Ok(file)

@@ -12,13 +12,12 @@ ghost use Rattle.command.specs.Asked.{asked_seen, text_seen};
 ghost use Rattle.program.specs.declared.status.Status.TheVariants as Status;
 
 use crate::about::About;
-use crate::joined;
 use crate::joined::Opens;
 use crate::outside::{NotKept, Outside, System};
-use crate::said;
 use crate::said::shown;
 use crate::status::Status;
 use crate::telling::{CutCause, CutOff, Ending, Telling};
+use crate::{joined, said};
 use command::asked;
 use command::asked::{Arguments, Shape, Stop};
 use floorlog::cut;

@@ -8,10 +8,8 @@ ghost use Rattle.textio.specs.NextLine.{ShowsPart, ReadsPart, IsNextLine, Failur
 use crate::memory;
 use crate::reader::{BufferedReader, ByteSource};
 use crate::writer::ByteSink;
-use std::error;
-use std::fmt;
-use std::io;
 use std::io::Error;
+use std::{error, fmt, io};
 
 /// A line that was read.
 #[derive(Clone, Copy)]

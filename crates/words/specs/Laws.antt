@@ -87,8 +87,7 @@ status_codec = record {
       let (r, m, same) = bind_some (errors_read s) (λ r. Some (status_of r.0, r.1)) read in
       let (is_e, is_rest) = some_pair_parts (status_of r.0) e r.1 rest same in
       let (t, w, front) = errors_codec.sound s r.0 r.1 m in
-      let digits = ap (λ e. e.digits) is_e in
-      (
+      let digits = ap (λ e. e.digits) is_e in (
         t,
         (subst (λ ds. is_errors ds ≡ true) digits w.0, w.1 ∙ ap errors_text digits),
         front ∙ ap (λ u. t ++ u) is_rest,
