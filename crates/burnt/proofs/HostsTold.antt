@@ -142,7 +142,8 @@ module _ (b : Beginning) (w : Wanted) (h : IsAccepted ours b w) (sum : ℕ) wher
             ∙ (λ i. head
             ++ (tellings_text way (lit_stretches (watching_from d) es)
             ++ ended_until (report_after way (lit_stretches (watching_from d) es))
-            (sym (seconds_are d sum log f all) i) (count i) d.own.lamps (burnt_by end) end.device.own.lamps (0 + length s.es)
+            (sym (seconds_are d sum log f all) i) (count i)
+            d.own.lamps (burnt_by end) end.device.own.lamps (0 + length s.es)
             (option_map stray_text (chain_stray d sum log))));
         stretches = t.stretches;
         start = λ k inside. ours_counts_seconds.lamps_tell_the_history b w [] k h inside;

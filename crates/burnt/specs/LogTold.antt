@@ -11,7 +11,8 @@
 --   IsToldSoFar d sum head way log left ..   the sink got what is told by the lines that have ended in what was
 --                            read of the log, where this is left
 -- Assumes nothing.
-use Rattle.std.specs.Prelude.{ℕ, ◌≡◌, ◌≢◌, List, ◌++◌, All, map, length, if◌then◌else◌, MatchBool, Option, None, option_map}
+use Rattle.std.specs.Prelude.{ℕ, ◌≡◌, ◌≢◌, List, ◌++◌, All, map, length, if◌then◌else◌, MatchBool, Option, None}
+use Rattle.std.specs.Prelude.{option_map}
 use Rattle.std.specs.Io.KnownBytes.{Appends}
 use Rattle.record.specs.declared.types.Device.{Device}
 use Rattle.textio.specs.Lines.{LogLine, texts_of}

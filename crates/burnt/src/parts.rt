@@ -1,5 +1,5 @@
 // A report in its parts: each reads the whole log, from its start (RULES, The programs).
-ghost use Rattle.std.specs.Prelude.{◌≡◌, [], true, false, IsOk, IsErr, OnOk, IfOk, IfErr, IfSome, option_map};
+ghost use Rattle.std.specs.Prelude.{◌≡◌, [], OnOk, IfOk, IfErr, IfSome, is_ok, option_map};
 ghost use Rattle.std.specs.Io.KnownBytes.{Appends};
 ghost use Rattle.textio.specs.Fronts.{WritesFront};
 ghost use Rattle.command.specs.Asked.{asked_seen};
@@ -8,6 +8,7 @@ ghost use Rattle.floorlog.specs.Unplayed.{unplayed_text};
 ghost use Rattle.program.specs.Joined.{joined_bytes, files_asked};
 ghost use Rattle.program.specs.Telling.{CutsOff};
 ghost use Rattle.program.specs.declared.telling.CutCause.TheVariants.{Changed};
+ghost use Rattle.report.specs.Reports.{given_text, texts_given};
 ghost use Rattle.burnt.specs.LogTold.{EndsSo, IsTooMuch};
 ghost use Rattle.burnt.specs.Asked.{query_of};
 ghost use Rattle.burnt.specs.Parts.{part_told, page_told, asked_told, are_alike, stray_said};
@@ -60,8 +61,7 @@ fn are_alike(one: &LogEnding, other: &LogEnding) -> bool
 
 // The ending of a reading, if an earlier one ended alike; else the log changed.
 fn unchanged<'w>(earlier: &LogEnding, ending: LogEnding) -> Result<LogEnding, CutOff<'w>>
-    ensures alike { are_alike earlier.now ending ≡ true → IsOk result }
-    ensures unlike { are_alike earlier.now ending ≡ false → IsErr result }
+    ensures alike { is_ok result ≡ are_alike earlier.now ending }
     ensures same { IfOk result (λ e. e ≡ ending) }
     ensures changed { IfErr result (λ cut. cut.cause ≡ Changed) }
 {
@@ -90,6 +90,17 @@ fn query_of(command: &Arguments<'_>, begun: &Device) -> Query
     }
 }
 
+// The names of the form and of the log's files.
+fn names_of<'c>(command: &'c Arguments<'c>) -> FileNames<'c>
+    ensures form { given_text result.form ≡ (asked_seen command.now).form }
+    ensures logs { texts_given result.logs.now ≡ files_asked (asked_seen command.now) }
+{
+    FileNames {
+        form: command.form,
+        logs: joined::files_of(command),
+    }
+}
+
 // A part of a report, of the log from its start.
 fn tell_part<'w, O: Opens, W: ByteSink>(
     begun: &Begun,
@@ -111,17 +122,12 @@ fn tell_part<'w, O: Opens, W: ByteSink>(
     ensures err { IfErr result (λ cut. CutsOff W.fails_with IsTooMuch
         (joined_bytes (O.log_bytes opens.now) (files_asked (asked_seen command.now))) cut.cause) }
 {
-    let files = joined::files_of(command);
-    let mut log = Joined::new(opens, files);
-    let names = FileNames {
-        form: command.form,
-        logs: files,
-    };
+    let mut log = Joined::new(opens, joined::files_of(command));
     let told = telling::tell_log(
         begun.device,
         begun.sum,
         report,
-        names,
+        names_of(command),
         &mut BufferedReader::new(Stream(&mut log)),
         to,
     );

@@ -2,9 +2,10 @@
 --   failure_line f      "the last line is `! read failed`, in the place of all that is printed at the end. Where the
 --                       count of lines, of a line's bytes or of seconds could pass 64 bits it is `! broken off`"; of a
 --                       failed write it goes to standard error
---   cut_text form f       the same at the end of an output: as that line, or in its place as a row of comma-separated values
+--   cut_text form f     the same at the end of an output: as that line, or in its place as a row of comma-separated
+--                       values
 --   read_failed form    the one of a failed read
---   end_text form told    what is written last: that line or row, and after a failed write nothing more
+--   end_text form told  what is written last: that line or row, and after a failed write nothing more
 --   EndFails fails told e    the errors of what is written last: those of the sink, and after a failed write its own
 --   number_line n       "A FORM that does not load prints one line, `! ` and its number"
 -- Assumes nothing.

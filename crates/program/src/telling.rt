@@ -64,7 +64,8 @@ pub trait Telling {
         to: &mut W,
     ) -> Result<Ending, CutOff<'w>>
         ensures whole { OnOk result (IfSome
-            (joined_bytes (O.log_bytes opens.now) (files_asked (asked_seen command.now))) (λ log. Appends (W.contents to.old) (W.contents to.new)
+            (joined_bytes (O.log_bytes opens.now) (files_asked (asked_seen command.now)))
+            (λ log. Appends (W.contents to.old) (W.contents to.new)
             (told self.now (asked_seen command.now) begun.now log))) }
         ensures ending { IfOk result (λ ending.
             IfSome (joined_bytes (O.log_bytes opens.now) (files_asked (asked_seen command.now)))
