@@ -1,7 +1,7 @@
 //! What a run over pages met, and which mistakes they were given.
 
 use super::drawn::{Bar, Row, Scale};
-use super::mistakes::MISTAKES;
+use super::mistakes::{CLOCKED, MISTAKES};
 use super::{Drawn, Expected};
 use crate::burnt::Sum;
 use crate::burnts::Case;
@@ -50,6 +50,8 @@ pub struct Met {
     bars: usize,
     /// Mistakes that pages were given; each was seen.
     given: usize,
+    /// A page was of a log that began at a known time.
+    has_clock: bool,
 }
 
 impl Met {
@@ -72,6 +74,7 @@ impl Met {
 
     fn count_page(&mut self, drawn: &Drawn) {
         let bands = || drawn.spans.iter().flat_map(|span| &span.lamps);
+        self.has_clock |= drawn.asked.began.is_some();
         self.rows += drawn.rows().len();
         self.bars += bands().map(Vec::len).sum::<usize>();
         let any_bar = |is: &dyn Fn(&Bar) -> bool| bands().flatten().any(is);
@@ -125,6 +128,7 @@ impl Met {
             rows: self.rows + other.rows,
             bars: self.bars + other.bars,
             given: self.given + other.given,
+            has_clock: self.has_clock || other.has_clock,
         }
     }
 
@@ -134,17 +138,19 @@ impl Met {
 
     /// The mistakes that no page could be given.
     pub fn missed(&self) -> Vec<&'static str> {
-        self.tally.missed(mistakes().into_iter())
+        self.tally.missed(self.mistakes().into_iter())
     }
-}
 
-fn mistakes() -> Vec<&'static str> {
-    MISTAKES.iter().map(|(words, _)| *words).collect()
+    /// Those that these pages can be given.
+    fn mistakes(&self) -> Vec<&'static str> {
+        let count = if self.has_clock { MISTAKES.len() } else { MISTAKES.len() - CLOCKED };
+        MISTAKES[..count].iter().map(|(words, _)| *words).collect()
+    }
 }
 
 impl fmt::Display for Met {
     fn fmt(&self, f: &mut fmt::Formatter) -> fmt::Result {
-        self.tally.tell(f, ("pages with", &KINDS), "shown by pages as they were", &mistakes())?;
+        self.tally.tell(f, ("pages with", &KINDS), "shown by pages as they were", &self.mistakes())?;
         let Met { rows, bars, given, .. } = self;
         write!(f, "; {rows} rows and {bars} bars, {given} mistakes made in pages, each seen")
     }

@@ -17,6 +17,9 @@ pub struct Sheet<'a> {
 
 pub type Wrong = fn(&Sheet, &mut Random) -> Option<String>;
 
+/// So many of them, the last, can only be made in a page of a log that began at a known time.
+pub const CLOCKED: usize = 3;
+
 pub const MISTAKES: &[(&str, Wrong)] = &[
     // bars
     ("a bar is left out", |sheet, random| Some(sheet.without(any(sheet.bars(), random)?.0.rect.range.clone()))),
@@ -106,10 +109,6 @@ pub const MISTAKES: &[(&str, Wrong)] = &[
         Some(sheet.with([(width, (cut - drawn.from).to_string()), (range.end..range.end, later)]))
     }),
     ("x of a longer row is counted from midnight", |sheet, random| sheet.at_x(random, |bar| bar.from % 86_400)),
-    ("the first row's bars begin where a whole row's would", |sheet, random| {
-        let lead = |bar: &drawn::Bar| sheet.drawn.spans[bar.span].band().0;
-        sheet.at_x(random, |bar| bar.from - lead(bar))
-    }),
     ("a picture is an hour wide", |sheet, random| {
         let picture = any(sheet.page.pictures().collect(), random)?;
         Some(sheet.with([(picture.seen[2].range(), "3600".to_string())]))
@@ -124,10 +123,6 @@ pub const MISTAKES: &[(&str, Wrong)] = &[
         Some(sheet.with([(any(months.collect(), random)?.seen[2].range(), "2592000".to_string())]))
     }),
     // "its band begins there; the place before it is empty"
-    ("the first row's band begins at its picture's edge", |sheet, random| {
-        let bands = sheet.bands().into_iter().filter(|band| band.lane.x.text != "0");
-        Some(sheet.with([(any(bands.collect(), random)?.lane.x.range(), "0".to_string())]))
-    }),
     ("a band is as wide as its picture", |sheet, random| {
         let wide = sheet.drawn.scale.wide().to_string();
         let bands = sheet.bands().into_iter().filter(|band| band.lane.width.text != wide);
@@ -427,12 +422,6 @@ pub const MISTAKES: &[(&str, Wrong)] = &[
             other => *other,
         })
     }),
-    ("the first row is as long as each", |sheet, random| {
-        sheet.in_name(random, |row| match row {
-            Row::Days(first, last) => Row::Days(*first, last + sheet.drawn.span(*first).lead),
-            other => *other,
-        })
-    }),
     ("a row has a day of the next one", |sheet, random| {
         sheet.in_name(random, |row| match row {
             Row::Days(first, last) => Row::Days(*first, last + 1),
@@ -686,6 +675,21 @@ pub const MISTAKES: &[(&str, Wrong)] = &[
             let Range { start, end } = bar.stretch.from..bar.stretch.to;
             let seconds = end - start;
             format!("lamp {} from {} to {}: {seconds} seconds", bar.lamp, start as u32, end as u32)
+        })
+    }),
+    // "The first row begins with the log's first day": only with `--began` can it be shorter than its scale
+    ("the first row's bars begin where a whole row's would", |sheet, random| {
+        let lead = |bar: &drawn::Bar| sheet.drawn.spans[bar.span].band().0;
+        sheet.at_x(random, |bar| bar.from - lead(bar))
+    }),
+    ("the first row's band begins at its picture's edge", |sheet, random| {
+        let bands = sheet.bands().into_iter().filter(|band| band.lane.x.text != "0");
+        Some(sheet.with([(any(bands.collect(), random)?.lane.x.range(), "0".to_string())]))
+    }),
+    ("the first row is as long as each", |sheet, random| {
+        sheet.in_name(random, |row| match row {
+            Row::Days(first, last) => Row::Days(*first, last + sheet.drawn.span(*first).lead),
+            other => *other,
         })
     }),
 ];

@@ -54,8 +54,7 @@ fn note(told: &Told) -> String {
 
 /// What was not played, a line's end as a space, or why a line does not belong to its history.
 fn unplayed(told: &Told) -> Option<String> {
-    let stray = told.stray.as_ref().map(|words| words.trim_start_matches("! ").to_string());
-    stray.or((!told.unplayed.is_empty()).then(|| told.unplayed.trim_end().replace('\n', " ")))
+    told.stray.clone().or((!told.unplayed.is_empty()).then(|| told.unplayed.trim_end().replace('\n', " ")))
 }
 
 type Wrong = fn(&Told, Asked) -> String;
@@ -74,8 +73,8 @@ const MISTAKES: &[(&str, Wrong)] = &[
         Some(words) => values(told, asked).replace(&note(told), &words),
         None => values(told, asked),
     }),
-    ("these words begin with a sign", |told, asked| match &told.stray {
-        Some(words) => values(told, asked).replace(&note(told), &format!("\"{words}\"")),
+    ("these words have no sign before them", |told, asked| match &told.stray {
+        Some(words) => values(told, asked).replace(&note(told), &format!("\"{}\"", words.trim_start_matches("! "))),
         None => values(told, asked),
     }),
     ("of what was not played only the first line is said", |told, asked| match told.unplayed.split_once('\n') {
@@ -251,11 +250,11 @@ mod tests {
         assert_eq!(of("O 00000000\nR %1POWR 1\nT 60\nR %1POWR 0\nT 10\n", Asked::default()), HEADS.to_string() + burnt);
         let bad = ",,5,,,,\"lines not understood: 1; line 2 is empty\"\r\n";
         assert_eq!(of("T 5\n\n", Asked::default()), HEADS.to_string() + bad);
-        let stray = ",,0,,,,\"line 1: no line end\"\r\n";
+        let stray = ",,0,,,,\"! line 1: no line end\"\r\n";
         assert_eq!(of("LOG 1", Asked::default()), HEADS.to_string() + stray);
         let mut quoted = told(None, b"").unwrap();
         quoted.stray = Some("! line 1: \"a\"".to_string());
-        assert_eq!(values(&quoted, clock), HEADS.to_string() + ",,0,,,2026-12-31 23:00:00,\"line 1: \"\"a\"\"\"\r\n");
+        assert_eq!(values(&quoted, clock), HEADS.to_string() + ",,0,,,2026-12-31 23:00:00,\"! line 1: \"\"a\"\"\"\r\n");
     }
 
     #[test]
