@@ -6,7 +6,6 @@
 --   belonging r d ls      what the lines ls say, up to the first that does not belong
 --   FirstStray            the number of a line that does not belong, and why;    stray_seen s   of the code's
 --   stray_from n r d ls   the first of ls that does not, where n lines came before them
---   reason_words w        the words for the reason w; of a refused call those before the number
 --   misfit_words w        what is said of the reason w
 --   stray_text s          what is said of a line that does not belong, without LF
 -- Assumes nothing.
@@ -60,23 +59,15 @@ stray_from n r d (l ∷ ls) =
 
 -- ---- what is said of it
 
-abbrev pub reason_words : Misfit → List ℕ
-reason_words unended = codes "no line end"
-reason_words says_nothing = codes "no such line"
-reason_words other_file = codes "not the next file"
-reason_words other_sum = codes "another sum"
-reason_words other_count = codes "another count of lines"
-reason_words other_state = codes "the record shows something else"
-reason_words other_place = codes "another place was opened"
-reason_words (refused_with n) = codes "refused with "
-
--- of a refused call its number, in digits
-abbrev pub reason_digits : Misfit → List ℕ
-reason_digits (refused_with n) = digits n
-reason_digits w = []
-
 abbrev pub misfit_words : Misfit → List ℕ
-misfit_words w = reason_words w ++ reason_digits w
+misfit_words unended = codes "no line end"
+misfit_words says_nothing = codes "no such line"
+misfit_words other_file = codes "not the next file"
+misfit_words other_sum = codes "another sum"
+misfit_words other_count = codes "another count of lines"
+misfit_words other_state = codes "the record shows something else"
+misfit_words other_place = codes "another place was opened"
+misfit_words (refused_with n) = codes "refused with " ++ digits n
 
 unfoldable pub stray_text : FirstStray → List ℕ
 stray_text s = codes "! line " ++ long_digits s.line ++ codes ": " ++ misfit_words s.why

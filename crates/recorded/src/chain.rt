@@ -9,10 +9,9 @@ ghost use Rattle.history.specs.Shown.{device_shown};
 ghost use Rattle.recorded.specs.Chain.{why_seen, misfit_header, misfit_line, misfit_stated, misfit};
 ghost use Rattle.recorded.specs.Chain.{entry_told, entry_read, made_told, made_seen, device_made, reply_made};
 ghost use Rattle.recorded.specs.Chain.{log_made, call_made, other_state};
-ghost use Rattle.recorded.specs.Following.{reason_words};
 ghost use Rattle.recorded.specs.Played.{play_told};
 
-use crate::play::{self, Stray};
+use crate::play::{self, OTHER_PLACE, Stray};
 use arrayvec::ArrayVec;
 use device::calls::REPLY_ROOM;
 use history::entry::{Entry, Header, SHOWN_MOST, Stated};
@@ -46,29 +45,30 @@ pub enum Why {
     Refused(Refusal),
 }
 
-impl Why {
-    /// Returns the words for it; of a refused call those before the number.
-    pub fn words(&self) -> &'static str
-        ensures { result.now ≡ reason_words (why_seen self.now) }
-    {
-        match self {
-            Why::Unended => "no line end",
-            Why::SaysNothing => "no such line",
-            Why::OtherFile => "not the next file",
-            Why::OtherSum => "another sum",
-            Why::OtherCount => "another count of lines",
-            Why::OtherState => "the record shows something else",
-            Why::OtherPlace => play::OTHER_PLACE,
-            Why::Refused(_) => "refused with ",
-        }
-    }
-}
+// The words for each reason but a refused call.
+pub(crate) const UNENDED: &str = "no line end";
+
+pub(crate) const SAYS_NOTHING: &str = "no such line";
+
+pub(crate) const OTHER_FILE: &str = "not the next file";
+
+pub(crate) const OTHER_SUM: &str = "another sum";
+
+pub(crate) const OTHER_COUNT: &str = "another count of lines";
+
+pub(crate) const OTHER_STATE: &str = "the record shows something else";
 
 impl fmt::Display for Why {
     fn fmt<W: fmt::Write>(&self, f: &mut fmt::Formatter<W>) -> fmt::Result {
         match self {
+            Why::Unended => f.write_str(UNENDED),
+            Why::SaysNothing => f.write_str(SAYS_NOTHING),
+            Why::OtherFile => f.write_str(OTHER_FILE),
+            Why::OtherSum => f.write_str(OTHER_SUM),
+            Why::OtherCount => f.write_str(OTHER_COUNT),
+            Why::OtherState => f.write_str(OTHER_STATE),
+            Why::OtherPlace => f.write_str(OTHER_PLACE),
             Why::Refused(refusal) => write!(f, "{refusal}"),
-            _ => f.write_str(self.words()),
         }
     }
 }

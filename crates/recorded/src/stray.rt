@@ -1,10 +1,11 @@
 // A line that does not belong to the history of a record, and what is said of it.
 ghost use Rattle.std.specs.Prelude.{◌≡◌, ◌+◌, ◌≤◌, ◌++◌, length, []};
 ghost use Rattle.arrayvec.specs.ArrayVec.{array_vec_len};
-ghost use Rattle.recorded.specs.Chain.{why_seen};
+ghost use Rattle.recorded.specs.Chain.{why_seen, refused_with};
 ghost use Rattle.recorded.specs.Following.{stray_seen, misfit_words, stray_text};
 
-use crate::chain::Why;
+use crate::chain::{self, Why};
+use crate::play;
 use arrayvec::ArrayVec;
 use text::numbered::Numbered;
 
@@ -31,13 +32,28 @@ fn put_text(text: &[u8], out: &mut StrayText)
     out.try_extend_from_slice(text).unwrap();
 }
 
+#[tactic(auto, using(crate::proofs::Followed::stray_lengths))]
+fn put_refusal(number: u32, out: &mut StrayText)
+    requires { array_vec_len out.old ≤ 29 }
+    ensures { out.new.items ≡ out.old.items ++ misfit_words (refused_with number) }
+{
+    put_text(b"refused with ", out);
+    numbers::put_number(number, out);
+}
+
 fn put_words(why: &Why, out: &mut StrayText)
     requires { array_vec_len out.old ≤ 29 }
     ensures { out.new.items ≡ out.old.items ++ misfit_words (why_seen why.now) }
 {
-    put_text(why.words().as_bytes(), out);
-    if let Why::Refused(refusal) = why {
-        numbers::put_number(refusal.number(), out);
+    match why {
+        Why::Unended => put_text(chain::UNENDED.as_bytes(), out),
+        Why::SaysNothing => put_text(chain::SAYS_NOTHING.as_bytes(), out),
+        Why::OtherFile => put_text(chain::OTHER_FILE.as_bytes(), out),
+        Why::OtherSum => put_text(chain::OTHER_SUM.as_bytes(), out),
+        Why::OtherCount => put_text(chain::OTHER_COUNT.as_bytes(), out),
+        Why::OtherState => put_text(chain::OTHER_STATE.as_bytes(), out),
+        Why::OtherPlace => put_text(play::OTHER_PLACE.as_bytes(), out),
+        Why::Refused(refusal) => put_refusal(refusal.number(), out),
     }
 }
 
