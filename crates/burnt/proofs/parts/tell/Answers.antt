@@ -1,4 +1,4 @@
-use Rattle.std.proofs.Common.{◌≡◌, subst, sym, IfSome}
+use Rattle.std.proofs.Common.{subst, sym, IfSome}
 use Rattle.textio.specs.Fronts.{WritesFront}
 use Rattle.command.specs.Asked.{asked_seen}
 use Rattle.command.specs.declared.asked.Shape.{Shape}

@@ -1,4 +1,4 @@
-use Rattle.std.proofs.Common.{◌≡◌, subst, IfSome}
+use Rattle.std.proofs.Common.{subst, IfSome}
 use Rattle.std.specs.Io.KnownBytes.{Appends}
 use Rattle.textio.specs.Fronts.{WritesFront}
 use Rattle.command.specs.Asked.{asked_seen}
