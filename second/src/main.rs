@@ -229,25 +229,22 @@ fn values(log: &str, form: Option<&[u8]>, asked: pages::Asked, is_cut: bool) -> 
 
 fn tables(seed: u64, count: usize, words: &[&str]) -> ExitCode {
     println!("seed {seed}");
-    match pages::compare_values(&program(words), seed, count, asked(words)) {
-        Ok(met) => {
-            println!("{met}, seed {seed}");
-            verdict(met.missed().is_empty())
-        }
-        Err(difference) => {
-            let number = difference.number;
-            println!("{difference}`second pages log {seed} {number}` prints it whole, `.. form ..` its form");
-            ExitCode::FAILURE
-        }
-    }
+    let compared = pages::compare_values(&program(words), seed, count, asked(words));
+    compared_pages(seed, compared.map(|met| (met.to_string(), met.missed().is_empty())))
 }
 
 fn pages(seed: u64, count: usize, words: &[&str]) -> ExitCode {
     println!("seed {seed}");
-    match pages::compare(&program(words), seed, count, asked(words)) {
-        Ok(met) => {
+    let compared = pages::compare(&program(words), seed, count, asked(words));
+    compared_pages(seed, compared.map(|met| (met.to_string(), met.missed().is_empty())))
+}
+
+/// What was met, and whether each mistake was found; or the first page or table that differs.
+fn compared_pages(seed: u64, compared: Result<(String, bool), Box<pages::Difference>>) -> ExitCode {
+    match compared {
+        Ok((met, all_found)) => {
             println!("{met}, seed {seed}");
-            verdict(met.missed().is_empty())
+            verdict(all_found)
         }
         Err(difference) => {
             let number = difference.number;
